@@ -5,3 +5,5 @@ pub mod Guard
 pub mod Below
 pub mod Limit
 pub mod Store
+pub mod Chains
+pub mod Walks
