@@ -1,0 +1,70 @@
+//! The calls where conflict.rs could not be had: they are there, so that callers build, and must
+//! not be called. Ask [`AVAILABLE`](crate::AVAILABLE) first.
+
+use std::marker::PhantomData;
+
+use crate::{Answer, Node, Refusal, Rules};
+
+fn absent() -> ! {
+    panic!("conflict.rs could not be had at build time: ask oracle::AVAILABLE before a call")
+}
+
+pub struct Problem<'a>(PhantomData<&'a [u8]>);
+
+pub struct Model<'p, 'a>(PhantomData<&'p Problem<'a>>);
+
+impl<'a> Problem<'a> {
+    pub fn read(_: &'a [u8]) -> Result<Problem<'a>, Refusal> {
+        absent()
+    }
+
+    pub fn model(&self) -> Result<Model<'_, 'a>, Refusal> {
+        absent()
+    }
+}
+
+impl Model<'_, '_> {
+    pub fn explain(&self, _: bool, _: &mut [u8]) -> Answer {
+        absent()
+    }
+
+    pub fn graphviz(&self, _: bool, _: &mut [u8]) -> Answer {
+        absent()
+    }
+
+    pub fn rules(&self, _: bool, _: &mut [u8], _: u64) -> Rules {
+        absent()
+    }
+
+    pub fn nodes(&self) -> Vec<Node> {
+        absent()
+    }
+
+    pub fn edge_count(&self) -> usize {
+        absent()
+    }
+
+    pub fn depth_bound(&self) -> u64 {
+        absent()
+    }
+}
+
+pub fn explain(_: &[u8], _: u64, _: &mut [u8]) -> Answer {
+    absent()
+}
+
+pub fn graphviz(_: &[u8], _: u64, _: &mut [u8]) -> Answer {
+    absent()
+}
+
+pub fn check(_: &[u8]) -> Answer {
+    absent()
+}
+
+pub fn nodes(_: &[u8], _: &mut [Node]) -> Answer {
+    absent()
+}
+
+pub fn rules(_: &[u8], _: bool, _: &mut [u8], _: u64) -> Result<Rules, Refusal> {
+    absent()
+}

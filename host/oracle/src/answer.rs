@@ -1,0 +1,50 @@
+//! What every call answers.
+
+/// "An answer holds number, place, bytes, units, depth."
+#[repr(C)]
+#[derive(Clone, Copy, Debug, Default, PartialEq, Eq)]
+pub struct Answer {
+    pub number: u64,
+    pub place: u64,
+    pub bytes: u64,
+    pub units: u64,
+    pub depth: u64,
+}
+
+/// A refusal of 1 to 9 or 12: "the last three are 0" in its answer.
+#[derive(Clone, Copy, Debug, PartialEq, Eq)]
+pub struct Refusal {
+    pub number: u64,
+    pub place: u64,
+}
+
+impl From<Refusal> for Answer {
+    fn from(refusal: Refusal) -> Answer {
+        Answer {
+            number: refusal.number,
+            place: refusal.place,
+            ..Answer::default()
+        }
+    }
+}
+
+/// One entry of the node list. Kinds in the order of `ConflictNode`: 0 root, 1 solvable,
+/// 2 unresolved, 3 excluded; `group` is the node number of the group's first member.
+#[repr(C)]
+#[derive(Clone, Copy, Debug, Default, PartialEq, Eq)]
+pub struct Node {
+    pub kind: u16,
+    pub number: u16,
+    pub group: u16,
+    pub installable: u8,
+    pub missing: u8,
+}
+
+/// How the rules of `fmt_graph` went without refusal 11.
+#[derive(Clone, Copy, Debug, PartialEq, Eq)]
+pub struct Rules {
+    /// Whether the text came to its end within the budget.
+    pub ended: bool,
+    pub bytes: u64,
+    pub lines: u64,
+}

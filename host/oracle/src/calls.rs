@@ -1,0 +1,137 @@
+//! The calls of document 01 on the oracle.
+
+use crate::conflict::view::View;
+use crate::provider::{solver_of, FileSolver};
+use crate::reader;
+use crate::rooms::Room;
+use crate::standins::internal::id::ClauseId;
+use crate::{Answer, Node, Refusal, Rules};
+
+/// A file that refusals 1 to 6 let through.
+pub struct Problem<'a> {
+    solver: FileSolver<'a>,
+    core: Vec<ClauseId>,
+}
+
+/// A file that refusals 1 to 9 let through, as its labelled graph.
+pub struct Model<'p, 'a> {
+    view: View<'p, 'a>,
+}
+
+impl<'a> Problem<'a> {
+    pub fn read(file: &'a [u8]) -> Result<Problem<'a>, Refusal> {
+        let (solver, core) = solver_of(reader::read(file)?);
+        Ok(Problem { solver, core })
+    }
+
+    pub fn model(&self) -> Result<Model<'_, 'a>, Refusal> {
+        let view = View::build(&self.solver, &self.core)?;
+        Ok(Model { view })
+    }
+}
+
+impl Model<'_, '_> {
+    pub fn explain(&self, indent: bool, room: &mut [u8]) -> Answer {
+        let room = Room::new(room, u64::MAX);
+        self.view.explain(indent, true, room).answer
+    }
+
+    pub fn graphviz(&self, simplify: bool, room: &mut [u8]) -> Answer {
+        self.view.graphviz(simplify, Room::new(room, u64::MAX))
+    }
+
+    /// The rules alone, without refusal 11, for at most `lines` lines.
+    pub fn rules(&self, indent: bool, room: &mut [u8], lines: u64) -> Rules {
+        let told = self.view.explain(indent, false, Room::new(room, lines));
+        Rules {
+            ended: told.ended,
+            bytes: told.answer.bytes,
+            lines: told.answer.units,
+        }
+    }
+
+    pub fn nodes(&self) -> Vec<Node> {
+        self.view.nodes()
+    }
+
+    pub fn edge_count(&self) -> usize {
+        self.view.edge_count()
+    }
+
+    /// "the bound of demand 3": g + (g + 1) × u, for g groups and u unmerged solvables.
+    pub fn depth_bound(&self) -> u64 {
+        let nodes = self.nodes();
+        let solvables = || (0u16..).zip(&nodes).filter(|(_, node)| node.kind == 1);
+        let has_company = |at: u16| {
+            let group = nodes[usize::from(at)].group;
+            nodes.iter().filter(|node| node.group == group).count() > 1
+        };
+        let groups = solvables()
+            .filter(|&(at, node)| has_company(at) && node.group == at)
+            .count() as u64;
+        let unmerged = solvables().filter(|&(at, _)| !has_company(at)).count() as u64;
+        groups + (groups + 1) * unmerged
+    }
+}
+
+fn flag(option: u64) -> Result<bool, Refusal> {
+    match option {
+        0 => Ok(false),
+        1 => Ok(true),
+        _ => Err(Refusal {
+            number: 12,
+            place: 0,
+        }),
+    }
+}
+
+fn answered(run: impl FnOnce() -> Result<Answer, Refusal>) -> Answer {
+    run().unwrap_or_else(Answer::from)
+}
+
+/// The explanation. The answer's bytes of `room` are written, the others stay.
+pub fn explain(file: &[u8], option: u64, room: &mut [u8]) -> Answer {
+    answered(|| {
+        let indent = flag(option)?;
+        Ok(Problem::read(file)?.model()?.explain(indent, room))
+    })
+}
+
+/// The graph text.
+pub fn graphviz(file: &[u8], option: u64, room: &mut [u8]) -> Answer {
+    answered(|| {
+        let simplify = flag(option)?;
+        Ok(Problem::read(file)?.model()?.graphviz(simplify, room))
+    })
+}
+
+/// Refusals 1 to 9, and no text.
+pub fn check(file: &[u8]) -> Answer {
+    answered(|| {
+        Problem::read(file)?.model()?;
+        Ok(Answer::default())
+    })
+}
+
+/// The node list, one unit: whole, or 10 with nothing changed.
+pub fn nodes(file: &[u8], list: &mut [Node]) -> Answer {
+    answered(|| {
+        let nodes = Problem::read(file)?.model()?.nodes();
+        let Some(part) = list.get_mut(..nodes.len()) else {
+            return Ok(Answer {
+                number: 10,
+                ..Answer::default()
+            });
+        };
+        part.copy_from_slice(&nodes);
+        Ok(Answer {
+            units: 1,
+            ..Answer::default()
+        })
+    })
+}
+
+/// The rules of `fmt_graph` without refusal 11, for at most `lines` lines of `room`.
+pub fn rules(file: &[u8], indent: bool, room: &mut [u8], lines: u64) -> Result<Rules, Refusal> {
+    Ok(Problem::read(file)?.model()?.rules(indent, room, lines))
+}

@@ -1,0 +1,151 @@
+//! What the oracle asks of conflict.rs.
+
+use std::fmt::{self, Write as _};
+
+use petgraph::graph::NodeIndex;
+
+use super::{Conflict, ConflictNode, DisplayUnsat};
+use crate::limits;
+use crate::provider::{FileSolver, Provider};
+use crate::rooms::{Lines, Pieces, Room};
+use crate::standins::internal::id::ClauseId;
+use crate::standins::Interner;
+use crate::watch::Package;
+use crate::{Answer, Node, Refusal};
+
+/// The graph of a file with its groups and labels.
+pub struct View<'p, 'a> {
+    unsat: DisplayUnsat<'p, Provider<'a>>,
+}
+
+/// A text cut short, or whole; and whether `fmt_graph` came to its end by itself.
+pub struct Told {
+    pub answer: Answer,
+    pub ended: bool,
+}
+
+impl<'p, 'a> View<'p, 'a> {
+    /// Refusals 7 to 9, or the graph.
+    pub fn build(solver: &'p FileSolver<'a>, core: &[ClauseId]) -> Result<Self, Refusal> {
+        let mut conflict = Conflict::default();
+        for &clause in core {
+            conflict.add_clause(clause);
+        }
+        let graph = limits::caught(&solver.state.limits, || conflict.graph(solver))?;
+        Ok(View {
+            unsat: DisplayUnsat::new(graph, solver.provider()),
+        })
+    }
+
+    /// `fmt_graph` on all outgoing edges of the root. With `refuses` off only the room and the
+    /// budget of lines end a text that never ends.
+    pub fn explain(&self, indent: bool, refuses: bool, room: Room<'_>) -> Told {
+        let watch = self.unsat.interner.watch();
+        watch.start(self.packages(), refuses);
+        let mut lines = Lines::new(room);
+        let ended = write!(lines, "{}", Top { view: self, indent }).is_ok();
+        let (units, bytes) = (lines.room.units_written(), lines.room.bytes_written());
+        let (number, place) = match watch.repeated() {
+            Some(solvable) => (11, u64::from(solvable)),
+            None if lines.room.full => (10, units),
+            None => (0, 0),
+        };
+        let depth = watch.depth();
+        Told {
+            answer: Answer {
+                number,
+                place,
+                bytes,
+                units,
+                depth,
+            },
+            ended,
+        }
+    }
+
+    pub fn graphviz(&self, simplify: bool, room: Room<'_>) -> Answer {
+        let mut pieces = Pieces { room };
+        let unsat = &self.unsat;
+        let whole = unsat.graph.graphviz(&mut pieces, unsat.interner, simplify);
+        let units = pieces.room.units_written();
+        let (number, place) = match whole {
+            Ok(()) => (0, 0),
+            Err(_) => (10, units),
+        };
+        Answer {
+            number,
+            place,
+            bytes: pieces.room.bytes_written(),
+            units,
+            depth: 0,
+        }
+    }
+
+    pub fn nodes(&self) -> Vec<Node> {
+        let graph = &self.unsat.graph.graph;
+        graph.node_indices().map(|node| self.node(node)).collect()
+    }
+
+    pub fn edge_count(&self) -> usize {
+        self.unsat.graph.graph.edge_count()
+    }
+
+    fn node(&self, node: NodeIndex) -> Node {
+        let unsat = &self.unsat;
+        let (kind, number) = match unsat.graph.graph[node] {
+            ConflictNode::Root => (0, 0),
+            ConflictNode::Solvable(solvable) => (1, solvable.0),
+            ConflictNode::UnresolvedDependency => (2, 0),
+            ConflictNode::Excluded(reason) => (3, reason.0),
+        };
+        Node {
+            kind,
+            number,
+            group: self.first_of_group(node).index() as u16,
+            installable: unsat.installable_set.contains(&node).into(),
+            missing: unsat.missing_set.contains(&node).into(),
+        }
+    }
+
+    fn first_of_group(&self, node: NodeIndex) -> NodeIndex {
+        let graph = &self.unsat.graph.graph;
+        let group = graph[node]
+            .solvable()
+            .and_then(|solvable| self.unsat.merged_candidates.get(&solvable));
+        let Some(group) = group else {
+            return node;
+        };
+        let first = ConflictNode::Solvable(group.ids[0]);
+        graph
+            .node_indices()
+            .find(|&other| graph[other] == first)
+            .expect("members of a group are nodes")
+    }
+
+    fn packages(&self) -> Vec<Package> {
+        let merged = &self.unsat.merged_candidates;
+        let package = |node: &ConflictNode| match node.solvable() {
+            Some(solvable) => Package {
+                number: solvable.0,
+                merged: merged.contains_key(&solvable),
+            },
+            None => Package::default(),
+        };
+        self.unsat.graph.graph.node_weights().map(package).collect()
+    }
+}
+
+/// `fmt_graph` wants a `Formatter`, which only a `Display` is handed.
+struct Top<'v, 'p, 'a> {
+    view: &'v View<'p, 'a>,
+    indent: bool,
+}
+
+impl fmt::Display for Top<'_, '_, '_> {
+    fn fmt(&self, f: &mut fmt::Formatter<'_>) -> fmt::Result {
+        let unsat = &self.view.unsat;
+        let root = unsat.graph.root_node;
+        let edges: Vec<_> = unsat.graph.graph.edges(root).collect();
+        unsat.fmt_graph(f, &edges, self.indent)
+    }
+}

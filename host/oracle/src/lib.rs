@@ -1,0 +1,41 @@
+//! The test oracle: conflict.rs as it is, over real petgraph and itertools, behind the calls that
+//! document 01 describes. Small stand-ins take the place of the solver's types.
+//!
+//! [`explain`], [`graphviz`], [`check`] and [`nodes`] take any bytes. [`Problem`] and its
+//! [`Model`] are the same in steps, for many calls on one file. Where conflict.rs could not be
+//! had at build time, [`AVAILABLE`] is false and these must not be called; the reader, the
+//! generator and the samples are there all the same.
+
+mod answer;
+pub mod cases;
+pub mod draft;
+pub mod generate;
+pub mod reader;
+pub mod rng;
+pub mod samples;
+pub mod survey;
+
+#[cfg(has_conflict_rs)]
+mod calls;
+#[cfg(has_conflict_rs)]
+mod conflict;
+#[cfg(has_conflict_rs)]
+mod limits;
+#[cfg(has_conflict_rs)]
+mod provider;
+#[cfg(has_conflict_rs)]
+mod rooms;
+#[cfg(has_conflict_rs)]
+mod standins;
+#[cfg(has_conflict_rs)]
+mod watch;
+
+#[cfg(not(has_conflict_rs))]
+#[path = "absent.rs"]
+mod calls;
+
+pub use answer::{Answer, Node, Refusal, Rules};
+pub use calls::{check, explain, graphviz, nodes, rules, Model, Problem};
+
+/// Whether conflict.rs was there when this crate was built.
+pub const AVAILABLE: bool = cfg!(has_conflict_rs);

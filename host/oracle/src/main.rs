@@ -1,0 +1,189 @@
+//! A person's way to the oracle: see `USAGE`.
+
+use std::io::Write as _;
+use std::process::ExitCode;
+
+const USAGE: &str = "\
+usage: oracle cases                        P1 to P11 of document 01 on the real code
+       oracle gen SHAPE SEED OUT           one generated file
+       oracle shapes                       the names of the shapes
+       oracle explain FILE [OPTION] [ROOM] the explanation
+       oracle graph FILE [OPTION] [ROOM]   the graph text
+       oracle nodes FILE                   the node list
+       oracle check FILE                   refusals 1 to 9
+       oracle survey N SEED                N generated files, the distribution of answers
+       oracle samples DIR                  the sample files
+FILE may be -. Status: 0 done, 2 a refusal, 1 trouble, 64 wrong usage, 77 without conflict.rs.";
+
+/// The status by which test scripts know a step to skip.
+const SKIPPED: u8 = 77;
+
+fn main() -> ExitCode {
+    let args: Vec<String> = std::env::args().skip(1).collect();
+    let args: Vec<&str> = args.iter().map(String::as_str).collect();
+    let result = match args[..] {
+        ["gen", shape, seed, out] => write_shape(shape, seed, out),
+        ["shapes"] => {
+            oracle::generate::shapes().for_each(|name| println!("{name}"));
+            Ok(0)
+        }
+        ["samples", dir] => write_samples(dir),
+        _ => run(&args),
+    };
+    match result {
+        Ok(status) => ExitCode::from(status),
+        Err(trouble) => {
+            eprintln!("oracle: {trouble}");
+            ExitCode::from(1)
+        }
+    }
+}
+
+fn write_shape(shape: &str, seed: &str, out: &str) -> Result<u8, String> {
+    let seed = number(seed)?;
+    let file = oracle::generate::file(shape, seed)
+        .ok_or_else(|| format!("no shape {shape}; `oracle shapes` lists them"))?;
+    put(out, &file)
+}
+
+fn write_samples(dir: &str) -> Result<u8, String> {
+    std::fs::create_dir_all(dir).map_err(|e| format!("{dir}: {e}"))?;
+    for (name, file) in oracle::samples::all() {
+        put(&format!("{dir}/{name}"), &file)?;
+    }
+    Ok(0)
+}
+
+fn put(path: &str, bytes: &[u8]) -> Result<u8, String> {
+    let done = match path {
+        "-" => std::io::stdout().write_all(bytes),
+        _ => std::fs::write(path, bytes),
+    };
+    done.map(|()| 0).map_err(|e| format!("{path}: {e}"))
+}
+
+fn number(text: &str) -> Result<u64, String> {
+    text.parse().map_err(|_| format!("{text} is no number"))
+}
+
+fn usage() -> Result<u8, String> {
+    eprintln!("{USAGE}");
+    Ok(64)
+}
+
+/// What needs conflict.rs.
+fn run(args: &[&str]) -> Result<u8, String> {
+    match *args {
+        ["cases" | "explain" | "graph" | "nodes" | "check" | "survey", ..]
+            if !oracle::AVAILABLE =>
+        {
+            let step = args[0];
+            println!("skipped: oracle {step}: conflict.rs could not be had at build time");
+            Ok(SKIPPED)
+        }
+        ["cases"] => with_conflict::cases(),
+        ["explain", file, ref rest @ ..] => with_conflict::text(oracle::explain, file, rest),
+        ["graph", file, ref rest @ ..] => with_conflict::text(oracle::graphviz, file, rest),
+        ["nodes", file] => with_conflict::nodes(file),
+        ["check", file] => with_conflict::check(file),
+        ["survey", n, seed] => oracle::survey::run(number(n)?, number(seed)?),
+        _ => usage(),
+    }
+}
+
+mod with_conflict {
+    use super::{number, usage};
+    use oracle::cases::shown;
+    use oracle::{Answer, Node};
+    use std::io::{Read as _, Write as _};
+
+    /// Large enough for what a person reads; a room is lent whole, so it is made at once.
+    const ROOM: u64 = 1 << 20;
+
+    pub fn cases() -> Result<u8, String> {
+        let cases = oracle::cases::all();
+        for case in &cases {
+            println!("{}: {}", case.name, case.states);
+            println!("{}", indented(&case.gives));
+            if case.holds() {
+                println!("    equal");
+            } else {
+                println!("    DIFFERENT, wanted\n{}", indented(&case.wanted));
+            }
+        }
+        let failed = cases.iter().filter(|case| !case.holds()).count();
+        println!("{} statements, {failed} different", cases.len());
+        Ok(u8::from(failed > 0))
+    }
+
+    fn indented(text: &str) -> String {
+        let lines = text.lines().map(|line| format!("    {line}"));
+        lines.collect::<Vec<_>>().join("\n")
+    }
+
+    pub fn text(
+        call: fn(&[u8], u64, &mut [u8]) -> Answer,
+        file: &str,
+        rest: &[&str],
+    ) -> Result<u8, String> {
+        let (option, room) = match rest {
+            [] => (0, ROOM),
+            [option] => (number(option)?, ROOM),
+            [option, room] => (number(option)?, number(room)?),
+            _ => return usage(),
+        };
+        let file = get(file)?;
+        let mut room = vec![0; usize::try_from(room).map_err(|e| e.to_string())?];
+        let answer = call(&file, option, &mut room);
+        let text = &room[..answer.bytes as usize];
+        let mut out = std::io::stdout();
+        out.write_all(text)
+            .and_then(|()| out.flush())
+            .map_err(|e| e.to_string())?;
+        Ok(status(answer))
+    }
+
+    pub fn nodes(file: &str) -> Result<u8, String> {
+        let mut list = [Node::default(); 128];
+        let file = get(file)?;
+        let answer = oracle::nodes(&file, &mut list);
+        let count = match oracle::Problem::read(&file) {
+            Ok(problem) => problem.model().map_or(0, |model| model.nodes().len()),
+            Err(_) => 0,
+        };
+        println!("node kind number group installable missing");
+        for (i, n) in list[..count].iter().enumerate() {
+            let Node {
+                kind,
+                number,
+                group,
+                installable,
+                missing,
+            } = n;
+            println!("{i} {kind} {number} {group} {installable} {missing}");
+        }
+        Ok(status(answer))
+    }
+
+    pub fn check(file: &str) -> Result<u8, String> {
+        Ok(status(oracle::check(&get(file)?)))
+    }
+
+    fn status(answer: Answer) -> u8 {
+        eprintln!("{}", shown(answer));
+        if answer.number == 0 {
+            0
+        } else {
+            2
+        }
+    }
+
+    fn get(path: &str) -> Result<Vec<u8>, String> {
+        let mut bytes = Vec::new();
+        let done = match path {
+            "-" => std::io::stdin().read_to_end(&mut bytes).map(|_| ()),
+            _ => std::fs::read(path).map(|read| bytes = read),
+        };
+        done.map(|()| bytes).map_err(|e| format!("{path}: {e}"))
+    }
+}

@@ -1,0 +1,114 @@
+//! The files of document 01's cases, and one realistic load.
+
+use crate::draft::Draft;
+use crate::reader::kind;
+
+/// P7: "solvables replay 2, replay 1; the root requires "replay *" (both, in that order); each
+/// requires "codec 9" (no candidate)".
+pub fn replay() -> Vec<u8> {
+    let mut d = Draft::new();
+    let name = d.name("replay");
+    let two = d.solvable(name, "2");
+    let one = d.solvable(name, "1");
+    d.root_needs("replay *", &[two, one]);
+    let codec = d.needs(two, "codec 9", &[]);
+    let one = d.of(one);
+    d.requires(one, codec);
+    d.file()
+}
+
+/// P9: "root needs deck, deck needs panel, panel needs deck, one solvable each".
+pub fn deck_and_panel() -> Vec<u8> {
+    let mut d = Draft::new();
+    let deck = d.package("deck", "1");
+    let panel = d.package("panel", "1");
+    let deck_any = d.root_needs("deck *", &[deck]);
+    d.needs(deck, "panel *", &[panel]);
+    let panel = d.of(panel);
+    d.requires(panel, deck_any);
+    d.file()
+}
+
+/// P10: "root needs x, x needs a merged pair, each of the pair needs x".
+pub fn merged_pair() -> Vec<u8> {
+    let mut d = Draft::new();
+    let x = d.package("x", "1");
+    let pair = d.name("pair");
+    let two = d.solvable(pair, "2");
+    let one = d.solvable(pair, "1");
+    let x_any = d.root_needs("x *", &[x]);
+    d.needs(x, "pair *", &[two, one]);
+    for member in [two, one] {
+        let member = d.of(member);
+        d.requires(member, x_any);
+    }
+    d.file()
+}
+
+/// P11: "root needs x, one solvable without edges of its own".
+pub fn lone_package() -> Vec<u8> {
+    let mut d = Draft::new();
+    let x = d.package("x", "1");
+    d.root_needs("x *", &[x]);
+    d.file()
+}
+
+/// A load as an operator meets it: two decks and a panel are asked for; each deck needs one of
+/// twenty codec builds; a driver is locked, some builds are excluded, some constrain the panel.
+pub fn rack() -> Vec<u8> {
+    let mut d = Draft::new();
+    let [deck, codec, driver, panel] = ["deck", "codec", "driver", "panel"].map(|n| d.name(n));
+    let decks = [d.solvable(deck, "3.1"), d.solvable(deck, "2.4")];
+    let builds = |d: &mut Draft, version: &str| -> Vec<u16> {
+        (1..=20)
+            .map(|build| d.solvable(codec, &format!("{version}-b{build:02}")))
+            .collect()
+    };
+    let (new, old) = (builds(&mut d, "9.0"), builds(&mut d, "7.2"));
+    let drivers = [d.solvable(driver, "12"), d.solvable(driver, "11")];
+    let panel_5 = d.solvable(panel, "5");
+
+    d.core(kind::INSTALL_ROOT, [0; 3]);
+    d.root_needs("panel 5", &[panel_5]);
+    d.root_needs("deck *", &decks);
+    d.needs(decks[0], "codec >=9", &new);
+    d.needs(decks[1], "codec >=7,<9", &old);
+    d.needs(panel_5, "driver 11", &drivers[1..]);
+    // The new builds share one wish through a gate.
+    let driver_12 = d.requirement("driver >=12", &drivers[..1]);
+    let gate = d.gate();
+    for &build in &new {
+        let requirer = d.of(build);
+        d.any_of(gate, requirer);
+    }
+    d.requires(gate, driver_12);
+    d.forbid(drivers[0], driver);
+    d.forbid(drivers[1], driver);
+    d.locks(drivers[1], drivers[0]);
+    // Half of the old builds are recalled, the others share a constraint through an auxiliary.
+    let recalled = d.reason("it was recalled");
+    let below_5 = d.version_set(panel, "<5");
+    let auxiliary = d.auxiliary();
+    for (i, &build) in old.iter().enumerate() {
+        if i < 10 {
+            d.excludes(build, recalled);
+        } else {
+            let parent = d.of(build);
+            d.parent(parent, auxiliary, below_5);
+        }
+    }
+    let forbidden = d.of(panel_5);
+    d.excluded(forbidden, auxiliary, below_5);
+    d.file()
+}
+
+/// The sample files by name.
+pub fn all() -> Vec<(&'static str, Vec<u8>)> {
+    vec![
+        ("replay.rec", replay()),
+        ("deck-panel.rec", deck_and_panel()),
+        ("merged-pair.rec", merged_pair()),
+        ("lone.rec", lone_package()),
+        ("rack.rec", rack()),
+    ]
+}

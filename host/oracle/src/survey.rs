@@ -1,0 +1,99 @@
+//! Many generated files through the oracle: no panic, every refusal number, and what document 01
+//! states of all files.
+
+use std::collections::BTreeMap;
+
+use crate::rng::Rng;
+use crate::{check, explain, generate, graphviz, nodes, Answer, Node, Problem};
+
+/// How the calls of one kind were answered.
+type Counts = BTreeMap<u64, u64>;
+
+/// Prints the distribution of answers over `files` files; status 1 where a number from 0 to 12
+/// did not occur.
+pub fn run(files: u64, seed: u64) -> Result<u8, String> {
+    let mut all: BTreeMap<&str, Counts> = BTreeMap::new();
+    let mut accepted: BTreeMap<&str, (u64, u64)> = BTreeMap::new();
+    let mut deepest = 0;
+    let mut room = vec![0; 1 << 14];
+    for index in 0..files {
+        let (shape, number) = generate::pick(index, seed);
+        let file = generate::file(shape, number).expect("pick names a shape");
+        let mut rng = Rng::new(number ^ index);
+        let told = one(&file, &mut rng, &mut room)
+            .map_err(|trouble| format!("{shape} {number}: {trouble}"))?;
+        let of_shape = accepted.entry(shape).or_default();
+        of_shape.0 += 1;
+        of_shape.1 += u64::from(told[0].1.number == 0);
+        for (call, answer) in told {
+            deepest = deepest.max(answer.depth);
+            *all.entry(call)
+                .or_default()
+                .entry(answer.number)
+                .or_default() += 1;
+        }
+    }
+    print(&all, &accepted, deepest);
+    let missing: Vec<u64> = (0..=12)
+        .filter(|number| !all.values().any(|counts| counts.contains_key(number)))
+        .collect();
+    println!("{files} files, numbers that did not occur: {missing:?}");
+    Ok(u8::from(!missing.is_empty()))
+}
+
+fn print(all: &BTreeMap<&str, Counts>, accepted: &BTreeMap<&str, (u64, u64)>, deepest: u64) {
+    println!("shape: files, accepted by check");
+    for (shape, (files, good)) in accepted {
+        println!("  {shape}: {files}, {good}");
+    }
+    println!("call: answers by number");
+    for (call, counts) in all {
+        let counts: Vec<String> = counts.iter().map(|(n, c)| format!("{n}: {c}")).collect();
+        println!("  {call}: {}", counts.join(", "));
+    }
+    println!("largest depth: {deepest}");
+}
+
+/// All calls on one file, with what must hold of each.
+fn one<'a>(file: &[u8], rng: &mut Rng, room: &mut [u8]) -> Result<Vec<(&'a str, Answer)>, String> {
+    let option = match rng.below(40) {
+        0 => 2,
+        1 => 1 << 32,
+        n => n as u64 % 2,
+    };
+    let length = match rng.below(3) {
+        0 => rng.below(400),
+        _ => room.len(),
+    };
+    let length = length.min(room.len());
+    let checked = check(file);
+    let explained = explain(file, option, &mut room[..length]);
+    let drawn = graphviz(file, option, &mut room[..length]);
+    let mut list = [Node::default(); 128];
+    let listed = nodes(file, &mut list[..if rng.chance(5) { 3 } else { 128 }]);
+    if checked.number == 0 {
+        promises(file, &[explained, drawn])?;
+    } else if option < 2 && (explained != checked || drawn != checked || listed != checked) {
+        return Err("calls refuse one file differently".to_string());
+    }
+    Ok(vec![
+        ("check", checked),
+        ("explain", explained),
+        ("graphviz", drawn),
+        ("nodes", listed),
+    ])
+}
+
+fn promises(file: &[u8], answers: &[Answer]) -> Result<(), String> {
+    let trouble = |refusal| format!("check accepts, and then {refusal:?}");
+    let problem = Problem::read(file).map_err(trouble)?;
+    let model = problem.model().map_err(trouble)?;
+    if model.nodes().iter().any(|n| n.installable + n.missing > 1) {
+        return Err("a node has both labels".to_string());
+    }
+    let bound = model.depth_bound();
+    if answers.iter().any(|answer| answer.depth > bound) {
+        return Err(format!("depth above the bound {bound}"));
+    }
+    Ok(())
+}
