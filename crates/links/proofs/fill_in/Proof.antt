@@ -1,0 +1,25 @@
+use borrow.Author.Needs.{needs}
+use mathlib.Core.Path.{_≡_}
+use Prim.Native.Nat.{_≤_, _-_}
+use Rattle.links.specs.Build.{inLay, targetOf, linkedUp, ups, target-key, target-small}
+use Rattle.links.proofs.fill_in.Statement.{statement}
+use Rattle.links.proofs.fill_in.Tie as tie
+
+abbrev Inv-loop : tie.InvT-loop
+Inv-loop g ls₀ m i₀ ls i = (i ≤ m) × (ls ≡ linkedUp inLay (targetOf g) ls₀ i)
+
+abbrev μ-loop : tie.MeasureT-loop
+μ-loop g ls₀ m i₀ ls i = m - i
+
+ruleset laws = (needs, ups, target-key)
+
+pub fill-in-spec : {M : Type 1} → statement M
+fill-in-spec =
+    tie.close
+    (tie.spec Inv-loop μ-loop
+    (λ c. (search needs, search laws))
+    (λ c κs. search needs)
+    (λ c κs. (search needs, search (needs, target-small)))
+    (λ c. search needs) (λ c. search needs)
+    (λ c. (search needs, search laws))
+    (λ c. search laws))

@@ -1,0 +1,96 @@
+// Reachability from the root (conflict.rs: the breadth-first walk behind "all nodes are reachable from root"), by an explicit
+// queue over the chains of outgoing edges.
+ghost use mathlib.Core.Path.{_≡_};
+ghost use Prim.Native.Nat.{_+_, _<_, _≤_};
+ghost use lib.ListN.{length, replicate};
+ghost use Rattle.store.specs.Graph.{unreached};
+ghost use Rattle.store.specs.Table.{graphIn, edgeIn, Stored};
+ghost use Rattle.links.specs.Build.{Chains};
+ghost use Rattle.reach.specs.Queue.{Seen, Marked, notedIn, notedTo, lowestIn, lowestOf};
+
+// Node x goes behind the t nodes of the queue if it has no mark yet; the number of nodes after it.
+fn note(w: &mut [u16; 256], t: usize, x: usize) -> usize
+    requires { ⌜ (t ≤ 128) × (x < 128) ⌝ }
+    ensures { λ r. ⌜ (now (w .exit) ≡ notedIn (now (w .entry)) t x) × (r ≡ notedTo (now (w .entry)) t x) ⌝ }
+{
+    let at = 128 + x;
+    if w[at] == 0 {
+        w[at] = 1;
+        w[t] = x as u16;
+        return t + 1;
+    }
+    t
+}
+
+// The target of edge e.
+fn look(g: &[u64; 1152], s: store::Size, w: &mut [u16; 256], t: usize, e: usize) -> usize
+    requires { ⌜ (Stored (now g) s) × (e < s .edges) × (t ≤ 128) ⌝ }
+    ensures { λ r. ⌜ (now (w .exit) ≡ notedIn (now (w .entry)) t (edgeIn (now (g .entry)) e .target)) × (r ≡ notedTo (now (w .entry)) t (edgeIn (now (g .entry)) e .target)) ⌝ }
+{
+    let x = store::target_at(g, e);
+    note(w, t, x)
+}
+
+// The targets of the node at place h.
+fn visit(
+    g: &[u64; 1152],
+    s: store::Size,
+    ls: &[u16; 3456],
+    w: &mut [u16; 256],
+    h: usize,
+    t: usize,
+) -> usize
+    requires { ⌜ Chains (now g) s (now ls) ⌝ }
+    requires { ⌜ Seen (now g) s (now w) h t ⌝ }
+    requires { ⌜ h < t ⌝ }
+    ensures { λ r. ⌜ Seen (now (g .entry)) s (now (w .exit)) (h + 1) r ⌝ }
+{
+    let n = basis::wide16(w[h]);
+    let mut e = links::first_out(ls, n);
+    let mut k: usize = t;
+    while 0 < e {
+        k = look(g, s, w, k, e - 1);
+        e = links::next_out(ls, e - 1);
+    }
+    k
+}
+
+// Marks every node that the root reaches.
+fn mark(g: &[u64; 1152], s: store::Size, ls: &[u16; 3456], w: &mut [u16; 256])
+    requires { ⌜ Chains (now g) s (now ls) ⌝ }
+    requires { ⌜ now w ≡ replicate 256 0 ⌝ }
+    ensures { λ _. ⌜ Marked (now (g .entry)) s (now (w .exit)) ⌝ }
+{
+    w[128] = 1;
+    let mut h: usize = 0;
+    let mut t: usize = 1;
+    while h < t {
+        t = visit(g, s, ls, w, h, t);
+        h += 1;
+    }
+}
+
+// One more than the lowest of k nodes that has no mark, or 0.
+fn lowest(w: &[u16; 256], k: usize) -> usize
+    requires { ⌜ k ≤ 128 ⌝ }
+    ensures { λ r. ⌜ r ≡ lowestIn (now (w .entry)) k ⌝ }
+{
+    let mut i: usize = 0;
+    while i < k {
+        if w[128 + i] == 0 {
+            return i + 1;
+        }
+        i += 1;
+    }
+    0
+}
+
+// One more than the lowest node that is not reached, or 0.
+pub fn lowest_unreached(g: &[u64; 1152], s: store::Size, ls: &[u16; 3456]) -> usize
+    requires { ⌜ Chains (now g) s (now ls) ⌝ }
+    ensures { λ r. ⌜ r ≡ lowestOf (unreached (graphIn (now (g .entry)) s)) ⌝ }
+{
+    let mut w = [0u16; 256];
+    mark(g, s, ls, &mut w);
+    lowest(&w, s.nodes)
+}

@@ -1,0 +1,30 @@
+use borrow.Author.Needs.{needs}
+use mathlib.Core.Path.{_≡_}
+use Prim.Native.Nat.{_≤_, _-_}
+use lib.ListN.{length}
+use Rattle.records.specs.Shapes.{recordsOf}
+use Rattle.records.specs.Pass.{leftPass, passFrom, noCounts, left-start, left-next, left-stop, left-end}
+use Rattle.records.proofs.pass.run.Statement.{statement}
+use Rattle.records.proofs.pass.run.Tie as tie
+
+abbrev Inv-loop : tie.InvT-loop
+Inv-loop file m₀ n c₀ i₀ m c i = (i ≤ n) × ((length m ≡ length m₀) × (leftPass file i c m ≡ passFrom (recordsOf file) 0 noCounts m₀))
+
+abbrev μ-loop : tie.MeasureT-loop
+μ-loop file m₀ n c₀ i₀ m c i = n - i
+
+pub run-spec : {M : Type 1} → statement M
+run-spec =
+    tie.close
+    (tie.spec Inv-loop μ-loop
+    (λ c. (search needs, (search needs, search left-start)))
+    (λ c κs. search needs)
+    (λ c. search needs)
+    (λ c. search needs)
+    (λ c. search needs)
+    (λ c. search left-stop)
+    (λ c. search needs)
+    (λ c. search needs)
+    (λ c. (search needs, (search needs, search left-next)))
+    (λ c. search needs)
+    (λ c. search left-end))

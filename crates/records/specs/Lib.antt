@@ -1,0 +1,11 @@
+pub mod Shapes
+pub mod Tables
+pub mod Read
+pub mod Views
+pub mod Cut
+pub mod Text
+pub mod Pass
+pub mod Steps
+pub mod Agree
+pub mod Limits
+pub mod Cases

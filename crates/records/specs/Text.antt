@@ -1,0 +1,140 @@
+-- What byte 1 and the text of a record may be, as the code tests it: a chain of guards that says the same as `firstGood`.
+use mathlib.Core.Path.{_≡_, refl, sym, ap, _∙_}
+use mathlib.Core.Bool.{Bool, true, false, _&&_}
+use mathlib.Core.List.{List}
+use Prim.Native.Nat.{ℕ, _+_, _≤_, _<_}
+use native.Mathlib.Omega.{arith}
+use native.Mathlib.Numerals.{add-one}
+use lib.ListN.{length, getD, drop, drop-of-length-le}
+use lib.Seq.{drop-cons}
+use lib.Dec.{leb, eqb}
+use borrow.Author.Tests.{lt-leb, le-leb, eq-eqb, ne-eqb}
+use Rattle.basis.specs.Lists.{all}
+use Rattle.basis.specs.Guard.{guard, guard-no, guard-yes}
+use Rattle.records.specs.declared.First.{First}
+use Rattle.records.specs.declared.First.the-variants as F
+use Rattle.records.specs.Shapes.{Rec}
+use Rattle.records.specs.Read.{shown, zeros, firstGood}
+
+-- ---- every byte of a text passes
+
+-- "each from 32 to 126"
+abbrev pub inText : ℕ → Bool
+inText x = leb 32 x && leb x 126
+
+unfoldable pub allText : List ℕ → Bool
+allText s = all inText s
+
+unfoldable pub allZero : List ℕ → Bool
+allZero s = zeros s
+
+module _ (p : ℕ → Bool) (s : List ℕ) (k : ℕ) (h : k < length s) (w : Bool) (inv : all p (drop k s) ≡ w) where
+  all-on : p (getD s k 0) ≡ true → all p (drop (k + 1) s) ≡ w
+  all-on e = rw add-one (sym (rw (e, all) at (ap (all p) (drop-cons s k 0 h))) ∙ inv)
+
+  all-off : p (getD s k 0) ≡ false → false ≡ w
+  all-off e = sym (rw (e, all) at (ap (all p) (drop-cons s k 0 h))) ∙ inv
+
+all-end : (p : ℕ → Bool) (s : List ℕ) (k : ℕ) (w : Bool) → length s ≤ k → all p (drop k s) ≡ w → true ≡ w
+all-end p s k w h inv = rw (drop-of-length-le s h) at inv
+
+-- what is left of a text from byte k on says what the whole says
+unfoldable pub TextLeft : List ℕ → ℕ → Type 0
+TextLeft s k = all inText (drop k s) ≡ allText s
+
+unfoldable pub ZeroLeft : List ℕ → ℕ → Type 0
+ZeroLeft s k = zeros (drop k s) ≡ allZero s
+
+module _ (s : List ℕ) where
+  pub text-start : TextLeft s 0
+  unfolding TextLeft allText
+  text-start = refl
+
+  pub zero-start : ZeroLeft s 0
+  unfolding ZeroLeft allZero
+  zero-start = refl
+
+  module _ (k b : ℕ) where
+    pub text-low : TextLeft s k → k < length s → b < 32 → b ≡ getD s k 0 → false ≡ allText s
+    unfolding TextLeft
+    text-low inv h l e = all-off inText s k h (allText s) inv (rw (← e, lt-leb 32 b l))
+
+    pub text-high : TextLeft s k → k < length s → 126 < b → 32 ≤ b → b ≡ getD s k 0 → false ≡ allText s
+    unfolding TextLeft
+    text-high inv h l g e = all-off inText s k h (allText s) inv (rw (← e, le-leb 32 b g, lt-leb b 126 l))
+
+    pub text-next : TextLeft s k → k < length s → 32 ≤ b → b ≤ 126 → b ≡ getD s k 0 → TextLeft s (k + 1)
+    unfolding TextLeft
+    text-next inv h l g e = all-on inText s k h (allText s) inv (rw (← e, le-leb 32 b l, le-leb b 126 g))
+
+    pub zero-stop : ZeroLeft s k → k < length s → 0 < b → b ≡ getD s k 0 → false ≡ allZero s
+    unfolding ZeroLeft
+    zero-stop inv h l e = all-off (eqb 0) s k h (allZero s) inv (rw (← e) (ne-eqb 0 b (λ q. let z : 0 ≡ b = q in omega arith)))
+
+    pub zero-next : ZeroLeft s k → k < length s → b ≤ 0 → b ≡ getD s k 0 → ZeroLeft s (k + 1)
+    unfolding ZeroLeft
+    zero-next inv h l e = all-on (eqb 0) s k h (allZero s) inv (rw (← e) (eq-eqb 0 b (omega arith)))
+
+  pub text-end : (k : ℕ) → TextLeft s k → length s ≤ k → true ≡ allText s
+  unfolding TextLeft
+  text-end k inv h = all-end inText s k (allText s) h inv
+
+  pub zero-end : (k : ℕ) → ZeroLeft s k → length s ≤ k → true ≡ allZero s
+  unfolding ZeroLeft
+  zero-end k inv h = all-end (eqb 0) s k (allZero s) h inv
+
+-- ---- byte 1 and the text
+
+-- no byte of the text is used from byte n on
+unfoldable pub restZero : Rec → ℕ → Bool
+unfolding allZero
+restZero r n = allZero (drop n (r .text))
+
+unfoldable pub textPass : Rec → Bool
+textPass r =
+    guard (leb 1 (r .first)) false
+    (guard (leb (r .first) 24) false
+    (guard (allText (shown r)) false
+    (restZero r (r .first))))
+
+abbrev pub firstAt : First → Rec → Bool
+firstAt F.Length r = textPass r
+firstAt F.Flag r = guard (leb (r .first) 1) false (restZero r 0)
+firstAt F.Unused r = guard (eqb (r .first) 0) false (restZero r 0)
+
+unfoldable pub firstPass : First → Rec → Bool
+firstPass f r = firstAt f r
+
+pub first-at : (f g : First) (r : Rec) (x : Bool) → f ≡ g → x ≡ firstAt g r → x ≡ firstPass f r
+unfolding firstPass
+first-at f g r x e q = rw e q
+
+-- a byte b tested as `if b < n { return bad; }`
+pub low-no : {X : Type 0} (bad on : X) (b a n : ℕ) → b < n → b ≡ a → bad ≡ guard (leb n a) bad on
+low-no bad on b a n h e = guard-no bad on (leb n a) (lt-leb n a (rw e at h))
+
+pub low-yes : {X : Type 0} (bad on : X) (b a n : ℕ) (x : X) → n ≤ b → b ≡ a → x ≡ on → x ≡ guard (leb n a) bad on
+low-yes bad on b a n x h e q = guard-yes bad on (leb n a) x (le-leb n a (rw e at h)) q
+
+-- what a call said of a part that another call handed out
+pub all-text-via : (s t : List ℕ) (x : Bool) → s ≡ t → x ≡ allText s → x ≡ allText t
+all-text-via s t x e q = rw e at q
+
+pub rest-zero-via : (r : Rec) (b a : ℕ) (x : Bool) → b ≡ a → x ≡ restZero r b → x ≡ restZero r a
+rest-zero-via r b a x e q = rw e at q
+
+pub rest-zero-is : (r : Rec) (b : ℕ) (s : List ℕ) (x : Bool) → s ≡ drop b (r .text) → x ≡ allZero s → x ≡ restZero r b
+unfolding restZero
+rest-zero-is r b s x e q = rw e at q
+
+pub guard-and : (b x y : Bool) → x ≡ y → guard b false x ≡ (b && y)
+unfolding guard
+guard-and true x y e = e
+guard-and false x y e = refl
+
+pub first-is-good : (f : First) (r : Rec) → firstPass f r ≡ firstGood f r
+unfolding firstPass textPass allText restZero allZero
+first-is-good F.Length r =
+    guard-and (leb 1 (r .first)) _ _ (guard-and (leb (r .first) 24) _ _ (guard-and (all inText (shown r)) _ _ refl))
+first-is-good F.Flag r = guard-and (leb (r .first) 1) _ _ refl
+first-is-good F.Unused r = guard-and (eqb (r .first) 0) _ _ refl

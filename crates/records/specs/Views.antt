@@ -1,0 +1,100 @@
+-- What the crates above see of the tables: texts, origins, clauses, candidates, partners. Numbers past a table's end give
+-- what `noRec` holds.
+use mathlib.Core.Bool.{Bool, cond, _&&_}
+use mathlib.Core.List.{List, map}
+use mathlib.Core.Option.{Option, none, some}
+use Prim.Native.Nat.{ℕ, zero, suc}
+use lib.Dec.{eqb}
+use Rattle.basis.specs.Lists.{filter, first}
+use Rattle.records.specs.declared.Origin.{Origin}
+use Rattle.records.specs.declared.Origin.the-variants.{Root, Solvable, ForbidMultiple, RequiresGate, ConstrainsAuxiliary, Other}
+use Rattle.records.specs.declared.Clause.{Clause}
+use Rattle.records.specs.declared.Clause.the-variants as C
+use Rattle.records.specs.Shapes.{Rec}
+use Rattle.records.specs.Tables.{Tables, at}
+use Rattle.records.specs.Read.{shown}
+
+-- ---- texts
+
+abbrev pub nameText : Tables → ℕ → List ℕ
+nameText T n = shown (at (T .names) n)
+
+abbrev pub solvableName : Tables → ℕ → ℕ
+solvableName T s = at (T .solvables) s .b
+
+abbrev pub versionText : Tables → ℕ → List ℕ
+versionText T s = shown (at (T .solvables) s)
+
+abbrev pub setName : Tables → ℕ → ℕ
+setName T v = at (T .versionSets) v .b
+
+abbrev pub setText : Tables → ℕ → List ℕ
+setText T v = shown (at (T .versionSets) v)
+
+abbrev pub requirementText : Tables → ℕ → List ℕ
+requirementText T q = shown (at (T .requirements) q)
+
+abbrev pub reasonText : Tables → ℕ → List ℕ
+reasonText T r = shown (at (T .reasons) r)
+
+-- ---- variables
+
+-- "origin 0 root, 1 solvable, 2 forbid-multiple (a name), 3 requires gate, 4 constrains auxiliary, 5 other"
+abbrev pub originBy : ℕ → ℕ → Origin
+originBy zero c = Root
+originBy (suc zero) c = Solvable c
+originBy (suc (suc zero)) c = ForbidMultiple c
+originBy (suc (suc (suc zero))) c = RequiresGate
+originBy (suc (suc (suc (suc zero)))) c = ConstrainsAuxiliary
+originBy (suc (suc (suc (suc (suc o))))) c = Other
+
+unfoldable pub originOf : Tables → ℕ → Origin
+originOf T v = originBy (at (T .variables) v .b) (at (T .variables) v .c)
+
+-- ---- clauses
+
+-- a clause record, by its kind; a kind that is no clause's gives Learnt, which no table of clauses holds for it
+unfoldable pub clauseIn : Rec → Clause
+clauseIn r =
+    cond (eqb (r .kind) 16) C.InstallRoot
+    (cond (eqb (r .kind) 17) (C.Excluded (r .a) (r .b))
+    (cond (eqb (r .kind) 19) (C.Requires (r .a) (r .b))
+    (cond (eqb (r .kind) 20) (C.Lock (r .a) (r .b))
+    (cond (eqb (r .kind) 21) (C.ForbidMultipleInstances (r .a) (r .b))
+    (cond (eqb (r .kind) 22) (C.Constrains (r .a) (r .b) (r .c))
+    (cond (eqb (r .kind) 23) (C.ConstrainsParent (r .a) (r .b) (r .c))
+    (cond (eqb (r .kind) 24) (C.ConstrainsExcluded (r .a) (r .b) (r .c))
+    (cond (eqb (r .kind) 25) (C.AnyOf (r .a) (r .b)) C.Learnt))))))))
+
+unfoldable pub clauseOf : Tables → ℕ → Clause
+unfolding clauseIn
+clauseOf T i = clauseIn (at (T .clauses) i)
+
+-- "byte 1 = 1 if in the core, else 0"
+abbrev pub inCore : Rec → Bool
+inCore r = eqb (r .first) 1
+
+abbrev pub coreAt : Tables → ℕ → Bool
+coreAt T i = inCore (at (T .clauses) i)
+
+-- the clauses of the core, in file order
+abbrev pub coreOf : Tables → List Rec
+coreOf T = filter inCore (T .clauses)
+
+-- the clause that assigned a variable ("8 assigned-by"), by its number
+unfoldable pub assignedBy : Tables → ℕ → Option ℕ
+assignedBy T v = elim (first (λ g. eqb (g .a) v) (T .assigned)) [ none ↦ none | some g ↦ some (g .b) ]
+
+-- the solvables that are candidates of a requirement, "in table order"
+unfoldable pub candidatesOf : Tables → ℕ → List ℕ
+candidatesOf T q = map (λ r. r .b) (filter (λ r. eqb (r .a) q) (T .candidates))
+
+-- ---- partners in the core, in file order
+
+-- the b of "the core's AnyOf clauses whose a is the gate"
+unfoldable pub gatePartners : Tables → ℕ → List ℕ
+gatePartners T v = map (λ r. r .b) (filter (λ r. inCore r && (eqb (r .kind) 25 && eqb (r .a) v)) (T .clauses))
+
+-- the a of the core's clauses of kind 23 (parents) or 24 (candidates) whose b is the auxiliary
+unfoldable pub auxPartners : Tables → ℕ → ℕ → List ℕ
+auxPartners T k v = map (λ r. r .a) (filter (λ r. inCore r && (eqb (r .kind) k && eqb (r .b) v)) (T .clauses))

@@ -1,0 +1,138 @@
+// The record file (document 01, "The record file", "Refusal numbers"): the shapes of the records and the reader, which
+// answers the size of each table or a refusal from 1 to 6. It writes nothing; `fields` reads one record of a file.
+
+mod check;
+pub mod fields;
+mod kinds;
+mod pass;
+mod text;
+
+use pass::run;
+ghost use mathlib.Core.Path.{_≡_};
+ghost use Rattle.records.specs.Read.{readOf, answerOf};
+
+// The nine tables.
+pub enum Table {
+    Names,
+    Solvables,
+    VersionSets,
+    Requirements,
+    Candidates,
+    Reasons,
+    Variables,
+    Assigned,
+    Clauses,
+}
+
+// What byte 1 of a record is: the length of its text, the core flag, or unused.
+pub enum First {
+    Length,
+    Flag,
+    Unused,
+}
+
+// The origins that a slot allows.
+pub enum Allowed {
+    Solvable,
+    SolvableOrRoot,
+    Requirer,
+    ForbidMultiple,
+    Auxiliary,
+    Any,
+}
+
+// What a field of a record is.
+pub enum Slot {
+    Unused,
+    Own,
+    Names(Table),
+    Variable(Allowed),
+    Origin,
+    Named,
+    Unassigned,
+}
+
+// A row of the table of kinds.
+pub struct Shape {
+    pub table: Table,
+    pub first: First,
+    pub a: Slot,
+    pub b: Slot,
+    pub c: Slot,
+}
+
+// How many records each table has.
+pub struct Counts {
+    pub names: usize,
+    pub solvables: usize,
+    pub sets: usize,
+    pub requirements: usize,
+    pub candidates: usize,
+    pub reasons: usize,
+    pub variables: usize,
+    pub assigned: usize,
+    pub clauses: usize,
+}
+
+// What reading a file answers: the size of its tables, or a refusal of document 01 with its place.
+pub enum Answer {
+    Accepted(Counts),
+    Refused { number: u64, place: u64 },
+}
+
+// What a variable stands for (conflict.rs: `VariableOrigin`), with the number that it names.
+pub enum Origin {
+    Root,
+    Solvable(u16),
+    ForbidMultiple(u16),
+    RequiresGate,
+    ConstrainsAuxiliary,
+    Other,
+}
+
+// A clause as conflict.rs has it (`Clause`): variables, and the number of a reason, requirement or version set.
+pub enum Clause {
+    InstallRoot,
+    Excluded(u16, u16),
+    Learnt,
+    Requires(u16, u16),
+    Lock(u16, u16),
+    ForbidMultipleInstances(u16, u16),
+    Constrains(u16, u16, u16),
+    ConstrainsParent(u16, u16, u16),
+    ConstrainsExcluded(u16, u16, u16),
+    AnyOf(u16, u16),
+}
+
+// The shape of a kind, if the kind is one.
+pub enum Found {
+    Known(Shape),
+    Unknown,
+}
+
+// What one record makes: a record more in its table, or a refusal.
+pub enum Step {
+    Next(Table),
+    No(u64),
+}
+
+// Reads a file of records: how many each table has, or the first refusal (1 to 6) with its place.
+pub fn read(file: &[u8]) -> Answer
+    ensures { λ r. ⌜ r ≡ answerOf (readOf (now (file .entry))) ⌝ }
+{
+    let len = file.len();
+    if 65536 < len {
+        return Answer::Refused {
+            number: 1,
+            place: 0,
+        };
+    }
+    if len % 32 != 0 {
+        return Answer::Refused {
+            number: 1,
+            place: 0,
+        };
+    }
+    let mut marks = [0u16; 1024];
+    run(file, &mut marks)
+}

@@ -1,0 +1,85 @@
+-- The table and its size are known from the graph that they hold: what the contracts of `start`, `add_node`, `link` and `settle` say of
+-- the graph and the promise determines every word that was lent.
+use mathlib.Core.Path.{_≡_, refl, sym, ap, _∙_}
+use mathlib.Core.List.{List}
+use Prim.Native.Nat.{ℕ, zero, suc, _+_, _-_, _<_, _≤_}
+use native.Mathlib.Omega.{arith}
+use lib.ListN.{length, getD}
+use lib.Seq.{ext-getD}
+use lib.Dec.{ltb}
+use borrow.Author.Tests.{ltb-true, ltb-false}
+use Rattle.basis.specs.Members.{split, clash}
+use Rattle.store.specs.declared.ConflictNode.{ConflictNode}
+use Rattle.store.specs.declared.Edge.{Edge}
+use Rattle.store.specs.declared.Size.{Size}
+use Rattle.store.specs.declared.Put.{Put}
+use Rattle.store.specs.declared.Put.the-variants.{At, Full}
+use Rattle.store.specs.Graph.{Graph, Added, added, full, nodeAt}
+use Rattle.store.specs.Words.{wordOf, nodeOf, edgeWord, edgeOf}
+use Rattle.store.specs.Table.{graphIn, edgeIn, noEdge, Stored, Growing, addedIn, sizeOf, nodes-count, edges-count, node-in, edge-in, node-read}
+
+size-same : (s t : Size) → s .nodes ≡ t .nodes → s .edges ≡ t .edges → s ≡ t
+size-same s t p q =
+    ap (λ (n : ℕ). sized n (s .edges)) p ∙ ap (λ (m : ℕ). sized (t .nodes) m) q
+  where
+    sized : ℕ → ℕ → Size
+    sized n m = record { nodes = n; edges = m }
+
+-- a word is that of its node, of its edge
+node-word : (g : List ℕ) (s : Size) → Stored g s → (n : ℕ) → n < s .nodes → getD g (1024 + n) 0 ≡ wordOf (nodeAt (graphIn g s) n)
+node-word g s S n h =
+    let z : nodeOf (getD g (1024 + n) 0) ≡ nodeAt (graphIn g s) n = node-read g n (getD g (1024 + n) 0) (nodeOf (getD g (1024 + n) 0)) refl refl (omega (arith, S .nodes-most)) ∙ node-in g s S n h in
+    sym (S .word n h) ∙ ap wordOf z
+
+edge-word : (g : List ℕ) (s : Size) → Stored g s → (e : ℕ) → e < s .edges → getD g e 0 ≡ edgeWord (getD (graphIn g s .edges) e noEdge)
+unfolding edgeIn
+edge-word g s S e h = sym (S .packed e h) ∙ ap edgeWord (edge-in g s S e h)
+
+module _ (g h : List ℕ) (s t : Size) (S : Stored g s) (T : Stored h t) (q : graphIn g s ≡ graphIn h t) where
+  nodes-one : s .nodes ≡ t .nodes
+  nodes-one = sym (nodes-count g s S) ∙ ap (λ (x : Graph). length (x .nodes)) q ∙ nodes-count h t T
+
+  edges-one : s .edges ≡ t .edges
+  edges-one = sym (edges-count g s S) ∙ ap (λ (x : Graph). length (x .edges)) q ∙ edges-count h t T
+
+  pub size-one : s ≡ t
+  size-one = size-same s t nodes-one edges-one
+
+  pub table-one : g ≡ h
+  table-one = ext-getD 0 g h (S .long ∙ sym (T .long)) each
+    where
+      edge : (i : ℕ) → i < 1024 → getD g i 0 ≡ getD h i 0
+      edge i l =
+          split (ltb i (s .edges))
+          (λ u. let b : i < s .edges = ltb-true i (s .edges) u in
+          edge-word g s S i b ∙ ap (λ (x : Graph). edgeWord (getD (x .edges) i noEdge)) q ∙ sym (edge-word h t T i (omega (arith, edges-one))))
+          (λ u. let b : s .edges ≤ i = ltb-false i (s .edges) u in S .no-edge i b l ∙ sym (T .no-edge i (omega (arith, edges-one)) l))
+
+      node : (i : ℕ) → i < 128 → getD g (1024 + i) 0 ≡ getD h (1024 + i) 0
+      node i l =
+          split (ltb i (s .nodes))
+          (λ u. let b : i < s .nodes = ltb-true i (s .nodes) u in
+          node-word g s S i b ∙ ap (λ (x : Graph). wordOf (nodeAt x i)) q ∙ sym (node-word h t T i (omega (arith, nodes-one))))
+          (λ u. let b : s .nodes ≤ i = ltb-false i (s .nodes) u in S .no-node i b l ∙ sym (T .no-node i (omega (arith, nodes-one)) l))
+
+      each : (i : ℕ) → i < length g → getD g i 0 ≡ getD h i 0
+      each i l =
+          split (ltb i 1024)
+          (λ u. edge i (ltb-true i 1024 u))
+          (λ u. let b : 1024 ≤ i = ltb-false i 1024 u in
+          let z : i ≡ 1024 + (i - 1024) = omega arith in
+          rw z (node (i - 1024) (omega (arith, S .long))))
+
+-- two answers of `add_node`, or of `link`, to the same call
+pub put-one : (g h : List ℕ) (a b : Put) → Growing g (sizeOf a) → Growing h (sizeOf b) → addedIn g a ≡ addedIn h b → (a ≡ b) × (g ≡ h)
+put-one g h (At i s) (At j t) P Q e =
+    let z : i ≡ j = cc in
+    let q : graphIn g s ≡ graphIn h t = cc in
+    let y : s ≡ t = size-one g h s t (P .stored) (Q .stored) q in
+    (cc, table-one g h s t (P .stored) (Q .stored) q)
+put-one g h (At i s) (Full t) P Q e = clash cc
+put-one g h (Full s) (At j t) P Q e = clash cc
+put-one g h (Full s) (Full t) P Q e =
+    let q : graphIn g s ≡ graphIn h t = cc in
+    let y : s ≡ t = size-one g h s t (P .stored) (Q .stored) q in
+    (cc, table-one g h s t (P .stored) (Q .stored) q)

@@ -1,0 +1,345 @@
+-- "If unresolved has no incoming edge it is removed, and the last node takes number 1": petgraph's `remove_node`, word by word.
+-- The last node's word goes to place 1, and the ends that were the last number become 1; edges keep their order.
+use mathlib.Core.Path.{_≡_, refl, sym, ap, _∙_}
+use mathlib.Core.Bool.{Bool, true, false, cond, not}
+use mathlib.Core.List.{List, [], _∷_, _++_, map, map-append}
+use Prim.Native.Nat.{ℕ, zero, suc, _+_, _*_, _-_, _/_, _%_, _<_, _≤_}
+use native.Mathlib.Nat.{not-suc-le-zero}
+use native.Mathlib.Numerals.{add-one, sub-one}
+use native.Mathlib.Omega.{arith}
+use lib.ListN.{length, getD, take, drop, set, length-set, length-drop, length-map}
+use lib.Seq.{take-suc, take-suc-set, take-set-le, drop-set-add, drop-set-lt, getD-set-same, getD-set-other, getD-take, getD-drop, length-take-le}
+use lib.Dec.{eqb}
+use borrow.Author.Tests.{eqb-true, eqb-false, eq-eqb, ne-eqb}
+use Rattle.basis.specs.Lists.{any}
+use Rattle.basis.specs.Members.{split}
+use Rattle.basis.specs.Below.{allBelow, below-none, below-step, below-fails, below-at}
+use Rattle.store.specs.declared.ConflictNode.{ConflictNode}
+use Rattle.store.specs.declared.ConflictNode.the-variants as N
+use Rattle.store.specs.declared.Edge.{Edge}
+use Rattle.store.specs.declared.Size.{Size}
+use Rattle.store.specs.Graph.{Graph, renumber, renumberEdge, lastOf, front, settle}
+use Rattle.store.specs.Words.{wordOf, nodeOf, edgeWord, edgeOf, weightWord, weightOf}
+use Rattle.store.specs.Table.{nodeWords, graphIn, edgeIn, Stored, Growing, nodes-count}
+
+-- ---- does an edge lead to node 1
+
+unfoldable pub spares : List ℕ → ℕ → Bool
+spares g i = not (eqb (edgeIn g i .target) 1)
+
+pub spare-next : (g : List ℕ) (i t : ℕ) → allBelow (spares g) i ≡ true → (t ≡ 1 → ⊥) → t ≡ edgeIn g i .target → allBelow (spares g) (i + 1) ≡ true
+unfolding spares
+spare-next g i t h d q = below-step (spares g) i h (rw (ne-eqb (edgeIn g i .target) 1 (λ z. d (q ∙ z))))
+
+pub spare-stop : (g : List ℕ) (i m t : ℕ) → t ≡ 1 → t ≡ edgeIn g i .target → i < m → false ≡ allBelow (spares g) m
+unfolding spares
+spare-stop g i m t z q h = below-fails (spares g) i m h (rw (eq-eqb (edgeIn g i .target) 1 (sym q ∙ z)))
+
+spared : (g : List ℕ) (e : ℕ) → spares g e ≡ true → getD g e 0 / 256 % 256 ≡ 1 → ⊥
+unfolding spares edgeIn
+spared g e h q = let z : false ≡ true = sym (rw (eq-eqb (getD g e 0 / 256 % 256) 1 q)) ∙ h in let f : _≡_ {A = ℕ} 0 1 = cc in omega arith
+
+any-snoc : (p : Edge → Bool) (xs : List Edge) (x : Edge) → any p xs ≡ false → any p (xs ++ (x ∷ [])) ≡ p x
+any-snoc p [] x h = split (p x) (λ t. rw (t, any)) (λ t. rw (t, any))
+any-snoc p (y ∷ xs) x h = split (p y) (λ t. no (rw (t, any) at h)) (λ t. rw (t, any) (any-snoc p xs x (rw (t, any) at h)))
+  where
+    no : true ≡ false → any p ((y ∷ xs) ++ (x ∷ [])) ≡ p x
+    no z = let f : _≡_ {A = ℕ} 0 1 = cc in let b : ⊥ = omega arith in absurd b
+
+any-stays : (p : Edge → Bool) (xs : List Edge) (x : Edge) → any p xs ≡ true → any p (xs ++ (x ∷ [])) ≡ true
+any-stays p [] x h = let f : _≡_ {A = ℕ} 0 1 = cc in let b : ⊥ = omega arith in absurd b
+any-stays p (y ∷ xs) x h = split (p y) (λ t. rw (t, any)) (λ t. rw (t, any) (any-stays p xs x (rw (t, any) at h)))
+
+abbrev toOne : Edge → Bool
+toOne e = eqb (e .target) 1
+
+spares-any : (g : List ℕ) (m : ℕ) → m ≤ length g → not (any toOne (map edgeOf (take m g))) ≡ allBelow (spares g) m
+unfolding allBelow spares edgeIn
+spares-any g zero h = refl
+spares-any g (suc m) h =
+    let r : not (any toOne (map edgeOf (take m g))) ≡ allBelow (spares g) m = spares-any g m (omega arith) in
+    rw (take-suc g m 0 h, map-append, ← r)
+    (split (any toOne (map edgeOf (take m g)))
+    (λ t. rw (t, any-stays toOne (map edgeOf (take m g)) (edgeOf (getD g m 0)) t))
+    (λ t. rw (t, any-snoc toOne (map edgeOf (take m g)) (edgeOf (getD g m 0)) t)))
+
+-- ---- the ends anew
+
+abbrev pub renumberWord : ℕ → ℕ → ℕ
+renumberWord last w = renumber last (w % 256) + 256 * renumber last (w / 256 % 256) + 65536 * (w / 65536)
+
+-- the first i edges renumbered, one after the other
+unfoldable pub renumberTo : ℕ → List ℕ → ℕ → List ℕ
+renumberTo last g zero = g
+renumberTo last g (suc i) = set (renumberTo last g i) i (renumberWord last (getD (renumberTo last g i) i 0))
+
+pub renumber-none : (last : ℕ) (g : List ℕ) → g ≡ renumberTo last g 0
+unfolding renumberTo
+renumber-none last g = refl
+
+-- r is what a call gave for word i
+pub renumber-next : (last : ℕ) (g h : List ℕ) (i r : ℕ) → h ≡ renumberTo last g i → r ≡ renumberWord last (getD h i 0) → set h i r ≡ renumberTo last g (i + 1)
+unfolding renumberTo
+renumber-next last g h i r q e = rw (add-one i, e, q)
+
+pub renumber-all : (last : ℕ) (g h : List ℕ) (i m : ℕ) → h ≡ renumberTo last g i → i ≤ m → m ≤ i → h ≡ renumberTo last g m
+renumber-all last g h i m q a b = let z : m ≡ i = omega arith in rw z q
+
+pub ruleset renumbers = (renumber-none, renumber-next, renumber-all)
+
+-- x is the last number, or not
+pub renumber-last : (last x : ℕ) → x ≡ last → 1 ≡ renumber last x
+renumber-last last x q = rw (eq-eqb x last q)
+
+pub renumber-other : (last x : ℕ) → (x ≡ last → ⊥) → x ≡ renumber last x
+renumber-other last x d = rw (ne-eqb x last d)
+
+renumber-small : (last x : ℕ) → x < 256 → renumber last x < 256
+renumber-small last x h = split (eqb x last) (λ t. rw t (omega arith)) (λ t. rw t h)
+
+module _ (s t r : ℕ) (hs : s < 256) (ht : t < 256) where
+  f0 : (s + 256 * t + 65536 * r) % 256 ≡ s
+  f0 = omega arith
+
+  f1 : (s + 256 * t + 65536 * r) / 256 % 256 ≡ t
+  f1 = omega arith
+
+  f2 : (s + 256 * t + 65536 * r) / 65536 ≡ r
+  f2 = omega arith
+
+  f3 : (w : ℕ) → r ≡ w / 65536 → (s + 256 * t + 65536 * r) / 16777216 ≡ w / 16777216
+  f3 w q = omega arith
+
+edge-renumbered : (last w : ℕ) → edgeOf (renumberWord last w) ≡ renumberEdge last (edgeOf w)
+edge-renumbered last w =
+    let hs : renumber last (w % 256) < 256 = renumber-small last (w % 256) (omega arith) in
+    let ht : renumber last (w / 256 % 256) < 256 = renumber-small last (w / 256 % 256) (omega arith) in
+    rw (
+      f0 (renumber last (w % 256)) (renumber last (w / 256 % 256)) (w / 65536) hs ht,
+      f1 (renumber last (w % 256)) (renumber last (w / 256 % 256)) (w / 65536) hs ht,
+      f2 (renumber last (w % 256)) (renumber last (w / 256 % 256)) (w / 65536) hs ht,
+      f3 (renumber last (w % 256)) (renumber last (w / 256 % 256)) (w / 65536) hs ht w refl,
+    )
+
+edges-renumbered : (last : ℕ) (ws : List ℕ) → map edgeOf (map (renumberWord last) ws) ≡ map (renumberEdge last) (map edgeOf ws)
+edges-renumbered last [] = refl
+edges-renumbered last (w ∷ ws) = rw (edge-renumbered last w, edges-renumbered last ws)
+
+module _ (last : ℕ) (g : List ℕ) where
+  to-length : (i : ℕ) → length (renumberTo last g i) ≡ length g
+  unfolding renumberTo
+  to-length zero = refl
+  to-length (suc i) = rw length-set (to-length i)
+
+  to-past : (i j : ℕ) → i ≤ j → getD (renumberTo last g i) j 0 ≡ getD g j 0
+  unfolding renumberTo
+  to-past zero j h = refl
+  to-past (suc i) j h = getD-set-other (renumberTo last g i) i j (renumberWord last (getD (renumberTo last g i) i 0)) 0 (λ q. omega arith) ∙ to-past i j (omega arith)
+
+  to-done : (i j : ℕ) → j < i → i ≤ length g → getD (renumberTo last g i) j 0 ≡ renumberWord last (getD g j 0)
+  unfolding renumberTo
+  to-done zero j h l = absurd (not-suc-le-zero h)
+  to-done (suc i) j h l =
+      split (eqb j i)
+      (λ t. rw (eqb-true j i t) (getD-set-same (renumberTo last g i) i (renumberWord last (getD (renumberTo last g i) i 0)) 0 (omega (arith, to-length i)) ∙ ap (renumberWord last) (to-past i i (omega arith))))
+      (λ t. let d : j ≡ i → ⊥ = eqb-false j i t in
+      getD-set-other (renumberTo last g i) i j (renumberWord last (getD (renumberTo last g i) i 0)) 0 d ∙ to-done i j (omega (arith, d)) (omega arith))
+
+  to-nodes : (i : ℕ) → i ≤ 1024 → drop 1024 (renumberTo last g i) ≡ drop 1024 g
+  unfolding renumberTo
+  to-nodes zero h = refl
+  to-nodes (suc i) h = drop-set-lt 1024 (renumberTo last g i) i (renumberWord last (getD (renumberTo last g i) i 0)) h ∙ to-nodes i (omega arith)
+
+  to-edges : (i : ℕ) → i ≤ length g → take i (renumberTo last g i) ≡ map (renumberWord last) (take i g)
+  unfolding renumberTo
+  to-edges zero h = refl
+  to-edges (suc i) h =
+      take-suc-set (renumberTo last g i) i (renumberWord last (getD (renumberTo last g i) i 0)) (omega (arith, to-length i))
+      ∙ rw (to-edges i (omega arith), to-past i i (omega arith), take-suc g i 0 h, map-append)
+
+-- ---- the nodes anew
+
+last-snoc : (xs : List ConflictNode) (x : ConflictNode) → lastOf (xs ++ (x ∷ [])) ≡ x ∷ []
+last-snoc [] x = refl
+last-snoc (y ∷ []) x = refl
+last-snoc (y ∷ z ∷ xs) x = last-snoc (z ∷ xs) x
+
+front-snoc : (xs : List ConflictNode) (x : ConflictNode) → front (xs ++ (x ∷ [])) ≡ xs
+front-snoc [] x = refl
+front-snoc (y ∷ []) x = refl
+front-snoc (y ∷ z ∷ xs) x = rw (front-snoc (z ∷ xs) x)
+
+abbrev moved : List ConflictNode → List ConflictNode
+moved xs = N.Root ∷ lastOf (drop 2 xs) ++ front (drop 2 xs)
+
+nodes-moved : (d : List ℕ) (l : ℕ) → getD d 0 0 ≡ 0 → suc l < length d → map nodeOf (take (suc l) (set d 1 (getD d (suc l) 0))) ≡ moved (map nodeOf (take (suc (suc l)) d))
+nodes-moved [] l z h = let f : ⊥ = omega arith in absurd f
+nodes-moved (x ∷ []) l z h = let f : ⊥ = omega arith in absurd f
+nodes-moved (x ∷ y ∷ r) zero z h = rw z
+nodes-moved (x ∷ y ∷ r) (suc l) z h =
+    let q : l < length r = omega arith in
+    rw (z, take-suc r l 0 q, map-append nodeOf (take l r) (getD r l 0 ∷ []), last-snoc (map nodeOf (take l r)) (nodeOf (getD r l 0)), front-snoc (map nodeOf (take l r)) (nodeOf (getD r l 0)))
+
+-- ---- the table after it: the last node's word at place 1, its own place free, every edge renumbered
+
+abbrev pub vacated : List ℕ → ℕ → List ℕ
+vacated g last = set (set g 1025 (getD g (1024 + last) 0)) (1024 + last) 0
+
+abbrev gone : List ℕ → ℕ → ℕ → List ℕ
+gone g last m = renumberTo last (vacated g last) m
+
+abbrev pub goneSize : Size → Size
+goneSize s = record { nodes = s .nodes - 1; edges = s .edges }
+
+-- a word that is its edge's own stays so
+packed-renumbered : (last w : ℕ) → edgeWord (edgeOf w) ≡ w → edgeWord (edgeOf (renumberWord last w)) ≡ renumberWord last w
+packed-renumbered last w q =
+    let a : w % 256 + 256 * (w / 256 % 256) + 65536 * weightWord (edgeOf w .weight) ≡ w = q in
+    let z : weightWord (edgeOf w .weight) ≡ w / 65536 = omega arith in
+    ap edgeWord (edge-renumbered last w)
+    ∙ ap (λ (n : ℕ). renumber last (w % 256) + 256 * renumber last (w / 256 % 256) + 65536 * n) z
+
+module _ (g : List ℕ) (s : Size) (P : Growing g s) where
+  pub settle-kept : (b : Bool) → b ≡ allBelow (spares g) (s .edges) → not b ≡ true → graphIn g s ≡ settle (graphIn g s)
+  unfolding settle graphIn
+  settle-kept b q f =
+      let z : any toOne (map edgeOf (take (s .edges) g)) ≡ true = is-true (any toOne (map edgeOf (take (s .edges) g))) (spares-any g (s .edges) (omega (arith, P .stored .long, P .stored .edges-most)) ∙ sym q) in
+      rw z
+    where
+      is-true : (a : Bool) → not a ≡ b → a ≡ true
+      is-true true e = refl
+      is-true false e = sym (sym f ∙ ap not (sym e))
+
+  abbrev last : ℕ
+  last = s .nodes - 1
+
+  module _ (b : Bool) (q : b ≡ allBelow (spares g) (s .edges)) (f : not b ≡ false) where
+    is-false : (a : Bool) → not a ≡ b → a ≡ false
+    is-false true e = ap not e ∙ f
+    is-false false e = refl
+
+    unled : any toOne (map edgeOf (take (s .edges) g)) ≡ false
+    unled = is-false (any toOne (map edgeOf (take (s .edges) g))) (spares-any g (s .edges) (omega (arith, P .stored .long, P .stored .edges-most)) ∙ sym q)
+
+    all-spare : allBelow (spares g) (s .edges) ≡ true
+    all-spare = sym q ∙ is b f
+      where
+        is : (b : Bool) → not b ≡ false → b ≡ true
+        is true e = refl
+        is false e = sym e
+
+    abbrev h : List ℕ
+    h = vacated g last
+
+    abbrev k : List ℕ
+    k = set g 1025 (getD g (1024 + last) 0)
+
+    h-edges : take (s .edges) h ≡ take (s .edges) g
+    h-edges =
+        take-set-le (s .edges) k (1024 + last) 0 (omega (arith, P .stored .edges-most))
+        ∙ take-set-le (s .edges) g 1025 (getD g (1024 + last) 0) (omega (arith, P .stored .edges-most))
+
+    h-nodes : take last (drop 1024 h) ≡ take last (set (drop 1024 g) 1 (getD (drop 1024 g) last 0))
+    h-nodes =
+        ap (take last) (drop-set-add 1024 k last 0)
+        ∙ take-set-le last (drop 1024 k) last 0 (omega arith)
+        ∙ ap (take last) (drop-set-add 1024 g 1 (getD g (1024 + last) 0) ∙ ap (set (drop 1024 g) 1) (sym (getD-drop 1024 g last 0)))
+
+    h-length : length h ≡ 1152
+    h-length = length-set k (1024 + last) 0 ∙ length-set g 1025 (getD g (1024 + last) 0) ∙ P .stored .long
+
+    gone-nodes : map nodeOf (take last (drop 1024 (gone g last (s .edges)))) ≡ moved (map nodeOf (take (s .nodes) (drop 1024 g)))
+    gone-nodes =
+        let a : last ≡ suc (s .nodes - 2) = omega (arith, P .two) in
+        let c : s .nodes ≡ suc (suc (s .nodes - 2)) = omega (arith, P .two) in
+        let r : getD (drop 1024 g) 0 0 ≡ 0 = getD-drop 1024 g 0 0 ∙ P .stored .root in
+        let n : suc (s .nodes - 2) < length (drop 1024 g) = rw length-drop (omega (arith, P .two, P .stored .long, P .stored .nodes-most)) in
+        ap (λ (l : List ℕ). map nodeOf (take last l)) (to-nodes last h (s .edges) (P .stored .edges-most))
+        ∙ ap (map nodeOf) h-nodes
+        ∙ ap (λ (j : ℕ). map nodeOf (take j (set (drop 1024 g) 1 (getD (drop 1024 g) j 0)))) a
+        ∙ nodes-moved (drop 1024 g) (s .nodes - 2) r n
+        ∙ ap (λ (j : ℕ). moved (map nodeOf (take j (drop 1024 g)))) (sym c)
+
+    gone-edges : map edgeOf (take (s .edges) (gone g last (s .edges))) ≡ map (renumberEdge last) (map edgeOf (take (s .edges) g))
+    gone-edges =
+        ap (map edgeOf) (to-edges last h (s .edges) (omega (arith, h-length, P .stored .edges-most)) ∙ ap (map (renumberWord last)) h-edges)
+        ∙ edges-renumbered last (take (s .edges) g)
+
+    settle-gone : graphIn (gone g last (s .edges)) (goneSize s) ≡ settle (graphIn g s)
+    unfolding settle graphIn
+    settle-gone =
+        let c : length (map nodeOf (nodeWords g (s .nodes))) ≡ s .nodes = nodes-count g s (P .stored) in
+        rw (unled, gone-nodes, gone-edges, c)
+
+    settle-stored : Stored (gone g last (s .edges)) (goneSize s)
+    settle-stored =
+        record { long = to-length last h (s .edges) ∙ h-length; some = omega (arith, P .two); nodes-most = omega (arith, P .stored .nodes-most); edges-most = P .stored .edges-most; root = first; word = words; no-node = no-node; packed = packed; no-edge = no-edge; source = sources; target = targets }
+      where
+        past : (j : ℕ) → getD (gone g last (s .edges)) (1024 + j) 0 ≡ getD h (1024 + j) 0
+        past j = to-past last h (s .edges) (1024 + j) (omega (arith, P .stored .edges-most))
+
+        place : (j : ℕ) → (j ≡ last → ⊥) → (j ≡ 1 → ⊥) → getD (gone g last (s .edges)) (1024 + j) 0 ≡ getD g (1024 + j) 0
+        place j d o =
+            past j ∙ getD-set-other k (1024 + last) (1024 + j) 0 0 (λ z. d (omega arith)) ∙ getD-set-other g 1025 (1024 + j) (getD g (1024 + last) 0) 0 (λ z. o (omega arith))
+
+        one : 1 < last → getD (gone g last (s .edges)) 1025 0 ≡ getD g (1024 + last) 0
+        one l =
+            past 1 ∙ getD-set-other k (1024 + last) 1025 0 0 (λ z. omega arith) ∙ getD-set-same g 1025 (getD g (1024 + last) 0) 0 (omega (arith, P .stored .long))
+
+        free : getD (gone g last (s .edges)) (1024 + last) 0 ≡ 0
+        free = past last ∙ getD-set-same k (1024 + last) 0 0 (omega (arith, length-set g 1025 (getD g (1024 + last) 0), P .stored .long, P .stored .nodes-most))
+
+        first : getD (gone g last (s .edges)) 1024 0 ≡ 0
+        first = place 0 (λ z. omega (arith, P .two)) (λ z. omega arith) ∙ P .stored .root
+
+        words : (j : ℕ) → j < s .nodes - 1 → wordOf (nodeOf (getD (gone g last (s .edges)) (1024 + j) 0)) ≡ getD (gone g last (s .edges)) (1024 + j) 0
+        words j l =
+            split (eqb j 1)
+            (λ t. let y : j ≡ 1 = eqb-true j 1 t in rw (y, one (omega arith)) (P .stored .word last (omega (arith, P .two))))
+            (λ t. rw (place j (λ z. omega arith) (eqb-false j 1 t)) (P .stored .word j (omega arith)))
+
+        no-node : (j : ℕ) → s .nodes - 1 ≤ j → j < 128 → getD (gone g last (s .edges)) (1024 + j) 0 ≡ 0
+        no-node j l m =
+            split (eqb j last)
+            (λ t. rw (eqb-true j last t) free)
+            (λ t. let d : j ≡ last → ⊥ = eqb-false j last t in place j d (λ z. omega (arith, d, P .two)) ∙ P .stored .no-node j (omega (arith, d)) m)
+
+        apart : (e : ℕ) → e < 1024 → getD h e 0 ≡ getD g e 0
+        apart e l = getD-set-other k (1024 + last) e 0 0 (λ z. omega arith) ∙ getD-set-other g 1025 e (getD g (1024 + last) 0) 0 (λ z. omega arith)
+
+        renumbered : (e : ℕ) → e < s .edges → getD (gone g last (s .edges)) e 0 ≡ renumberWord last (getD g e 0)
+        renumbered e l =
+            to-done last h (s .edges) e l (omega (arith, h-length, P .stored .edges-most)) ∙ ap (renumberWord last) (apart e (omega (arith, P .stored .edges-most)))
+
+        packed : (e : ℕ) → e < s .edges → edgeWord (edgeOf (getD (gone g last (s .edges)) e 0)) ≡ getD (gone g last (s .edges)) e 0
+        packed e l = rw (renumbered e l) (packed-renumbered last (getD g e 0) (P .stored .packed e l))
+
+        no-edge : (e : ℕ) → s .edges ≤ e → e < 1024 → getD (gone g last (s .edges)) e 0 ≡ 0
+        no-edge e l m = to-past last h (s .edges) e l ∙ apart e m ∙ P .stored .no-edge e l m
+
+        word : (e : ℕ) → e < s .edges → edgeOf (getD (gone g last (s .edges)) e 0) ≡ renumberEdge last (edgeOf (getD g e 0))
+        word e l = ap edgeOf (renumbered e l) ∙ edge-renumbered last (getD g e 0)
+
+        sources : (e : ℕ) → e < s .edges → getD (gone g last (s .edges)) e 0 % 256 < 128
+        sources e l =
+            let z : getD (gone g last (s .edges)) e 0 % 256 ≡ renumber last (getD g e 0 % 256) = ap (λ (x : Edge). x .source) (word e l) in
+            rw z (split (eqb (getD g e 0 % 256) last) (λ t. rw t (omega arith)) (λ t. rw t (P .stored .source e l)))
+
+        targets : (e : ℕ) → e < s .edges → getD (gone g last (s .edges)) e 0 / 256 % 256 < s .nodes - 1
+        targets e l =
+            let z : getD (gone g last (s .edges)) e 0 / 256 % 256 ≡ renumber last (getD g e 0 / 256 % 256) = ap (λ (x : Edge). x .target) (word e l) in
+            let d : getD g e 0 / 256 % 256 ≡ 1 → ⊥ = spared g e (below-at (spares g) (s .edges) all-spare e l) in
+            rw z
+            (split (eqb (getD g e 0 / 256 % 256) last)
+            (λ t. rw t (omega (arith, P .two, d, eqb-true (getD g e 0 / 256 % 256) last t)))
+            (λ t. rw t (omega (arith, P .stored .target e l, eqb-false (getD g e 0 / 256 % 256) last t))))
+
+-- k is the table that the renumbering left
+module _ (g k : List ℕ) (s : Size) (b : Bool) (e : k ≡ renumberTo (s .nodes - 1) (set (set g 1025 (getD g (1024 + (s .nodes - 1)) 0)) (1024 + (s .nodes - 1)) 0) (s .edges)) (P : Growing g s) (q : b ≡ allBelow (spares g) (s .edges)) (f : not b ≡ false) where
+  pub gone-graph : graphIn k (goneSize s) ≡ settle (graphIn g s)
+  gone-graph = rw e (settle-gone g s P b q f)
+
+  pub gone-stored : Stored k (goneSize s)
+  gone-stored = rw e (settle-stored g s P b q f)
+
+pub ruleset settles = (settle-kept, gone-graph, gone-stored)

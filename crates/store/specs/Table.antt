@@ -1,0 +1,162 @@
+-- What the table of words holds: edges from place 0 on, nodes from place 1024 on. This is the one file that says where they stand.
+use mathlib.Core.Path.{_≡_, refl, sym, ap, _∙_}
+use mathlib.Core.Bool.{Bool, true, false}
+use mathlib.Core.List.{List, [], _∷_, map}
+use Prim.Native.Nat.{ℕ, zero, suc, _+_, _*_, _-_, _/_, _%_, _<_, _≤_}
+use native.Mathlib.Omega.{arith}
+use lib.ListN.{length, getD, take, drop, length-map, length-drop, List·getD-map, List·getD-eq-default}
+use lib.Dec.{ltb}
+use borrow.Author.Tests.{lt-ltb, le-ltb}
+use Rattle.basis.specs.Guard.{guard}
+use lib.Seq.{getD-take, getD-drop, length-take-le}
+use Rattle.store.specs.declared.ConflictNode.{ConflictNode}
+use Rattle.store.specs.declared.ConflictNode.the-variants as N
+use Rattle.store.specs.declared.ConflictEdge.{ConflictEdge}
+use Rattle.store.specs.declared.ConflictEdge.the-variants as W
+use Rattle.store.specs.declared.Edge.{Edge}
+use Rattle.store.specs.declared.Size.{Size}
+use Rattle.store.specs.declared.Put.{Put}
+use Rattle.store.specs.declared.Put.the-variants.{At, Full}
+use Rattle.store.specs.Graph.{Graph, Added, added, full, nodeAt, tryRequires, isConflict, isExcluded}
+use Rattle.store.specs.Words.{wordOf, nodeOf, edgeWord, edgeOf, weightOf, byKind, requires-is, requires-none, conflict-is, conflict-not, excluded-is, excluded-not}
+
+-- the words of the first k nodes
+abbrev pub nodeWords : List ℕ → ℕ → List ℕ
+nodeWords g k = take k (drop 1024 g)
+
+-- the graph that a table holds
+unfoldable pub graphIn : List ℕ → Size → Graph
+graphIn g s = record { nodes = map nodeOf (nodeWords g (s .nodes)); edges = map edgeOf (take (s .edges) g) }
+
+-- edge e and node n, as the table holds them
+unfoldable pub edgeIn : List ℕ → ℕ → Edge
+edgeIn g e = edgeOf (getD g e 0)
+
+unfoldable pub nodeIn : List ℕ → ℕ → ConflictNode
+unfolding guard
+nodeIn g n = guard (ltb n 128) N.Root (nodeOf (getD g (1024 + n) 0))
+
+-- what a read past the last edge gives
+abbrev pub noEdge : Edge
+noEdge = record { source = 0; target = 0; weight = W.Requires 0 }
+
+-- the promise: within the limits, node 0 the root, each word the one that its node or edge has, and 0 where there is none, so that
+-- the table is known from its graph; each edge's ends numbers of nodes (a source is compared and chained, never looked up: it is
+-- below the limit)
+pub record Stored (g : List ℕ) (s : Size) : Type 0 where
+  pub long : length g ≡ 1152
+  pub some : 1 ≤ s .nodes
+  pub nodes-most : s .nodes ≤ 128
+  pub edges-most : s .edges ≤ 1024
+  pub root : getD g 1024 0 ≡ 0
+  pub word : (i : ℕ) → i < s .nodes → wordOf (nodeOf (getD g (1024 + i) 0)) ≡ getD g (1024 + i) 0
+  pub no-node : (i : ℕ) → s .nodes ≤ i → i < 128 → getD g (1024 + i) 0 ≡ 0
+  pub packed : (e : ℕ) → e < s .edges → edgeWord (edgeOf (getD g e 0)) ≡ getD g e 0
+  pub no-edge : (e : ℕ) → s .edges ≤ e → e < 1024 → getD g e 0 ≡ 0
+  pub source : (e : ℕ) → e < s .edges → getD g e 0 % 256 < 128
+  pub target : (e : ℕ) → e < s .edges → getD g e 0 / 256 % 256 < s .nodes
+
+-- while the graph grows, node 1 is kept for `unresolved`
+pub record Growing (g : List ℕ) (s : Size) : Type 0 where
+  pub stored : Stored g s
+  pub two : 2 ≤ s .nodes
+
+-- ---- how adding went, as the definitions say it
+
+abbrev pub addedIn : List ℕ → Put → Added
+addedIn g (At i s) = added i (graphIn g s)
+addedIn g (Full s) = full (graphIn g s)
+
+abbrev pub sizeOf : Put → Size
+sizeOf (At i s) = s
+sizeOf (Full s) = s
+
+abbrev pub placeOf : Put → ℕ
+placeOf (At i s) = i
+placeOf (Full s) = 0
+
+-- ---- the table read place by place
+
+module _ (g : List ℕ) (s : Size) (S : Stored g s) where
+  nodes-wide : s .nodes ≤ length (drop 1024 g)
+  nodes-wide = rw length-drop (omega (arith, S .long, S .nodes-most))
+
+  pub nodes-count : length (graphIn g s .nodes) ≡ s .nodes
+  unfolding graphIn
+  nodes-count = length-map (nodeWords g (s .nodes)) nodeOf ∙ length-take-le (s .nodes) (drop 1024 g) nodes-wide
+
+  pub edges-count : length (graphIn g s .edges) ≡ s .edges
+  unfolding graphIn
+  edges-count = length-map (take (s .edges) g) edgeOf ∙ length-take-le (s .edges) g (omega (arith, S .long, S .edges-most))
+
+  pub node-in : (n : ℕ) → n < s .nodes → nodeIn g n ≡ nodeAt (graphIn g s) n
+  unfolding graphIn nodeIn guard
+  node-in n h =
+      rw (lt-ltb n 128 (omega (arith, S .nodes-most)), guard)
+      (sym (List·getD-map nodeOf (nodeWords g (s .nodes)) n 0
+      ∙ ap nodeOf (getD-take (s .nodes) (drop 1024 g) n 0 h ∙ getD-drop 1024 g n 0)))
+
+  pub edge-in : (e : ℕ) → e < s .edges → edgeIn g e ≡ getD (graphIn g s .edges) e noEdge
+  unfolding graphIn edgeIn
+  edge-in e h = sym (List·getD-map edgeOf (take (s .edges) g) e 0 ∙ ap edgeOf (getD-take (s .edges) g e 0 h))
+
+  pub root-in : nodeAt (graphIn g s) 0 ≡ N.Root
+  unfolding nodeIn guard
+  root-in = sym (node-in 0 (S .some)) ∙ ap nodeOf (S .root)
+
+  pub source-below : (e : ℕ) → e < s .edges → edgeIn g e .source < 128
+  unfolding edgeIn
+  source-below e h = S .source e h
+
+  pub target-below : (e : ℕ) → e < s .edges → edgeIn g e .target < s .nodes
+  unfolding edgeIn
+  target-below e h = S .target e h
+
+-- ---- one word read, and what it tells; w is what the read gave
+
+module _ (g : List ℕ) (e w : ℕ) (q : w ≡ getD g e 0) where
+  pub edge-read : (k : ConflictEdge) → k ≡ weightOf (w / 65536 % 256) (w / 16777216 % 65536) → record { source = w % 256; target = w / 256 % 256; weight = k } ≡ edgeIn g e
+  unfolding edgeIn
+  edge-read k p = rw (p, q)
+
+  pub source-read : w % 256 ≡ edgeIn g e .source
+  unfolding edgeIn
+  source-read = rw q
+
+  pub target-read : w / 256 % 256 ≡ edgeIn g e .target
+  unfolding edgeIn
+  target-read = rw q
+
+  pub requires-read : w / 65536 % 256 ≡ 0 → w / 16777216 % 65536 + 1 ≡ tryRequires (edgeIn g e .weight)
+  unfolding edgeIn
+  requires-read h = rw (← q) (requires-is (w / 65536 % 256) (w / 16777216 % 65536) h)
+
+  pub requires-none-read : (w / 65536 % 256 ≡ 0 → ⊥) → 0 ≡ tryRequires (edgeIn g e .weight)
+  unfolding edgeIn
+  requires-none-read h = rw (← q) (requires-none (w / 65536 % 256) (w / 16777216 % 65536) h)
+
+  pub conflict-not-read : w / 65536 % 256 ≡ 0 → false ≡ isConflict (edgeIn g e .weight)
+  unfolding edgeIn
+  conflict-not-read h = rw (← q) (conflict-not (w / 65536 % 256) (w / 16777216 % 65536) h)
+
+  pub conflict-read : (w / 65536 % 256 ≡ 0 → ⊥) → true ≡ isConflict (edgeIn g e .weight)
+  unfolding edgeIn
+  conflict-read h = rw (← q) (conflict-is (w / 65536 % 256) (w / 16777216 % 65536) h)
+
+  pub excluded-read : 3 < w / 65536 % 256 → true ≡ isExcluded (edgeIn g e .weight)
+  unfolding edgeIn
+  excluded-read h = rw (← q) (excluded-is (w / 65536 % 256) (w / 16777216 % 65536) h)
+
+  pub excluded-not-read : w / 65536 % 256 ≤ 3 → false ≡ isExcluded (edgeIn g e .weight)
+  unfolding edgeIn
+  excluded-not-read h = rw (← q) (excluded-not (w / 65536 % 256) (w / 16777216 % 65536) h)
+
+pub node-read : (g : List ℕ) (n w : ℕ) (x : ConflictNode) → w ≡ getD g (1024 + n) 0 → x ≡ byKind (w % 4) (w / 4 % 65536) → n < 128 → x ≡ nodeIn g n
+unfolding nodeIn guard
+node-read g n w x q p h = rw (lt-ltb n 128 h, guard) (rw q at p)
+
+pub node-none : (g : List ℕ) (n : ℕ) → 128 ≤ n → N.Root ≡ nodeIn g n
+unfolding nodeIn guard
+node-none g n h = rw (le-ltb n 128 h, guard)
+
+pub ruleset reads = (edge-read, source-read, target-read, requires-read, requires-none-read, conflict-not-read, conflict-read, excluded-read, excluded-not-read, node-read, node-none)

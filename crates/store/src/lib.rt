@@ -1,0 +1,357 @@
+// The conflict graph as it is stored: nodes and edges in the order added, packed into words of a lent table, and the removal
+// of `unresolved`. It knows nothing of records, and it alone knows the packing.
+ghost use mathlib.Core.Path.{_≡_};
+ghost use Prim.Native.Nat.{_+_, _*_, _<_, _≤_, _/_, _%_};
+ghost use lib.ListN.{length, getD, set, replicate};
+ghost use Rattle.store.specs.Graph.{startGraph, addNode, addEdge, addLink, renumber, settle, tryRequires, isConflict, isExcluded};
+ghost use Rattle.store.specs.Words.{weightOf, byKind, EdgeWord, CauseWord, WeightWord, NodeWord};
+ghost use Rattle.basis.specs.Below.{allBelow};
+ghost use Rattle.store.specs.Settling.{spares, renumberWord, renumberTo};
+ghost use Rattle.store.specs.Adding.{findOf, addTarget};
+ghost use Rattle.store.specs.Table.{graphIn, edgeIn, nodeIn, Stored, Growing, addedIn, sizeOf, placeOf};
+
+// A node (conflict.rs: `ConflictNode`), with the number of the solvable or reason.
+pub enum ConflictNode {
+    Root,
+    Solvable(u16),
+    UnresolvedDependency,
+    Excluded(u16),
+}
+
+// Why an edge is a conflict (conflict.rs: `ConflictCause`), with the number that it names.
+pub enum ConflictCause {
+    Locked(u16),
+    Constrains(u16),
+    ForbidMultipleInstances,
+    Excluded,
+}
+
+// What an edge says (conflict.rs: `ConflictEdge`).
+pub enum ConflictEdge {
+    Requires(u16),
+    Conflict(ConflictCause),
+}
+
+pub struct Edge {
+    pub source: u8,
+    pub target: u8,
+    pub weight: ConflictEdge,
+}
+
+// How many nodes and edges the table holds.
+pub struct Size {
+    pub nodes: usize,
+    pub edges: usize,
+}
+
+// How adding went: the number of the node or edge, or no room; with how much the table holds now.
+pub enum Put {
+    At(usize, Size),
+    Full(Size),
+}
+
+fn cause_word(c: ConflictCause) -> u64
+    ensures { λ r. ⌜ CauseWord c r ⌝ }
+{
+    match c {
+        ConflictCause::Locked(s) => 1 + 256 * (s as u64),
+        ConflictCause::Constrains(v) => 2 + 256 * (v as u64),
+        ConflictCause::ForbidMultipleInstances => 3,
+        ConflictCause::Excluded => 4,
+    }
+}
+
+// Tag and number: 0 requires, 1 to 4 the causes.
+fn weight_word(w: ConflictEdge) -> u64
+    ensures { λ r. ⌜ WeightWord w r ⌝ }
+{
+    match w {
+        ConflictEdge::Requires(q) => 256 * (q as u64),
+        ConflictEdge::Conflict(c) => cause_word(c),
+    }
+}
+
+fn weight_of(tag: u64, number: u16) -> ConflictEdge
+    ensures { λ r. ⌜ r ≡ weightOf tag number ⌝ }
+{
+    match tag {
+        0 => ConflictEdge::Requires(number),
+        1 => ConflictEdge::Conflict(ConflictCause::Locked(number)),
+        2 => ConflictEdge::Conflict(ConflictCause::Constrains(number)),
+        3 => ConflictEdge::Conflict(ConflictCause::ForbidMultipleInstances),
+        _ => ConflictEdge::Conflict(ConflictCause::Excluded),
+    }
+}
+
+fn edge_word(e: Edge) -> u64
+    ensures { λ r. ⌜ EdgeWord e r ⌝ }
+{
+    let w = e.weight;
+    let s = e.source as u64;
+    let t = e.target as u64;
+    s + 256 * t + 65536 * weight_word(w)
+}
+
+// Edge e, with the default edge where the table holds none.
+pub fn edge_at(g: &[u64; 1152], e: usize) -> Edge
+    ensures { λ r. ⌜ r ≡ edgeIn (now (g .entry)) e ⌝ }
+{
+    let w = basis::get64(g, e);
+    let k = weight_of(w / 65536 % 256, (w / 16777216 % 65536) as u16);
+    Edge {
+        source: (w % 256) as u8,
+        target: (w / 256 % 256) as u8,
+        weight: k,
+    }
+}
+
+pub fn source_at(g: &[u64; 1152], e: usize) -> usize
+    ensures { λ r. ⌜ (r ≡ edgeIn (now (g .entry)) e .source) × (r < 256) ⌝ }
+{
+    (basis::get64(g, e) % 256) as usize
+}
+
+pub fn target_at(g: &[u64; 1152], e: usize) -> usize
+    ensures { λ r. ⌜ (r ≡ edgeIn (now (g .entry)) e .target) × (r < 256) ⌝ }
+{
+    (basis::get64(g, e) / 256 % 256) as usize
+}
+
+// One more than the requirement's number, or 0 for a conflict (conflict.rs: `try_requires`).
+pub fn requires_at(g: &[u64; 1152], e: usize) -> u64
+    ensures { λ r. ⌜ (r ≡ tryRequires (edgeIn (now (g .entry)) e .weight)) × (r ≤ 65536) ⌝ }
+{
+    let w = basis::get64(g, e);
+    let t = w / 65536 % 256;
+    let n = w / 16777216 % 65536;
+    if t == 0 { n + 1 } else { 0 }
+}
+
+pub fn conflict_at(g: &[u64; 1152], e: usize) -> bool
+    ensures { λ r. ⌜ r ≡ isConflict (edgeIn (now (g .entry)) e .weight) ⌝ }
+{
+    let w = basis::get64(g, e);
+    let t = w / 65536 % 256;
+    if t == 0 { false } else { true }
+}
+
+pub fn excluded_at(g: &[u64; 1152], e: usize) -> bool
+    ensures { λ r. ⌜ r ≡ isExcluded (edgeIn (now (g .entry)) e .weight) ⌝ }
+{
+    let w = basis::get64(g, e);
+    let t = w / 65536 % 256;
+    if 3 < t { true } else { false }
+}
+
+fn node_word(x: ConflictNode) -> u64
+    ensures { λ r. ⌜ NodeWord x r ⌝ }
+{
+    match x {
+        ConflictNode::Root => 0,
+        ConflictNode::Solvable(s) => 1 + 4 * (s as u64),
+        ConflictNode::UnresolvedDependency => 2,
+        ConflictNode::Excluded(r) => 3 + 4 * (r as u64),
+    }
+}
+
+fn node_of(kind: u64, number: u16) -> ConflictNode
+    ensures { λ r. ⌜ r ≡ byKind kind number ⌝ }
+{
+    match kind {
+        0 => ConflictNode::Root,
+        1 => ConflictNode::Solvable(number),
+        2 => ConflictNode::UnresolvedDependency,
+        _ => ConflictNode::Excluded(number),
+    }
+}
+
+// Node n; the root where the table has no place n.
+pub fn node_at(g: &[u64; 1152], n: usize) -> ConflictNode
+    ensures { λ r. ⌜ r ≡ nodeIn (now (g .entry)) n ⌝ }
+{
+    if n < 128 {
+        let w = basis::get64(g, 1024 + n);
+        return node_of(w % 4, (w / 4 % 65536) as u16);
+    }
+    ConflictNode::Root
+}
+
+// Root is node 0, unresolved node 1. The table is blank, as a caller's fresh array is.
+pub fn start(g: &mut [u64; 1152]) -> Size
+    requires { ⌜ now g ≡ replicate 1152 0 ⌝ }
+    ensures { λ r. ⌜ (graphIn (now (g .exit)) r ≡ startGraph) × Growing (now (g .exit)) r ⌝ }
+{
+    g[1024] = 0;
+    g[1025] = 2;
+    Size { nodes: 2, edges: 0 }
+}
+
+// The place of word w among the first k nodes, or k.
+fn find_node(g: &[u64; 1152], k: usize, w: u64) -> usize
+    requires { ⌜ (length (now g) ≡ 1152) × (k ≤ 128) ⌝ }
+    ensures { λ r. ⌜ r ≡ findOf (now (g .entry)) k w ⌝ }
+{
+    let mut i: usize = 0;
+    while i < k {
+        if g[1024 + i] == w {
+            return i;
+        }
+        i += 1;
+    }
+    k
+}
+
+// The node's number, a new one where it is not there yet (conflict.rs: `add_node`).
+pub fn add_node(g: &mut [u64; 1152], s: Size, x: ConflictNode) -> Put
+    requires { ⌜ Growing (now g) s ⌝ }
+    ensures { λ r. ⌜ addedIn (now (g .exit)) r ≡ addNode (graphIn (now (g .entry)) s) x ⌝ }
+    ensures { λ r. ⌜ Growing (now (g .exit)) (sizeOf r) × (placeOf r < sizeOf r .nodes) ⌝ }
+{
+    let w = node_word(x);
+    let k = s.nodes;
+    let i = find_node(g, k, w);
+    if i < k {
+        return Put::At(i, s);
+    }
+    if 128 <= k {
+        return Put::Full(s);
+    }
+    g[1024 + k] = w;
+    Put::At(
+        k,
+        Size {
+            nodes: k + 1,
+            edges: s.edges,
+        },
+    )
+}
+
+fn add_edge(g: &mut [u64; 1152], s: Size, e: Edge) -> Put
+    requires { ⌜ Growing (now g) s ⌝ }
+    requires { ⌜ (e .source < 128) × (e .target < s .nodes) ⌝ }
+    ensures { λ r. ⌜ addedIn (now (g .exit)) r ≡ addEdge (graphIn (now (g .entry)) s) e ⌝ }
+    ensures { λ r. ⌜ Growing (now (g .exit)) (sizeOf r) ⌝ }
+{
+    let m = s.edges;
+    if 1024 <= m {
+        return Put::Full(s);
+    }
+    g[m] = edge_word(e);
+    Put::At(
+        m,
+        Size {
+            nodes: s.nodes,
+            edges: m + 1,
+        },
+    )
+}
+
+fn small(i: usize) -> u8
+    requires { ⌜ i < 128 ⌝ }
+    ensures { λ r. ⌜ (r ≡ i) × (r < 128) ⌝ }
+{
+    i as u8
+}
+
+// The target, then the edge from node `source`.
+fn link_to(g: &mut [u64; 1152], s: Size, source: u8, y: ConflictNode, w: ConflictEdge) -> Put
+    requires { ⌜ Growing (now g) s ⌝ }
+    requires { ⌜ source < 128 ⌝ }
+    ensures { λ r. ⌜ addedIn (now (g .exit)) r ≡ addTarget (graphIn (now (g .entry)) s) source y w ⌝ }
+    ensures { λ r. ⌜ Growing (now (g .exit)) (sizeOf r) ⌝ }
+{
+    let a = add_node(g, s, y);
+    match a {
+        Put::Full(t) => Put::Full(t),
+        Put::At(j, t) => {
+            let target = small(j);
+            let e = Edge {
+                source,
+                target,
+                weight: w,
+            };
+            add_edge(g, t, e)
+        }
+    }
+}
+
+// Both ends, the source first, then the edge.
+pub fn link(g: &mut [u64; 1152], s: Size, x: ConflictNode, y: ConflictNode, w: ConflictEdge) -> Put
+    requires { ⌜ Growing (now g) s ⌝ }
+    ensures { λ r. ⌜ addedIn (now (g .exit)) r ≡ addLink (graphIn (now (g .entry)) s) x y w ⌝ }
+    ensures { λ r. ⌜ Growing (now (g .exit)) (sizeOf r) ⌝ }
+{
+    let a = add_node(g, s, x);
+    match a {
+        Put::Full(t) => Put::Full(t),
+        Put::At(i, t) => {
+            let source = small(i);
+            link_to(g, t, source, y, w)
+        }
+    }
+}
+
+// No edge leads to node 1.
+fn spared(g: &[u64; 1152], m: usize) -> bool
+    ensures { λ r. ⌜ r ≡ allBelow (spares (now (g .entry))) m ⌝ }
+{
+    let mut i: usize = 0;
+    while i < m {
+        let t = target_at(g, i);
+        if t == 1 {
+            return false;
+        }
+        i += 1;
+    }
+    true
+}
+
+fn renumbered(x: u64, last: u64) -> u64
+    requires { ⌜ x < 256 ⌝ }
+    ensures { λ r. ⌜ (r ≡ renumber last x) × (r < 256) ⌝ }
+{
+    if x == last { 1 } else { x }
+}
+
+// The edge's word with both ends renumbered.
+fn renumbered_word(w: u64, last: u64) -> u64
+    ensures { λ r. ⌜ r ≡ renumberWord last w ⌝ }
+{
+    let s = renumbered(w % 256, last);
+    let t = renumbered(w / 256 % 256, last);
+    s + 256 * t + 65536 * (w / 65536)
+}
+
+fn renumber_all(g: &mut [u64; 1152], m: usize, last: u64)
+    requires { ⌜ m ≤ 1024 ⌝ }
+    ensures { λ _. ⌜ now (g .exit) ≡ renumberTo last (now (g .entry)) m ⌝ }
+{
+    let mut i: usize = 0;
+    while i < m {
+        let w = g[i];
+        let r = renumbered_word(w, last);
+        g[i] = r;
+        i += 1;
+    }
+}
+
+// Unresolved goes if no edge leads to it, and the last node takes number 1 (petgraph: `remove_node`).
+pub fn settle(g: &mut [u64; 1152], s: Size) -> Size
+    requires { ⌜ Growing (now g) s ⌝ }
+    ensures { λ r. ⌜ (graphIn (now (g .exit)) r ≡ settle (graphIn (now (g .entry)) s)) × Stored (now (g .exit)) r ⌝ }
+{
+    let m = s.edges;
+    let b = spared(g, m);
+    if !b {
+        return s;
+    }
+    let last = s.nodes - 1;
+    let w = g[1024 + last];
+    g[1025] = w;
+    g[1024 + last] = 0;
+    renumber_all(g, m, last as u64);
+    Size {
+        nodes: last,
+        edges: m,
+    }
+}
