@@ -1,0 +1,10 @@
+pub mod Steps
+pub mod Promise
+pub mod Index
+pub mod Found
+pub mod Filling
+pub mod Loading
+pub mod Hanging
+pub mod Load
+pub mod Unique
+pub mod Refs

@@ -1,0 +1,256 @@
+// The index over an accepted record file: where the record of each number stands, and chains by which later passes find what
+// they would else scan for. The file is read first, and the index is filled only where it is accepted.
+// Regions: names 0, solvables 128, version sets 384, requirements 640, candidates 896, reasons 1920, variables 1984, assigned-by
+// (by variable) 3008, clauses 4032; heads and links of the candidates 5056 and 5312, of the core's partners 6336 and 9408.
+use basis::get16;
+use basis::put16;
+use basis::wide16;
+use records::Answer;
+use records::fields::a_at;
+use records::fields::b_at;
+use records::fields::first_at;
+use records::fields::kind_at;
+ghost use mathlib.Core.Path.{_≡_};
+ghost use Prim.Native.Nat.{_+_, _≤_, _<_};
+ghost use lib.ListN.{length};
+ghost use Rattle.basis.specs.Chains.{linked};
+ghost use Rattle.records.specs.Shapes.{recordsOf};
+ghost use Rattle.records.specs.Tables.{at};
+ghost use Rattle.records.specs.Read.{readOf, answerOf};
+ghost use Rattle.index.specs.Index.{placed, recordNo, baseOf, assign, marked, passedBy, numbered, noPlaces, hung, keyIn, candidateLay, partnerLay, candidatesHung, partnersHung, Blank, Held};
+
+// How many candidates and clauses have been numbered.
+pub struct Places {
+    pub candidates: usize,
+    pub clauses: usize,
+}
+
+// What stands at place n of the region at b, which has l places; 0 past them.
+pub fn place(ix: &[u16; 10432], b: usize, l: usize, n: usize) -> usize
+    requires { ⌜ b + l ≤ 10432 ⌝ }
+    ensures { λ r. ⌜ (r ≡ placed b l (now (ix .entry)) n) × (r < 65536) ⌝ }
+{
+    if n < l { wide16(get16(ix, b + n)) } else { 0 }
+}
+
+// The record that stands there; 2048, past every record, for none.
+pub fn record_no(ix: &[u16; 10432], b: usize, l: usize, n: usize) -> usize
+    requires { ⌜ b + l ≤ 10432 ⌝ }
+    ensures { λ r. ⌜ (r ≡ recordNo b l (now (ix .entry)) n) × (r < 65536) ⌝ }
+{
+    let m = place(ix, b, l, n);
+    if m == 0 { 2048 } else { m - 1 }
+}
+
+// Where the numbers of a kind's table begin; past the index for an unknown kind.
+fn base(kind: u8) -> usize
+    ensures { λ r. ⌜ (r ≡ baseOf kind) × (r ≤ 10432) ⌝ }
+{
+    if 15 < kind {
+        if kind < 26 {
+            return 4032;
+        }
+        return 10432;
+    }
+    match kind {
+        1 => 0,
+        2 => 128,
+        3 => 384,
+        4 => 640,
+        5 => 896,
+        6 => 1920,
+        7 => 1984,
+        8 => 3008,
+        _ => 10432,
+    }
+}
+
+// A record 8, by its variable.
+fn assign_at(file: &[u8], i: usize, ix: &mut [u16; 10432])
+    ensures { λ _. ⌜ now (ix .exit) ≡ assign (at (recordsOf (now (file .entry))) i) (now (ix .entry)) ⌝ }
+{
+    let b = wide16(b_at(file, i));
+    let a = wide16(a_at(file, i));
+    if b < 1024 {
+        put16(ix, 3008 + a, (b + 1) as u16);
+    }
+}
+
+// Record i, whose table begins at b.
+fn mark(file: &[u8], i: usize, b: usize, c: Places, ix: &mut [u16; 10432])
+    requires { ⌜ (i < 2048) × (b ≤ 10432) × (c .candidates ≤ i) × (c .clauses ≤ i) ⌝ }
+    ensures { λ _. ⌜ now (ix .exit) ≡ marked b (at (recordsOf (now (file .entry))) i) i c (now (ix .entry)) ⌝ }
+{
+    let p = c.candidates;
+    let q = c.clauses;
+    let x = (i + 1) as u16;
+    if b == 896 {
+        put16(ix, 896 + p, x);
+        return;
+    }
+    if b == 4032 {
+        put16(ix, 4032 + q, x);
+        return;
+    }
+    if b == 3008 {
+        assign_at(file, i, ix);
+        return;
+    }
+    let a = wide16(a_at(file, i));
+    put16(ix, b + a, x);
+}
+
+// The places after a record whose table begins at b.
+fn passed(b: usize, c: Places) -> Places
+    requires { ⌜ (c .candidates < 2048) × (c .clauses < 2048) ⌝ }
+    ensures { λ r. ⌜ (r ≡ passedBy b c) × (r .candidates ≤ c .candidates + 1) × (r .clauses ≤ c .clauses + 1) ⌝ }
+{
+    let p = c.candidates;
+    let q = c.clauses;
+    if b == 896 {
+        return Places {
+            candidates: p + 1,
+            clauses: q,
+        };
+    }
+    if b == 4032 {
+        return Places {
+            candidates: p,
+            clauses: q + 1,
+        };
+    }
+    c
+}
+
+// Every record of an accepted file.
+fn number(file: &[u8], ix: &mut [u16; 10432])
+    requires { ⌜ length (now file) ≤ 65536 ⌝ }
+    ensures { λ _. ⌜ now (ix .exit) ≡ numbered (recordsOf (now (file .entry))) 0 noPlaces (now (ix .entry)) ⌝ }
+{
+    let n = file.len() / 32;
+    let mut c = Places {
+        candidates: 0,
+        clauses: 0,
+    };
+    let mut i = 0;
+    while i < n {
+        let b = base(kind_at(file, i));
+        mark(file, i, b, c, ix);
+        c = passed(b, c);
+        i += 1;
+    }
+}
+
+// Candidate k goes to the head of the chain of requirement n.
+fn link_candidate(ix: &mut [u16; 10432], k: usize, n: usize)
+    requires { ⌜ (k < 1024) × (n < 256) ⌝ }
+    ensures { λ _. ⌜ now (ix .exit) ≡ linked candidateLay (now (ix .entry)) k n ⌝ }
+{
+    let h = get16(ix, 5056 + n);
+    put16(ix, 5312 + k, h);
+    put16(ix, 5056 + n, (k + 1) as u16);
+}
+
+// Clause k goes to the head of the chain of key n.
+fn link_partner(ix: &mut [u16; 10432], k: usize, n: usize)
+    requires { ⌜ (k < 1024) × (n < 3072) ⌝ }
+    ensures { λ _. ⌜ now (ix .exit) ≡ linked partnerLay (now (ix .entry)) k n ⌝ }
+{
+    let h = get16(ix, 6336 + n);
+    put16(ix, 9408 + k, h);
+    put16(ix, 6336 + n, (k + 1) as u16);
+}
+
+// The key of the clause that record i is.
+fn key_at(file: &[u8], i: usize) -> usize
+    ensures { λ r. ⌜ (r ≡ keyIn (at (recordsOf (now (file .entry))) i)) × (r < 131072) ⌝ }
+{
+    if first_at(file, i) != 1 {
+        return 3072;
+    }
+    let kind = kind_at(file, i);
+    if kind == 25 {
+        return wide16(a_at(file, i));
+    }
+    let b = wide16(b_at(file, i));
+    if kind == 23 {
+        return 1024 + b;
+    }
+    if kind == 24 {
+        return 2048 + b;
+    }
+    3072
+}
+
+fn hang_candidate(file: &[u8], ix: &mut [u16; 10432], k: usize)
+    requires { ⌜ k < 1024 ⌝ }
+    ensures { λ _. ⌜ now (ix .exit) ≡ hung candidateLay (at (recordsOf (now (file .entry))) (recordNo 896 1024 (now (ix .entry)) k) .a) (now (ix .entry)) k ⌝ }
+{
+    let i = record_no(ix, 896, 1024, k);
+    let n = wide16(a_at(file, i));
+    if n < 256 {
+        link_candidate(ix, k, n);
+    }
+}
+
+fn hang_partner(file: &[u8], ix: &mut [u16; 10432], k: usize)
+    requires { ⌜ k < 1024 ⌝ }
+    ensures { λ _. ⌜ now (ix .exit) ≡ hung partnerLay (keyIn (at (recordsOf (now (file .entry))) (recordNo 4032 1024 (now (ix .entry)) k))) (now (ix .entry)) k ⌝ }
+{
+    let i = record_no(ix, 4032, 1024, k);
+    let n = key_at(file, i);
+    if n < 3072 {
+        link_partner(ix, k, n);
+    }
+}
+
+// The last candidate first, so that a chain begins with the first one.
+fn hang_candidates(file: &[u8], ix: &mut [u16; 10432], m: usize)
+    requires { ⌜ m ≤ 1024 ⌝ }
+    ensures { λ _. ⌜ now (ix .exit) ≡ candidatesHung (now (file .entry)) m (now (ix .entry)) ⌝ }
+{
+    let mut j = m;
+    while 0 < j {
+        let k = j - 1;
+        hang_candidate(file, ix, k);
+        j -= 1;
+    }
+}
+
+fn hang_partners(file: &[u8], ix: &mut [u16; 10432], m: usize)
+    requires { ⌜ m ≤ 1024 ⌝ }
+    ensures { λ _. ⌜ now (ix .exit) ≡ partnersHung (now (file .entry)) m (now (ix .entry)) ⌝ }
+{
+    let mut j = m;
+    while 0 < j {
+        let i = j - 1;
+        hang_partner(file, ix, i);
+        j -= 1;
+    }
+}
+
+// m candidates and n clauses.
+fn fill(file: &[u8], ix: &mut [u16; 10432], m: usize, n: usize)
+    requires { ⌜ (length (now file) ≤ 65536) × (m ≤ 1024) × (n ≤ 1024) ⌝ }
+    ensures { λ _. ⌜ now (ix .exit) ≡ partnersHung (now (file .entry)) n (candidatesHung (now (file .entry)) m (numbered (recordsOf (now (file .entry))) 0 noPlaces (now (ix .entry)))) ⌝ }
+{
+    number(file, ix);
+    hang_candidates(file, ix, m);
+    hang_partners(file, ix, n);
+}
+
+// Reads a file, and fills the index where it is accepted; else the index stays as it was.
+pub fn load(file: &[u8], ix: &mut [u16; 10432]) -> Answer
+    requires { ⌜ Blank (now ix) ⌝ }
+    ensures { λ r. ⌜ r ≡ answerOf (readOf (now (file .entry))) ⌝ }
+    ensures { λ r. ⌜ Held r (now (file .entry)) (now (ix .entry)) (now (ix .exit)) ⌝ }
+{
+    let r = records::read(file);
+    let Answer::Accepted(c) = r else {
+        return r;
+    };
+    let m = c.candidates;
+    let n = c.clauses;
+    fill(file, ix, m, n);
+    r
+}
