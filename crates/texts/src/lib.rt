@@ -1,0 +1,141 @@
+// The indenter by value, and line writers over the rest of the lent room.
+pub mod graphviz;
+pub mod marks;
+pub mod pieces;
+pub mod wordings;
+pub mod writers;
+
+use marks::kept;
+use marks::marked_word;
+use pieces::length_of;
+use pieces::put_indent;
+ghost use mathlib.Core.Path.{_≡_};
+ghost use mathlib.Core.Bool.{true, false};
+ghost use mathlib.Core.List.{List, [], _∷_};
+ghost use Prim.Native.Nat.{_+_, _-_, _*_, _<_, _≤_};
+ghost use lib.ListN.{length, replicate};
+ghost use Rattle.texts.specs.Wrote.{Wrote};
+ghost use Rattle.texts.specs.Indent.{indent, atTop};
+ghost use Rattle.texts.specs.Marks.{marksOf, pushed, lastSet, upper, keptOf, putAt, lastAt, backTo};
+
+// The levels above a line, as `Indenter` of conflict.rs: a bit a level, set for `ChildOrder::Last`; `top` is its
+// `top_level_indent`. Pushing hands back a new one, and the old stays usable.
+pub struct Indenter {
+    pub levels: [u64; 65],
+    pub count: usize,
+    pub top: bool,
+}
+
+impl Indenter {
+    pub fn new(top: bool) -> Self
+        ensures { λ r. ⌜ (marksOf r ≡ []) × (r .count ≡ 0) × (r .top ≡ top) ⌝ }
+        ensures { λ r. ⌜ r .levels ≡ replicate 65 0 ⌝ }
+    {
+        let levels = [0u64; 65];
+        Indenter {
+            levels,
+            count: 0,
+            top,
+        }
+    }
+
+    pub fn is_at_top_level(self) -> bool
+        ensures { λ r. ⌜ r ≡ atTop (marksOf self) ⌝ }
+    {
+        self.count == 1
+    }
+
+    pub fn push_level(self) -> Indenter
+        requires { ⌜ self .count ≤ 4160 ⌝ }
+        ensures { λ r. ⌜ (marksOf r ≡ pushed false (marksOf self)) × (r .top ≡ self .top) × (r .count ≤ 4160) ⌝ }
+        ensures { λ r. ⌜ r ≡ putAt self (self .count) false ⌝ }
+    {
+        self.push_level_with_order(false)
+    }
+
+    // With 4,160 levels held, none is pushed: the deepest text takes 4,159.
+    pub fn push_level_with_order(self, last: bool) -> Indenter
+        requires { ⌜ self .count ≤ 4160 ⌝ }
+        ensures { λ r. ⌜ (marksOf r ≡ pushed last (marksOf self)) × (r .top ≡ self .top) × (r .count ≤ 4160) ⌝ }
+        ensures { λ r. ⌜ r ≡ putAt self (self .count) last ⌝ }
+    {
+        let n = self.count;
+        if 4160 <= n {
+            return self;
+        }
+        let k = n / 64;
+        let mut next = self;
+        next.levels[k] = marked_word(self.levels[k], n % 64, last);
+        next.count = n + 1;
+        next
+    }
+
+    // Without a level, which conflict.rs never meets, nothing is changed.
+    pub fn set_last(self) -> Indenter
+        requires { ⌜ self .count ≤ 4160 ⌝ }
+        ensures { λ r. ⌜ (marksOf r ≡ lastSet (marksOf self)) × (r .top ≡ self .top) × (r .count ≡ self .count) ⌝ }
+        ensures { λ r. ⌜ r ≡ lastAt self ⌝ }
+    {
+        let n = self.count;
+        if n == 0 {
+            return self;
+        }
+        let i = n - 1;
+        let k = i / 64;
+        let mut next = self;
+        next.levels[k] = marked_word(self.levels[k], i % 64, true);
+        next
+    }
+
+    // Back to the `level` upper levels.
+    pub fn back(self, level: usize) -> Indenter
+        requires { ⌜ self .count ≤ 4160 ⌝ }
+        ensures { λ r. ⌜ (marksOf r ≡ upper level (marksOf self)) × (r .top ≡ self .top) × (r .count ≤ 4160) ⌝ }
+        ensures { λ r. ⌜ r ≡ backTo self level ⌝ }
+    {
+        if self.count <= level {
+            return self;
+        }
+        let mut next = self;
+        next.count = level;
+        next
+    }
+
+    // Back to the `level` upper levels, and one more pushed: the entry of a level's next sibling.
+    pub fn at_level(self, level: usize, last: bool) -> Indenter
+        requires { ⌜ self .count ≤ 4160 ⌝ }
+        ensures { λ r. ⌜ (marksOf r ≡ pushed last (upper level (marksOf self))) × (r .top ≡ self .top) × (r .count ≤ 4160) ⌝ }
+        ensures { λ r. ⌜ r ≡ putAt self (keptOf (self .count) level) last ⌝ }
+    {
+        let n = kept(self.count, level);
+        if 4160 <= n {
+            return self;
+        }
+        let k = n / 64;
+        let mut levels = self.levels;
+        levels[k] = marked_word(levels[k], n % 64, last);
+        let top = self.top;
+        Indenter {
+            levels,
+            count: n + 1,
+            top,
+        }
+    }
+
+    // How many bytes `get_indent` writes.
+    pub fn indent_length(self) -> usize
+        requires { ⌜ self .count ≤ 4160 ⌝ }
+        ensures { λ r. ⌜ (r ≡ length (indent (self .top) (marksOf self))) × (r ≤ 20802) ⌝ }
+    {
+        length_of(&self.levels, self.count, self.top)
+    }
+
+    // The text before a line, at the start of the room.
+    pub fn get_indent(self, out: &mut [u8]) -> usize
+        requires { ⌜ self .count ≤ 4160 ⌝ }
+        requires { ⌜ length (indent (self .top) (marksOf self)) ≤ length (now out) ⌝ }
+        ensures { λ r. ⌜ Wrote (indent (self .top) (marksOf self)) (now (out .entry)) (now (out .exit)) r ⌝ }
+    {
+        put_indent(out, &self.levels, self.count, self.top)
+    }
+}
