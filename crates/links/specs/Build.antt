@@ -1,11 +1,11 @@
 -- The three chains of a settled graph in one table, as the loops build them, and what they then hold.
 use mathlib.Core.Path.{_≡_, refl, sym, ap, _∙_}
-use mathlib.Core.List.{List, [], _∷_}
+use mathlib.Core.List.{List, _∷_}
 use Prim.Native.Nat.{ℕ, zero, suc, _+_, _-_, _<_, _≤_}
 use native.Mathlib.Numerals.{add-one}
 use native.Mathlib.Omega.{arith}
-use lib.ListN.{length, getD, set, length-set}
-use Rattle.basis.specs.Chains.{Layout, Fits, fits-before, slot, Chained, Risen, linked, Beside, beside-low, beside-high, Only, only-none, only-twice, only-head, only-next, only-prev, Cleared, clear-none, clear-next, chain-clear, rise-clear, chain-next, rise-next, chain-only, chain-only-two}
+use lib.ListN.{length, set}
+use Rattle.basis.specs.Chains.{Layout, Fits, fits-before, slot, Chained, Risen, linked, Beside, beside-high, Only, only-none, only-twice, only-head, only-next, only-prev, Cleared, clear-none, clear-next, chain-clear, rise-clear, chain-next, rise-next, chain-only, chain-only-two}
 use Rattle.store.specs.declared.Size.{Size}
 use Rattle.store.specs.Table.{edgeIn, Stored, source-below, target-below}
 
@@ -71,36 +71,36 @@ wiped-next ls l at k q = rw (add-one k, q)
 pub wiped-all : (ls l : List ℕ) (at k n : ℕ) → l ≡ wiped ls at k → k ≤ n → n ≤ k → l ≡ wiped ls at n
 wiped-all ls l at k n q a b = let z : n ≡ k = omega arith in rw z q
 
-pub up-none : (L : Layout) (key : ℕ → ℕ) (ls : List ℕ) → ls ≡ linkedUp L key ls 0
+pub fill-none : (L : Layout) (key : ℕ → ℕ) (ls : List ℕ) → ls ≡ linkedUp L key ls 0
 unfolding linkedUp
-up-none L key ls = refl
+fill-none L key ls = refl
 
-pub up-next : (L : Layout) (key : ℕ → ℕ) (ls l k : List ℕ) (i n : ℕ) → l ≡ linkedUp L key ls i → k ≡ linked L l i n → n ≡ key i → k ≡ linkedUp L key ls (i + 1)
+pub fill-next : (L : Layout) (key : ℕ → ℕ) (ls l k : List ℕ) (i n : ℕ) → l ≡ linkedUp L key ls i → k ≡ linked L l i n → n ≡ key i → k ≡ linkedUp L key ls (i + 1)
 unfolding linkedUp
-up-next L key ls l k i n q r e = rw (add-one i, ← q, ← e) r
+fill-next L key ls l k i n q r e = rw (add-one i, ← q, ← e) r
 
-pub up-all : (L : Layout) (key : ℕ → ℕ) (ls l : List ℕ) (i m : ℕ) → l ≡ linkedUp L key ls i → i ≤ m → m ≤ i → l ≡ linkedUp L key ls m
-up-all L key ls l i m q a b = let z : m ≡ i = omega arith in rw z q
+pub fill-all : (L : Layout) (key : ℕ → ℕ) (ls l : List ℕ) (i m : ℕ) → l ≡ linkedUp L key ls i → i ≤ m → m ≤ i → l ≡ linkedUp L key ls m
+fill-all L key ls l i m q a b = let z : m ≡ i = omega arith in rw z q
 
-pub down-none : (L : Layout) (key : ℕ → ℕ) (ls : List ℕ) (m : ℕ) → ls ≡ linkedDown L key ls m (m - m)
+pub fall-none : (L : Layout) (key : ℕ → ℕ) (ls : List ℕ) (m : ℕ) → ls ≡ linkedDown L key ls m (m - m)
 unfolding linkedDown
-down-none L key ls m = let z : m - m ≡ 0 = omega arith in rw z
+fall-none L key ls m = let z : m - m ≡ 0 = omega arith in rw z
 
-pub down-next : (L : Layout) (key : ℕ → ℕ) (ls l k : List ℕ) (m j n : ℕ) → l ≡ linkedDown L key ls m (m - j) → k ≡ linked L l (j - 1) n → n ≡ key (j - 1) → 0 < j → j ≤ m → k ≡ linkedDown L key ls m (m - (j - 1))
+pub fall-next : (L : Layout) (key : ℕ → ℕ) (ls l k : List ℕ) (m j n : ℕ) → l ≡ linkedDown L key ls m (m - j) → k ≡ linked L l (j - 1) n → n ≡ key (j - 1) → 0 < j → j ≤ m → k ≡ linkedDown L key ls m (m - (j - 1))
 unfolding linkedDown
-down-next L key ls l k m j n q r e h jm =
+fall-next L key ls l k m j n q r e h jm =
     let z : m - (j - 1) ≡ suc (m - j) = omega arith in
     let y : m - suc (m - j) ≡ j - 1 = omega arith in
     rw (z, linkedDown, y, ← q, ← e) r
 
-pub down-all : (L : Layout) (key : ℕ → ℕ) (ls l : List ℕ) (m j : ℕ) → l ≡ linkedDown L key ls m (m - j) → j ≤ 0 → l ≡ linkedDown L key ls m m
-down-all L key ls l m j q h = let z : m ≡ m - j = omega arith in q ∙ ap (linkedDown L key ls m) (sym z)
+pub fall-all : (L : Layout) (key : ℕ → ℕ) (ls l : List ℕ) (m j : ℕ) → l ≡ linkedDown L key ls m (m - j) → j ≤ 0 → l ≡ linkedDown L key ls m m
+fall-all L key ls l m j q h = let z : m ≡ m - j = omega arith in q ∙ ap (linkedDown L key ls m) (sym z)
 
 pub ruleset wipes = (wiped-none, wiped-next, wiped-all)
 
-pub ruleset ups = (up-none, up-next, up-all)
+pub ruleset fills = (fill-none, fill-next, fill-all)
 
-pub ruleset downs = (down-none, down-next, down-all)
+pub ruleset falls = (fall-none, fall-next, fall-all)
 
 -- n, the key that a read gave
 pub source-key : (g : List ℕ) (i n : ℕ) → n ≡ edgeIn g i .source → n ≡ sourceOf g i

@@ -1,10 +1,10 @@
 -- Walking the chains: what is left to walk at a stored value, as edges of the graph. The loop is
 -- `let mut e = first(n); while 0 < e { .. edge e - 1 ..; e = next(e - 1); }`. Crates above use these laws and no layout.
 use mathlib.Core.Path.{_≡_, refl, sym, ap, _∙_}
-use mathlib.Core.Bool.{Bool, true, false}
+use mathlib.Core.Bool.{Bool}
 use mathlib.Core.Logic.{inl, inr}
 use mathlib.Core.List.{List, [], _∷_, _++_, map, reverse, reverse-cons, reverse-reverse}
-use Prim.Native.Nat.{ℕ, zero, suc, _+_, _-_, _<_, _≤_}
+use Prim.Native.Nat.{ℕ, _-_, _<_, _≤_}
 use native.Mathlib.Omega.{arith}
 use lib.ListN.{length, getD, take}
 use lib.Seq.{take-length}
@@ -13,12 +13,12 @@ use borrow.Author.Tests.{lt-ltb, le-ltb}
 use Rattle.basis.specs.Lists.{filter}
 use Rattle.basis.specs.Members.{In, split}
 use Rattle.basis.specs.Guard.{guard}
-use Rattle.basis.specs.Chains.{Layout, slot, Chained, Risen, Agree, downs, ups}
+use Rattle.basis.specs.Chains.{Layout, slot, downs, ups}
 use Rattle.basis.specs.Walks as K
 use Rattle.basis.specs.Walks.{Down, Up, upFrom, upLeft}
 use Rattle.store.specs.declared.Edge.{Edge}
 use Rattle.store.specs.declared.Size.{Size}
-use Rattle.store.specs.Graph.{Graph, out, into}
+use Rattle.store.specs.Graph.{out, into}
 use Rattle.store.specs.Table.{graphIn, edgeIn, noEdge, Stored, edge-in, edges-count, source-below, target-below}
 use Rattle.links.specs.Build.{outLay, inLay, oldLay, sourceOf, targetOf, Chains}
 

@@ -1,7 +1,7 @@
 -- What `reached` means: a node is reached just where a path of edges leads to it from node 0.
-use mathlib.Core.Path.{_≡_, refl, sym, ap, _∙_}
+use mathlib.Core.Path.{_≡_, refl, ap}
 use mathlib.Core.Logic.{_⊎_, inl, inr}
-use mathlib.Core.Bool.{Bool, true, false, _&&_, _||_, not, false≢true}
+use mathlib.Core.Bool.{Bool, true, false, _&&_, _||_, false≢true}
 use mathlib.Core.List.{List, [], _∷_}
 use Prim.Native.Nat.{ℕ, zero, suc, _+_, _<_, _≤_}
 use native.Mathlib.Omega.{arith}
@@ -9,7 +9,7 @@ use lib.ListN.{length}
 use lib.Dec.{eqb}
 use borrow.Author.Tests.{eqb-true, eqb-false, eq-eqb}
 use Rattle.basis.specs.Lists.{any, filter, has, upto}
-use Rattle.basis.specs.Members.{split, either, no-both, In, Distinct, in-filter, filter-in, any-in, any-some, has-in, has-out, in-has, pigeon}
+use Rattle.basis.specs.Members.{split, either, In, Distinct, in-filter, filter-in, any-in, any-some, has-in, has-out, in-has, pigeon}
 use Rattle.store.specs.declared.Edge.{Edge}
 use Rattle.store.specs.Graph.{Graph, spread, rounds, reached}
 

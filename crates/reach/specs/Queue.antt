@@ -9,15 +9,15 @@ use Prim.Native.Nat.{ℕ, zero, suc, _+_, _-_, _<_, _≤_}
 use native.Mathlib.Nat.{not-suc-le-zero}
 use native.Mathlib.Numerals.{add-one}
 use native.Mathlib.Omega.{arith}
-use lib.ListN.{length, getD, take, set, replicate, length-set, length-replicate, getD-replicate}
+use lib.ListN.{length, getD, take, set, replicate, length-set}
 use lib.Seq.{take-suc-set, take-set-le, getD-set-same, getD-set-other, length-take-le}
 use lib.Dec.{eqb}
 use borrow.Author.Tests.{eqb-true, eqb-false, eq-eqb, ne-eqb}
-use Rattle.basis.specs.Lists.{filter, first, has, upto}
-use Rattle.basis.specs.Members.{split, either, no-both, In, Distinct, in-append, in-left, in-right, in-reverse, filter-in, pigeon}
+use Rattle.basis.specs.Lists.{first, has, upto}
+use Rattle.basis.specs.Members.{split, either, In, Distinct, in-append, in-left, in-right, in-reverse, filter-in, pigeon}
 use Rattle.store.specs.declared.Edge.{Edge}
 use Rattle.store.specs.declared.Size.{Size}
-use Rattle.store.specs.Graph.{Graph, out, reached, unreached}
+use Rattle.store.specs.Graph.{out, reached, unreached}
 use Rattle.store.specs.Table.{graphIn, edgeIn, noEdge, Stored, nodes-count, edges-count, edge-in, target-below}
 use Rattle.links.specs.Build.{Chains}
 use Rattle.links.specs.Walk.{Out, outLeft, firstOut, nextOut, out-start, out-all, out-next, out-less, out-cons, out-end, out-edge, out-source, out-target}
@@ -272,8 +272,6 @@ spread-less g s ls w h t n e r D p q = out-less g s ls n e r (D .at) p q
 pub spread-edge : (g : List ℕ) (s : Size) (ls w : List ℕ) (h t n e : ℕ) → Spreading g s ls w h t n e → 0 < e → e - 1 < s .edges
 spread-edge g s ls w h t n e D p = out-edge g s ls n e (D .at) p
 
-pub ruleset spreads = (spread-start, spread-next, spread-end)
-
 -- ---- the first table: node 0 marked, and alone in the queue
 
 abbrev blank : List ℕ
@@ -315,7 +313,7 @@ pub record Marked (g : List ℕ) (s : Size) (w : List ℕ) : Type 0 where
   pub marks : (n : ℕ) → n < s .nodes → unmarked w n ≡ not (has n (reached (graphIn g s)))
 
 module _ (g : List ℕ) (s : Size) (S : Stored g s) where
-  whole : Whole (graphIn g s)
+  pub whole : Whole (graphIn g s)
   whole = record { some = omega (arith, nodes-count g s S, S .some); ends = ends }
     where
       ends : (e : Edge) → In e (graphIn g s .edges) → e .target < length (graphIn g s .nodes)

@@ -2,7 +2,7 @@
 // queue over the chains of outgoing edges.
 ghost use mathlib.Core.Path.{_≡_};
 ghost use Prim.Native.Nat.{_+_, _<_, _≤_};
-ghost use lib.ListN.{length, replicate};
+ghost use lib.ListN.{replicate};
 ghost use Rattle.store.specs.Graph.{unreached};
 ghost use Rattle.store.specs.Table.{graphIn, edgeIn, Stored};
 ghost use Rattle.links.specs.Build.{Chains};

@@ -1,19 +1,18 @@
 -- Adding a node, an edge, a link: what the table holds after each way out is what the definitions of `Graph` say.
 use mathlib.Core.Path.{_≡_, refl, sym, ap, _∙_}
-use mathlib.Core.Bool.{Bool, true, false, cond}
+use mathlib.Core.Bool.{Bool, true, false}
 use mathlib.Core.Option.{Option, none, some}
 use mathlib.Core.List.{List, [], _∷_, _++_, map, map-append}
-use Prim.Native.Nat.{ℕ, zero, suc, _+_, _*_, _-_, _/_, _%_, _<_, _≤_}
+use Prim.Native.Nat.{ℕ, zero, suc, _+_, _/_, _%_, _<_, _≤_}
 use native.Mathlib.Numerals.{add-one}
 use native.Mathlib.Omega.{arith}
-use lib.ListN.{length, getD, take, drop, set, replicate, length-replicate, length-set, length-drop, length-map, drop-of-length-le}
+use lib.ListN.{length, getD, take, drop, set, replicate, length-replicate, length-set, length-drop, drop-of-length-le}
 use lib.Seq.{take-suc-set, take-set-le, drop-set-add, drop-set-lt, getD-set-same, getD-set-other, drop-cons, getD-take, getD-drop, length-take-le}
-use lib.Dec.{eqb, ltb}
+use lib.Dec.{eqb}
 use borrow.Author.Tests.{eqb-true, eqb-false, eq-eqb, ne-eqb, lt-ltb, le-ltb}
 use Rattle.basis.specs.Lists.{place, snoc}
 use Rattle.basis.specs.Members.{split}
 use Rattle.store.specs.declared.ConflictNode.{ConflictNode}
-use Rattle.store.specs.declared.ConflictNode.the-variants as N
 use Rattle.store.specs.declared.ConflictEdge.{ConflictEdge}
 use Rattle.store.specs.declared.Edge.{Edge}
 use Rattle.store.specs.declared.Size.{Size}
@@ -21,7 +20,7 @@ use Rattle.store.specs.declared.Put.{Put}
 use Rattle.store.specs.declared.Put.the-variants.{At, Full}
 use Rattle.store.specs.Graph.{Graph, Added, added, full, sameNode, startGraph, addNode, addEdge, addLink}
 use Rattle.store.specs.Words.{wordOf, nodeOf, edgeWord, edgeOf, nodeNumber, EdgeWord, NodeWord, node-back, same-word}
-use Rattle.store.specs.Table.{nodeWords, graphIn, Stored, Growing, addedIn, sizeOf, placeOf, nodes-count, edges-count}
+use Rattle.store.specs.Table.{nodeWords, graphIn, Growing, addedIn, sizeOf, placeOf, nodes-count, edges-count}
 
 -- ---- finding a word among the nodes' words
 
@@ -308,4 +307,9 @@ at-below a i j s q p e = rw e (rw q at p)
 pub at-small : (g : List ℕ) (a : Put) (i : ℕ) (s : Size) → a ≡ At i s → placeOf a < sizeOf a .nodes → Growing g (sizeOf a) → i < 128
 at-small g a i s q p G = let h : i < s .nodes = rw q at p in let P : Growing g s = rw q at G in omega (arith, P .stored .nodes-most)
 
-pub ruleset helds = (held-full, held-at, at-below, at-small)
+-- the same for whoever takes an answer of `add_node` or `link` apart; A is what the contract says
+pub at-added : (g : List ℕ) (a : Put) (A : Added) (i : ℕ) (s : Size) → a ≡ At i s → addedIn g a ≡ A → A ≡ added i (graphIn g s)
+at-added g a A i s q p = sym p ∙ ap (addedIn g) q
+
+pub full-added : (g : List ℕ) (a : Put) (A : Added) (s : Size) → a ≡ Full s → addedIn g a ≡ A → A ≡ full (graphIn g s)
+full-added g a A s q p = sym p ∙ ap (addedIn g) q

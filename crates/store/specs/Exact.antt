@@ -2,20 +2,18 @@
 -- the graph and the promise determines every word that was lent.
 use mathlib.Core.Path.{_≡_, refl, sym, ap, _∙_}
 use mathlib.Core.List.{List}
-use Prim.Native.Nat.{ℕ, zero, suc, _+_, _-_, _<_, _≤_}
+use Prim.Native.Nat.{ℕ, _+_, _-_, _<_, _≤_}
 use native.Mathlib.Omega.{arith}
 use lib.ListN.{length, getD}
 use lib.Seq.{ext-getD}
 use lib.Dec.{ltb}
 use borrow.Author.Tests.{ltb-true, ltb-false}
 use Rattle.basis.specs.Members.{split, clash}
-use Rattle.store.specs.declared.ConflictNode.{ConflictNode}
-use Rattle.store.specs.declared.Edge.{Edge}
 use Rattle.store.specs.declared.Size.{Size}
 use Rattle.store.specs.declared.Put.{Put}
 use Rattle.store.specs.declared.Put.the-variants.{At, Full}
-use Rattle.store.specs.Graph.{Graph, Added, added, full, nodeAt}
-use Rattle.store.specs.Words.{wordOf, nodeOf, edgeWord, edgeOf}
+use Rattle.store.specs.Graph.{Graph, nodeAt}
+use Rattle.store.specs.Words.{wordOf, nodeOf, edgeWord}
 use Rattle.store.specs.Table.{graphIn, edgeIn, noEdge, Stored, Growing, addedIn, sizeOf, nodes-count, edges-count, node-in, edge-in, node-read}
 
 size-same : (s t : Size) → s .nodes ≡ t .nodes → s .edges ≡ t .edges → s ≡ t

@@ -2,13 +2,12 @@
 use mathlib.Core.Bool.{Bool, true, false, cond, _&&_, _||_, not}
 use mathlib.Core.List.{List, [], _∷_, _++_, map, reverse}
 use mathlib.Core.Option.{Option, none, some}
-use Prim.Native.Nat.{ℕ, zero, suc, _+_, _-_}
+use Prim.Native.Nat.{ℕ, zero, suc, _-_}
 use lib.ListN.{length, getD, drop}
 use lib.Dec.{ltb, eqb}
 use Rattle.basis.specs.Lists.{any, filter, first, place, has, snoc, upto}
 use Rattle.store.specs.declared.ConflictNode.{ConflictNode}
 use Rattle.store.specs.declared.ConflictNode.the-variants as N
-use Rattle.store.specs.declared.ConflictCause.{ConflictCause}
 use Rattle.store.specs.declared.ConflictCause.the-variants as C
 use Rattle.store.specs.declared.ConflictEdge.{ConflictEdge}
 use Rattle.store.specs.declared.ConflictEdge.the-variants as W

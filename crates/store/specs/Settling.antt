@@ -1,25 +1,25 @@
 -- "If unresolved has no incoming edge it is removed, and the last node takes number 1": petgraph's `remove_node`, word by word.
 -- The last node's word goes to place 1, and the ends that were the last number become 1; edges keep their order.
 use mathlib.Core.Path.{_≡_, refl, sym, ap, _∙_}
-use mathlib.Core.Bool.{Bool, true, false, cond, not}
+use mathlib.Core.Bool.{Bool, true, false, not}
 use mathlib.Core.List.{List, [], _∷_, _++_, map, map-append}
 use Prim.Native.Nat.{ℕ, zero, suc, _+_, _*_, _-_, _/_, _%_, _<_, _≤_}
 use native.Mathlib.Nat.{not-suc-le-zero}
-use native.Mathlib.Numerals.{add-one, sub-one}
+use native.Mathlib.Numerals.{add-one}
 use native.Mathlib.Omega.{arith}
-use lib.ListN.{length, getD, take, drop, set, length-set, length-drop, length-map}
-use lib.Seq.{take-suc, take-suc-set, take-set-le, drop-set-add, drop-set-lt, getD-set-same, getD-set-other, getD-take, getD-drop, length-take-le}
+use lib.ListN.{length, getD, take, drop, set, length-set, length-drop}
+use lib.Seq.{take-suc, take-suc-set, take-set-le, drop-set-add, drop-set-lt, getD-set-same, getD-set-other, getD-drop}
 use lib.Dec.{eqb}
 use borrow.Author.Tests.{eqb-true, eqb-false, eq-eqb, ne-eqb}
 use Rattle.basis.specs.Lists.{any}
 use Rattle.basis.specs.Members.{split}
-use Rattle.basis.specs.Below.{allBelow, below-none, below-step, below-fails, below-at}
+use Rattle.basis.specs.Below.{allBelow, below-step, below-fails, below-at}
 use Rattle.store.specs.declared.ConflictNode.{ConflictNode}
 use Rattle.store.specs.declared.ConflictNode.the-variants as N
 use Rattle.store.specs.declared.Edge.{Edge}
 use Rattle.store.specs.declared.Size.{Size}
-use Rattle.store.specs.Graph.{Graph, renumber, renumberEdge, lastOf, front, settle}
-use Rattle.store.specs.Words.{wordOf, nodeOf, edgeWord, edgeOf, weightWord, weightOf}
+use Rattle.store.specs.Graph.{renumber, renumberEdge, lastOf, front, settle}
+use Rattle.store.specs.Words.{wordOf, nodeOf, edgeWord, edgeOf, weightWord}
 use Rattle.store.specs.Table.{nodeWords, graphIn, edgeIn, Stored, Growing, nodes-count}
 
 -- ---- does an edge lead to node 1

@@ -2,7 +2,7 @@
 // of `unresolved`. It knows nothing of records, and it alone knows the packing.
 ghost use mathlib.Core.Path.{_≡_};
 ghost use Prim.Native.Nat.{_+_, _*_, _<_, _≤_, _/_, _%_};
-ghost use lib.ListN.{length, getD, set, replicate};
+ghost use lib.ListN.{length, replicate};
 ghost use Rattle.store.specs.Graph.{startGraph, addNode, addEdge, addLink, renumber, settle, tryRequires, isConflict, isExcluded};
 ghost use Rattle.store.specs.Words.{weightOf, byKind, EdgeWord, CauseWord, WeightWord, NodeWord};
 ghost use Rattle.basis.specs.Below.{allBelow};

@@ -1,7 +1,7 @@
 use borrow.Author.Needs.{needs}
 use mathlib.Core.Path.{_≡_}
 use Prim.Native.Nat.{_≤_, _-_}
-use Rattle.links.specs.Build.{inLay, targetOf, linkedUp, ups, target-key, target-small}
+use Rattle.links.specs.Build.{inLay, targetOf, linkedUp, fills, target-key, target-small}
 use Rattle.links.proofs.fill_in.Statement.{statement}
 use Rattle.links.proofs.fill_in.Tie as tie
 
@@ -11,7 +11,7 @@ Inv-loop g ls₀ m i₀ ls i = (i ≤ m) × (ls ≡ linkedUp inLay (targetOf g) 
 abbrev μ-loop : tie.MeasureT-loop
 μ-loop g ls₀ m i₀ ls i = m - i
 
-ruleset laws = (needs, ups, target-key)
+ruleset laws = (needs, fills, target-key)
 
 pub fill-in-spec : {M : Type 1} → statement M
 fill-in-spec =

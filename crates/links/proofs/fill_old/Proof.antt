@@ -1,7 +1,7 @@
 use borrow.Author.Needs.{needs}
 use mathlib.Core.Path.{_≡_}
 use Prim.Native.Nat.{_≤_, _-_}
-use Rattle.links.specs.Build.{oldLay, sourceOf, linkedDown, downs, source-key, source-below-last}
+use Rattle.links.specs.Build.{oldLay, sourceOf, linkedDown, falls, source-key, source-below-last}
 use Rattle.links.proofs.fill_old.Statement.{statement}
 use Rattle.links.proofs.fill_old.Tie as tie
 
@@ -11,7 +11,7 @@ Inv-loop g ls₀ m j₀ ls j = (j ≤ m) × (ls ≡ linkedDown oldLay (sourceOf 
 abbrev μ-loop : tie.MeasureT-loop
 μ-loop g ls₀ m j₀ ls j = j
 
-ruleset laws = (needs, downs, source-key)
+ruleset laws = (needs, falls, source-key)
 
 pub fill-old-spec : {M : Type 1} → statement M
 fill-old-spec =

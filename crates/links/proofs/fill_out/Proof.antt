@@ -1,7 +1,7 @@
 use borrow.Author.Needs.{needs}
 use mathlib.Core.Path.{_≡_}
 use Prim.Native.Nat.{_≤_, _-_}
-use Rattle.links.specs.Build.{outLay, sourceOf, linkedUp, ups, source-key, source-small}
+use Rattle.links.specs.Build.{outLay, sourceOf, linkedUp, fills, source-key, source-small}
 use Rattle.links.proofs.fill_out.Statement.{statement}
 use Rattle.links.proofs.fill_out.Tie as tie
 
@@ -11,7 +11,7 @@ Inv-loop g ls₀ m i₀ ls i = (i ≤ m) × (ls ≡ linkedUp outLay (sourceOf g)
 abbrev μ-loop : tie.MeasureT-loop
 μ-loop g ls₀ m i₀ ls i = m - i
 
-ruleset laws = (needs, ups, source-key)
+ruleset laws = (needs, fills, source-key)
 
 pub fill-out-spec : {M : Type 1} → statement M
 fill-out-spec =

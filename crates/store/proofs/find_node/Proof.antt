@@ -1,7 +1,6 @@
 use borrow.Author.Needs.{needs}
 use mathlib.Core.Path.{_≡_}
 use Prim.Native.Nat.{_≤_, _-_}
-use lib.ListN.{length}
 use Rattle.store.specs.Adding.{findOf, findLeft, finds}
 use Rattle.store.proofs.find_node.Statement.{statement}
 use Rattle.store.proofs.find_node.Tie as tie

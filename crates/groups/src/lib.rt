@@ -1,0 +1,38 @@
+// Merge groups of a conflict graph (conflict.rs: `simplify`): each node's first member, by names given as numbers.
+mod keys;
+mod leads;
+pub mod names;
+
+ghost use mathlib.Core.Path.{_≡_};
+ghost use lib.ListN.{length};
+ghost use Rattle.store.specs.Table.{graphIn};
+ghost use Rattle.links.specs.Build.{Chains};
+ghost use Rattle.groups.specs.Leads.{titleIn, leadsTo};
+use store::Size;
+
+fn group_in(
+    g: &[u64; 1152],
+    s: Size,
+    ls: &[u16; 3456],
+    ids: &[u16; 128],
+    leads: &mut [u16; 128],
+    sigs: &mut [u32; 128],
+)
+    requires { ⌜ Chains (now g) s (now ls) ⌝ }
+    requires { ⌜ (length (now leads) ≡ 128) × (length (now sigs) ≡ 128) ⌝ }
+    ensures { λ _. ⌜ now (leads .exit) ≡ leadsTo (titleIn (now (ids .entry))) (graphIn (now (g .entry)) s) (s .nodes) (now (leads .entry)) ⌝ }
+{
+    leads::sign_all(g, s, ls, sigs);
+    leads::lead_all(g, s, ls, ids, sigs, leads);
+}
+
+// Each node's first member, its own number where it is unmerged. `ids` gives each solvable node a number that is equal where
+// the texts of the names are. Entries past the last node stay.
+pub fn group(g: &[u64; 1152], s: Size, ls: &[u16; 3456], ids: &[u16; 128], leads: &mut [u16; 128])
+    requires { ⌜ Chains (now g) s (now ls) ⌝ }
+    requires { ⌜ length (now leads) ≡ 128 ⌝ }
+    ensures { λ _. ⌜ now (leads .exit) ≡ leadsTo (titleIn (now (ids .entry))) (graphIn (now (g .entry)) s) (s .nodes) (now (leads .entry)) ⌝ }
+{
+    let mut sigs = [0u32; 128];
+    group_in(g, s, ls, ids, leads, &mut sigs);
+}

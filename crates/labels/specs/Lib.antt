@@ -1,0 +1,12 @@
+pub mod Order
+pub mod Runs
+pub mod Labels
+pub mod Samples
+pub mod Walks
+pub mod Ordered
+pub mod Facts
+pub mod Bounds
+pub mod Frames
+pub mod Scan
+pub mod Marks
+pub mod Passes

@@ -1,0 +1,56 @@
+// The node list as numbers: kind, number, both labels and group of each node in one word, from the tables of `labels` and
+// `groups`.
+ghost use mathlib.Core.Path.{_≡_};
+ghost use Prim.Native.Nat.{_<_};
+ghost use lib.ListN.{getD};
+ghost use Rattle.store.specs.Table.{graphIn, nodeIn, Stored};
+ghost use Rattle.listing.specs.Listing.{nodePart, entryOf, entriesTo};
+use store::ConflictNode;
+use store::Size;
+
+fn wide64(x: u16) -> u64
+    ensures { λ r. ⌜ (r ≡ x) × (r < 65536) ⌝ }
+{
+    x as u64
+}
+
+fn node_part(x: ConflictNode) -> u64
+    ensures { λ r. ⌜ (r ≡ nodePart x) × (r < 4294967296) ⌝ }
+{
+    match x {
+        ConflictNode::Root => 0,
+        ConflictNode::Solvable(s) => 1 + 65536 * wide64(s),
+        ConflictNode::UnresolvedDependency => 2,
+        ConflictNode::Excluded(r) => 3 + 65536 * wide64(r),
+    }
+}
+
+fn entry(g: &[u64; 1152], marks: &[u16; 128], leads: &[u16; 128], n: usize) -> u64
+    requires { ⌜ n < 128 ⌝ }
+    ensures { λ r. ⌜ r ≡ entryOf (nodeIn (now (g .entry)) n) (getD (now (marks .entry)) n 0) (getD (now (leads .entry)) n 0) ⌝ }
+{
+    let x = store::node_at(g, n);
+    let p = node_part(x);
+    let m = wide64(marks[n]);
+    let l = wide64(leads[n]);
+    p + 4294967296 * l + 281474976710656 * (m % 2) + 72057594037927936 * (m / 2 % 2)
+}
+
+// Each node's entry; words past the last node stay.
+pub fn list(
+    g: &[u64; 1152],
+    s: Size,
+    marks: &[u16; 128],
+    leads: &[u16; 128],
+    words: &mut [u64; 128],
+)
+    requires { ⌜ Stored (now g) s ⌝ }
+    ensures { λ _. ⌜ now (words .exit) ≡ entriesTo (graphIn (now (g .entry)) s) (now (marks .entry)) (now (leads .entry)) (s .nodes) (now (words .entry)) ⌝ }
+{
+    let mut n: usize = 0;
+    while n < s.nodes {
+        let v = entry(g, marks, leads, n);
+        words[n] = v;
+        n += 1;
+    }
+}
