@@ -1,6 +1,6 @@
 -- What a writer leaves in the room that it was lent, and one writer behind another: "Each line is written behind the
 -- earlier ones in the lent room".
-use mathlib.Core.Path.{_≡_, refl, sym}
+use mathlib.Core.Path.{_≡_, refl, sym, _∙_}
 use mathlib.Core.List.{List, [], _∷_, _++_, append-assoc, append-nil}
 use Prim.Native.Nat.{ℕ, _+_, _-_, _≤_}
 use native.Mathlib.Omega.{arith}
@@ -43,3 +43,7 @@ behind {t} {u} {o} {d} {e} {n} {m} w v =
 -- the room keeps its length
 pub wrote-length : {t o d : List ℕ} {n : ℕ} → Wrote t o d n → length d ≡ length o
 wrote-length {t} {o} {d} {n} w = rw (w .leaves, length-append, length-drop) (omega (arith, w .fits))
+
+-- two results that the relation allows are equal
+pub wrote-one : {t o d e : List ℕ} {n m : ℕ} → Wrote t o d n → Wrote t o e m → (d ≡ e) × (n ≡ m)
+wrote-one w v = (w .leaves ∙ sym (v .leaves), w .count ∙ sym (v .count))
