@@ -1,15 +1,65 @@
 -- What a node's word says, and a list filled with the entries of a table of words.
 use mathlib.Core.Path.{_≡_, refl, sym, _∙_, ap}
 use mathlib.Core.List.{List, [], _∷_, _++_, map}
-use Prim.Native.Nat.{ℕ, zero, suc, _/_, _%_, _≤_}
+use Prim.Native.Nat.{ℕ, zero, suc, _+_, _*_, _/_, _%_, _≤_, _<_, min}
 use native.Mathlib.Omega.{arith}
-use lib.ListN.{length, getD, take, drop, set, length-set, length-map}
+use lib.ListN.{length, getD, take, drop, set, length-set, length-map, length-take}
 use lib.Seq.{take-suc, drop-cons, append-snoc, set-at, length-take-le}
 use Rattle.entries.specs.declared.NodeEntry.{NodeEntry}
 
 -- "kind and number as in `ConflictNode`, 0 where it has none; group the node number of its first member", "both labels"
 abbrev pub entryOf : ℕ → NodeEntry
 entryOf w = record { kind = w % 65536; number = w / 65536 % 65536; group = w / 4294967296 % 65536; installable = w / 281474976710656 % 256; missing = w / 72057594037927936 % 256 }
+
+-- an entry as one word, its first field lowest
+abbrev pub wordOf : NodeEntry → ℕ
+wordOf e = e .kind + 65536 * e .number + 4294967296 * e .group + 281474976710656 * e .installable + 72057594037927936 * e .missing
+
+-- each field keeps to its width: 16 bits, and 8 for a label
+pub record Narrow (e : NodeEntry) : Type 0 where
+  pub kind-fits : e .kind < 65536
+  pub number-fits : e .number < 65536
+  pub group-fits : e .group < 65536
+  pub installable-fits : e .installable < 256
+  pub missing-fits : e .missing < 256
+
+module _ (k n g i m : ℕ) (hk : k < 65536) (hn : n < 65536) (hg : g < 65536) (hi : i < 256) (hm : m < 256) where
+  abbrev word : ℕ
+  word = k + 65536 * n + 4294967296 * g + 281474976710656 * i + 72057594037927936 * m
+
+  at-kind : word % 65536 ≡ k
+  at-kind = omega (arith, hk)
+
+  at-number : word / 65536 % 65536 ≡ n
+  at-number =
+      let q : word / 65536 ≡ n + 65536 * g + 4294967296 * i + 1099511627776 * m = omega (arith, hk) in
+      let r : (n + 65536 * g + 4294967296 * i + 1099511627776 * m) % 65536 ≡ n = omega (arith, hn) in
+      rw q r
+
+  at-group : word / 4294967296 % 65536 ≡ g
+  at-group =
+      let q : word / 4294967296 ≡ g + 65536 * i + 16777216 * m = omega (arith, hk, hn) in
+      let r : (g + 65536 * i + 16777216 * m) % 65536 ≡ g = omega (arith, hg) in
+      rw q r
+
+  at-installable : word / 281474976710656 % 256 ≡ i
+  at-installable =
+      let q : word / 281474976710656 ≡ i + 256 * m = omega (arith, hk, hn, hg) in
+      let r : (i + 256 * m) % 256 ≡ i = omega (arith, hi) in
+      rw q r
+
+  at-missing : word / 72057594037927936 % 256 ≡ m
+  at-missing =
+      let q : word / 72057594037927936 ≡ m = omega (arith, hk, hn, hg, hi) in
+      let r : m % 256 ≡ m = omega (arith, hm) in
+      rw q r
+
+  fields-back : entryOf word ≡ record { kind = k; number = n; group = g; installable = i; missing = m }
+  fields-back = rw (at-kind, at-number, at-group, at-installable, at-missing)
+
+-- what is packed comes back
+pub entry-word : (e : NodeEntry) → Narrow e → entryOf (wordOf e) ≡ e
+entry-word e h = fields-back (e .kind) (e .number) (e .group) (e .installable) (e .missing) (h .kind-fits) (h .number-fits) (h .group-fits) (h .installable-fits) (h .missing-fits)
 
 -- the entry of word i
 unfoldable pub entryAt : List ℕ → ℕ → NodeEntry
@@ -52,3 +102,18 @@ fill-whole ws (suc i) l h k =
     ∙ (set-at front (getD l i e) (drop (suc i) l) e i (length-front ws i h′)
     ∙ (sym (append-snoc front e (drop (suc i) l))
     ∙ ap (λ (t : List NodeEntry). t ++ drop (suc i) l) (sym (ap (map entryOf) (take-suc ws i 0 h) ∙ map-snoc (take i ws) (getD ws i 0)))))
+
+abbrev pub Narrows : List NodeEntry → Type 0
+Narrows [] = Unit {0}
+Narrows (e ∷ es) = Narrow e × Narrows es
+
+pub entries-back : (es : List NodeEntry) → Narrows es → map entryOf (map wordOf es) ≡ es
+entries-back [] h = refl
+entries-back (e ∷ es) h = ap (λ (y : NodeEntry). y ∷ map entryOf (map wordOf es)) (entry-word e (h .0)) ∙ ap (λ (t : List NodeEntry). e ∷ t) (entries-back es (h .1))
+
+-- the list where the first n words are those of n entries: the entries, then what stood there
+pub fill-entries : (es : List NodeEntry) (ws : List ℕ) (n : ℕ) (l : List NodeEntry) → take n ws ≡ map wordOf es → length es ≡ n → Narrows es → n ≤ length l → fillTo ws n l ≡ es ++ drop n l
+fill-entries es ws n l p c h k =
+    let m : min n (length ws) ≡ n = sym (length-take n ws) ∙ (ap length p ∙ (length-map es wordOf ∙ c)) in
+    let inside : n ≤ length ws = omega (arith, m) in
+    fill-whole ws n l inside k ∙ ap (λ (t : List NodeEntry). t ++ drop n l) (ap (map entryOf) p ∙ entries-back es h)

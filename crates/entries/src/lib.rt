@@ -3,7 +3,7 @@
 ghost use mathlib.Core.Path.{_≡_};
 ghost use Prim.Native.Nat.{_<_, _≤_};
 ghost use lib.ListN.{length};
-ghost use Rattle.entries.specs.Entry.{entryAt, fillTo};
+ghost use Rattle.entries.specs.Entry.{entryAt, wordOf, fillTo};
 
 // One node as a host sees it, laid out as the C header's `urzulempa_node`.
 #[repr(C)]
@@ -15,7 +15,23 @@ pub struct NodeEntry {
     pub missing: u8,
 }
 
-// The entry of word i: kind, number and group of 16 bits each from the low end, then both labels of 8 bits each.
+// An entry as one word: kind, number and group of 16 bits each from the low end, then both labels of 8 bits each.
+pub fn word_of(e: NodeEntry) -> u64
+    ensures { λ r. ⌜ r ≡ wordOf e ⌝ }
+{
+    let kind = e.kind as u64;
+    let number = e.number as u64;
+    let group = e.group as u64;
+    let installable = e.installable as u64;
+    let missing = e.missing as u64;
+    kind
+        + 65536 * number
+        + 4294967296 * group
+        + 281474976710656 * installable
+        + 72057594037927936 * missing
+}
+
+// The entry of word i.
 pub fn entry_at(words: &[u64; 128], i: usize) -> NodeEntry
     requires { ⌜ i < 128 ⌝ }
     ensures { λ r. ⌜ r ≡ entryAt (now (words .entry)) i ⌝ }

@@ -1,0 +1,114 @@
+-- What each clause of the core adds to the graph, to the triples made and to the last solvables (conflict.rs: `Conflict::graph`;
+-- document 01, "Graph rules").
+use mathlib.Core.Bool.{Bool, true, false}
+use mathlib.Core.List.{List, [], _∷_, map}
+use Prim.Native.Nat.{ℕ, zero, suc}
+use lib.ListN.{getD, set, replicate}
+use Rattle.basis.specs.Lists.{any, snoc}
+use Rattle.records.specs.declared.Clause.{Clause}
+use Rattle.records.specs.declared.Clause.the-variants as C
+use Rattle.records.specs.Tables.{Tables}
+use Rattle.records.specs.Views.{originOf, auxPartners}
+use Rattle.store.specs.declared.ConflictNode.{ConflictNode}
+use Rattle.store.specs.declared.ConflictNode.the-variants as N
+use Rattle.store.specs.declared.ConflictCause.the-variants as K
+use Rattle.store.specs.declared.ConflictEdge.the-variants as W
+use Rattle.store.specs.Graph.{Graph, startGraph, Added, added, full, addNode, addEdge, addLink}
+use Rattle.triples.specs.Triple.{Triple, triple, sameTriple}
+use Rattle.linking.specs.declared.Party.{Party}
+use Rattle.linking.specs.declared.Party.the-variants.{Node, Neither}
+use Rattle.linking.specs.Links.{partyOf, solvableIn, nameIn, parentReason, excludedReason, partnersOr, requirers, Linked, more, short, linkAll, requiresOf, excludedLinks, lockLinks, constrainsLinks, forbidAll}
+use Rattle.expansion.specs.declared.Side.{Side}
+use Rattle.expansion.specs.declared.Side.the-variants.{Parent, Candidate}
+
+-- ---- building
+
+-- the graph so far, the last solvable + 1 under each forbidden name (`last_node_by_name`), and the triples made (`constrains_edges`)
+pub record Build : Type 0 where
+  pub graph : Graph
+  pub last : List ℕ
+  pub made : List Triple
+
+abbrev pub startBuild : Build
+startBuild = record { graph = startGraph; last = replicate 128 0; made = [] }
+
+pub data Step : Type 0 where
+  on : Build → Step
+  -- 8, with the graph as far as it came
+  stop : Graph → Step
+
+abbrev pub kept : Build → Linked → Step
+kept b (more g) = on (record { graph = g; last = b .last; made = b .made })
+kept b (short g) = stop g
+
+-- "Each triple .. makes one edge"
+abbrev pub noted : Build → Triple → Added → Step
+noted b t (added i g) = on (record { graph = g; last = b .last; made = snoc (b .made) t })
+noted b t (full g) = stop g
+
+unfoldable pub once : Build → Triple → Step
+unfolding addLink addNode addEdge
+once b t =
+    elim (any (sameTriple t) (b .made)) [
+      | true ↦ on b
+      | false ↦ noted b t (addLink (b .graph) (t .parent) (t .candidate) (W.Conflict (K.Constrains (t .vset))))
+    ]
+
+unfoldable pub onceAll : List Triple → Build → Step
+unfolding once
+onceAll [] b = on b
+onceAll (t ∷ rest) b = elim (once b t) [ stop g ↦ stop g | on c ↦ onceAll rest c ]
+
+-- the triple of the clause at hand: its own node, and one of the other side
+abbrev pub tripleBy : Side → ConflictNode → ℕ → ConflictNode → Triple
+tripleBy Parent p v d = triple p d v
+tripleBy Candidate d v p = triple p d v
+
+unfoldable pub triplesOf : Side → ConflictNode → ℕ → List ConflictNode → List Triple
+triplesOf side n v ms = map (tripleBy side n v) ms
+
+-- the other side of an auxiliary: for a parent the candidates that it excludes (kind 24), for a candidate the parents (kind 23)
+unfoldable pub others : Tables → Side → ℕ → List ConflictNode
+unfolding partnersOr auxPartners parentReason excludedReason
+others T Parent v = partnersOr T (auxPartners T 24 v) (excludedReason T v)
+others T Candidate v = partnersOr T (auxPartners T 23 v) (parentReason T v)
+
+-- clauses 23 and 24: the clause's own node with each of the other side
+abbrev pub pairAll : Tables → Side → ℕ → ℕ → Party → Build → Step
+pairAll T side b v Neither d = on d
+pairAll T side b v (Node n) d = onceAll (triplesOf side n v (others T side b)) d
+
+-- the solvable is now the last one under the name
+abbrev pub lastly : Build → ℕ → ℕ → Linked → Step
+lastly b n s (more g) = on (record { graph = g; last = set (b .last) n (suc s); made = b .made })
+lastly b n s (short g) = stop g
+
+abbrev pub forbidIn : Build → List ℕ → List ℕ → Step
+forbidIn b [] ns = on b
+forbidIn b (s ∷ ss) [] = on b
+forbidIn b (s ∷ ss) (n ∷ ns) = lastly b n s (forbidAll (b .graph) (getD (b .last) n 0) s)
+
+unfoldable pub forbid : Tables → ℕ → ℕ → Build → Step
+unfolding originOf forbidAll
+forbid T x y b = forbidIn b (solvableIn (originOf T x)) (nameIn (originOf T y))
+
+unfoldable pub pair : Tables → Side → ℕ → ℕ → ℕ → Build → Step
+unfolding onceAll triplesOf others partyOf
+pair T side a b v d = pairAll T side b v (partyOf T a) d
+
+-- one clause of the core; Learnt is refused before
+abbrev pub expandBy : Tables → Build → Clause → Step
+expandBy T d C.InstallRoot = on d
+expandBy T d (C.Excluded a r) = kept d (linkAll (excludedLinks T a r) (d .graph))
+expandBy T d C.Learnt = on d
+expandBy T d (C.Requires a q) = kept d (linkAll (requiresOf T q (requirers T a)) (d .graph))
+expandBy T d (C.Lock a b) = kept d (linkAll (lockLinks T a b) (d .graph))
+expandBy T d (C.ForbidMultipleInstances a b) = forbid T a b d
+expandBy T d (C.Constrains a b v) = kept d (linkAll (constrainsLinks T a b v) (d .graph))
+expandBy T d (C.ConstrainsParent a b v) = pair T Parent a b v d
+expandBy T d (C.ConstrainsExcluded a b v) = pair T Candidate a b v d
+expandBy T d (C.AnyOf a b) = on d
+
+unfoldable pub expand : Tables → Clause → Build → Step
+unfolding linkAll excludedLinks requiresOf requirers lockLinks forbid constrainsLinks pair
+expand T c b = expandBy T b c

@@ -1,0 +1,3 @@
+pub mod Expand
+pub mod Pairing
+pub mod Forbidding

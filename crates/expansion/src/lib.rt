@@ -1,0 +1,360 @@
+// What each clause of the core adds (conflict.rs: `Conflict::graph`): links, and for clauses 21, 23 and 24 also what is
+// remembered, the last solvable under a forbidden name and the triples made.
+ghost use mathlib.Core.Path.{_≡_};
+ghost use Prim.Native.Nat.{_<_, _≤_};
+ghost use Rattle.records.specs.Read.{tablesOf};
+ghost use Rattle.index.specs.Index.{Loaded};
+ghost use Rattle.views.specs.Walks.{auxFrom};
+ghost use Rattle.triples.specs.Triple.{triple};
+ghost use Rattle.linking.specs.Links.{asList, parentReason, excludedReason};
+ghost use Rattle.linking.specs.Requiring.{anyNode};
+ghost use Rattle.expansion.specs.Expand.{once, onceAll, triplesOf, others, pair, forbid, expand};
+ghost use Rattle.expansion.specs.Pairing.{buildIn, Holds, Expanded, pairsFrom, firstOther, otherReason};
+ghost use Rattle.expansion.specs.Forbidding.{widened};
+use linking::Grown;
+use linking::Party;
+use records::Clause;
+use records::Origin;
+use store::ConflictCause;
+use store::ConflictEdge;
+use store::ConflictNode;
+use store::Put;
+use store::Size;
+
+// The side of an auxiliary that a clause stands on: 23 holds a parent, 24 a candidate.
+pub enum Side {
+    Parent,
+    Candidate,
+}
+
+// How far building came: the graph's size and the number of triples made.
+pub struct Work {
+    pub size: Size,
+    pub triples: usize,
+}
+
+// How a clause went.
+pub enum Progress {
+    On(Work),
+    Full(Size),
+}
+
+// The edge of a triple, unless it was made before.
+fn make_once(
+    g: &mut [u64; 1152],
+    tr: &mut [u64; 1024],
+    w: &mut [u16; 3456],
+    k: Work,
+    p: ConflictNode,
+    d: ConflictNode,
+    v: u16,
+) -> Progress
+    requires { ⌜ Holds (now g) (now tr) (now w) k ⌝ }
+    ensures { λ r. ⌜ Expanded (once (buildIn (now (g .entry)) (now (tr .entry)) (now (w .entry)) k) (triple p d v)) (now (g .exit)) (now (tr .exit)) (now (w .exit)) r ⌝ }
+{
+    let t = triples::pack(p, d, v);
+    let n = k.triples;
+    if triples::made(tr, w, n, t) {
+        return Progress::On(k);
+    }
+    let s = k.size;
+    let a = store::link(
+        g,
+        s,
+        p,
+        d,
+        ConflictEdge::Conflict(ConflictCause::Constrains(v)),
+    );
+    match a {
+        Put::Full(z) => Progress::Full(z),
+        Put::At(_, z) => {
+            triples::make(tr, w, n, t);
+            Progress::On(Work {
+                size: z,
+                triples: n + 1,
+            })
+        }
+    }
+}
+
+// The triple of node n and party r of the other side, none where that names neither.
+fn pair_party(
+    g: &mut [u64; 1152],
+    tr: &mut [u64; 1024],
+    w: &mut [u16; 3456],
+    k: Work,
+    side: Side,
+    n: ConflictNode,
+    v: u16,
+    r: Party,
+) -> Progress
+    requires { ⌜ Holds (now g) (now tr) (now w) k ⌝ }
+    ensures { λ d. ⌜ Expanded (onceAll (triplesOf side n v (asList r)) (buildIn (now (g .entry)) (now (tr .entry)) (now (w .entry)) k)) (now (g .exit)) (now (tr .exit)) (now (w .exit)) d ⌝ }
+{
+    let Party::Node(m) = r else {
+        return Progress::On(k);
+    };
+    match side {
+        Side::Parent => make_once(g, tr, w, k, n, m, v),
+        Side::Candidate => make_once(g, tr, w, k, m, n, v),
+    }
+}
+
+// Some partner of an auxiliary, from the stored value x on, is the root or a solvable.
+fn aux_kept(file: &[u8], ix: &[u16; 10432], x: usize) -> bool
+    requires { ⌜ Loaded (now file) (now ix) ⌝ }
+    ensures { λ r. ⌜ r ≡ anyNode (tablesOf (now (file .entry))) (auxFrom (tablesOf (now (file .entry))) x) ⌝ }
+{
+    let mut y = x;
+    while 0 < y {
+        let i = y - 1;
+        let v = views::aux_partner(file, ix, i);
+        if linking::is_party(file, ix, v) {
+            return true;
+        }
+        y = views::next_partner(file, ix, i);
+    }
+    false
+}
+
+// The triples of node n with an auxiliary's partners from the stored value x on.
+fn pair_all(
+    file: &[u8],
+    ix: &[u16; 10432],
+    g: &mut [u64; 1152],
+    tr: &mut [u64; 1024],
+    w: &mut [u16; 3456],
+    k: Work,
+    side: Side,
+    n: ConflictNode,
+    v: u16,
+    x: usize,
+) -> Progress
+    requires { ⌜ Loaded (now file) (now ix) ⌝ }
+    requires { ⌜ Holds (now g) (now tr) (now w) k ⌝ }
+    ensures { λ d. ⌜ Expanded (onceAll (pairsFrom (tablesOf (now (file .entry))) side n v x) (buildIn (now (g .entry)) (now (tr .entry)) (now (w .entry)) k)) (now (g .exit)) (now (tr .exit)) (now (w .exit)) d ⌝ }
+{
+    let mut y = x;
+    let mut m = k;
+    while 0 < y {
+        let i = y - 1;
+        let c = views::aux_partner(file, ix, i);
+        let r = linking::named(file, ix, c);
+        let d = pair_party(g, tr, w, m, side, n, v, r);
+        match d {
+            Progress::Full(z) => return Progress::Full(z),
+            Progress::On(z) => {
+                m = z;
+                y = views::next_partner(file, ix, i);
+            }
+        }
+    }
+    Progress::On(m)
+}
+
+// The a of the clause that assigned auxiliary v, if that is ConstrainsParent.
+fn recover_parent(file: &[u8], ix: &[u16; 10432], v: u16) -> Party
+    requires { ⌜ Loaded (now file) (now ix) ⌝ }
+    ensures { λ r. ⌜ r ≡ parentReason (tablesOf (now (file .entry))) v ⌝ }
+{
+    let i = views::assigned_by(file, ix, v);
+    if i == 0 {
+        return Party::Neither;
+    }
+    let c = views::clause(file, ix, i - 1);
+    let Clause::ConstrainsParent(a, _, _) = c else {
+        return Party::Neither;
+    };
+    linking::named(file, ix, a)
+}
+
+// The same of ConstrainsExcluded.
+fn recover_excluded(file: &[u8], ix: &[u16; 10432], v: u16) -> Party
+    requires { ⌜ Loaded (now file) (now ix) ⌝ }
+    ensures { λ r. ⌜ r ≡ excludedReason (tablesOf (now (file .entry))) v ⌝ }
+{
+    let i = views::assigned_by(file, ix, v);
+    if i == 0 {
+        return Party::Neither;
+    }
+    let c = views::clause(file, ix, i - 1);
+    let Clause::ConstrainsExcluded(a, _, _) = c else {
+        return Party::Neither;
+    };
+    linking::named(file, ix, a)
+}
+
+// The first partner of the other side.
+fn first_other(file: &[u8], ix: &[u16; 10432], side: Side, v: u16) -> usize
+    requires { ⌜ Loaded (now file) (now ix) ⌝ }
+    ensures { λ r. ⌜ r ≡ firstOther (tablesOf (now (file .entry))) side v ⌝ }
+{
+    match side {
+        Side::Parent => views::first_excluded(file, ix, v),
+        Side::Candidate => views::first_parent(file, ix, v),
+    }
+}
+
+fn recover_other(file: &[u8], ix: &[u16; 10432], side: Side, v: u16) -> Party
+    requires { ⌜ Loaded (now file) (now ix) ⌝ }
+    ensures { λ r. ⌜ r ≡ otherReason (tablesOf (now (file .entry))) side v ⌝ }
+{
+    match side {
+        Side::Parent => recover_excluded(file, ix, v),
+        Side::Candidate => recover_parent(file, ix, v),
+    }
+}
+
+// The triples of node n with the whole other side of auxiliary b.
+fn pair_others(
+    file: &[u8],
+    ix: &[u16; 10432],
+    g: &mut [u64; 1152],
+    tr: &mut [u64; 1024],
+    w: &mut [u16; 3456],
+    k: Work,
+    side: Side,
+    n: ConflictNode,
+    v: u16,
+    b: u16,
+) -> Progress
+    requires { ⌜ Loaded (now file) (now ix) ⌝ }
+    requires { ⌜ Holds (now g) (now tr) (now w) k ⌝ }
+    ensures { λ d. ⌜ Expanded (onceAll (triplesOf side n v (others (tablesOf (now (file .entry))) side b)) (buildIn (now (g .entry)) (now (tr .entry)) (now (w .entry)) k)) (now (g .exit)) (now (tr .exit)) (now (w .exit)) d ⌝ }
+{
+    let x = first_other(file, ix, side, b);
+    if aux_kept(file, ix, x) {
+        return pair_all(file, ix, g, tr, w, k, side, n, v, x);
+    }
+    let r = recover_other(file, ix, side, b);
+    pair_party(g, tr, w, k, side, n, v, r)
+}
+
+// Clauses 23 and 24.
+fn expand_pair(
+    file: &[u8],
+    ix: &[u16; 10432],
+    g: &mut [u64; 1152],
+    tr: &mut [u64; 1024],
+    w: &mut [u16; 3456],
+    k: Work,
+    side: Side,
+    a: u16,
+    b: u16,
+    v: u16,
+) -> Progress
+    requires { ⌜ Loaded (now file) (now ix) ⌝ }
+    requires { ⌜ Holds (now g) (now tr) (now w) k ⌝ }
+    ensures { λ d. ⌜ Expanded (pair (tablesOf (now (file .entry))) side a b v (buildIn (now (g .entry)) (now (tr .entry)) (now (w .entry)) k)) (now (g .exit)) (now (tr .exit)) (now (w .exit)) d ⌝ }
+{
+    let r = linking::named(file, ix, a);
+    let Party::Node(n) = r else {
+        return Progress::On(k);
+    };
+    pair_others(file, ix, g, tr, w, k, side, n, v, b)
+}
+
+fn widen(k: Work, r: Grown) -> Progress
+    ensures { λ d. ⌜ d ≡ widened k r ⌝ }
+{
+    match r {
+        Grown::On(s) => Progress::On(Work {
+            size: s,
+            triples: k.triples,
+        }),
+        Grown::Full(s) => Progress::Full(s),
+    }
+}
+
+fn expand_forbid(
+    file: &[u8],
+    ix: &[u16; 10432],
+    g: &mut [u64; 1152],
+    tr: &[u64; 1024],
+    w: &mut [u16; 3456],
+    k: Work,
+    a: u16,
+    b: u16,
+) -> Progress
+    requires { ⌜ Loaded (now file) (now ix) ⌝ }
+    requires { ⌜ Holds (now g) (now tr) (now w) k ⌝ }
+    ensures { λ d. ⌜ Expanded (forbid (tablesOf (now (file .entry))) a b (buildIn (now (g .entry)) (now (tr .entry)) (now (w .entry)) k)) (now (g .exit)) (now (tr .entry)) (now (w .exit)) d ⌝ }
+{
+    let o = views::origin(file, ix, a);
+    let Origin::Solvable(n) = o else {
+        return Progress::On(k);
+    };
+    let u = views::origin(file, ix, b);
+    let Origin::ForbidMultiple(m) = u else {
+        return Progress::On(k);
+    };
+    let name = basis::wide16(m);
+    let p = triples::last_under(w, name);
+    let s = k.size;
+    let r = linking::add_forbidden(g, s, p, n);
+    triples::note_last(w, name, n);
+    widen(k, r)
+}
+
+// One clause of the core.
+pub fn expand(
+    file: &[u8],
+    ix: &[u16; 10432],
+    g: &mut [u64; 1152],
+    tr: &mut [u64; 1024],
+    w: &mut [u16; 3456],
+    k: Work,
+    c: Clause,
+) -> Progress
+    requires { ⌜ Loaded (now file) (now ix) ⌝ }
+    requires { ⌜ Holds (now g) (now tr) (now w) k ⌝ }
+    ensures { λ d. ⌜ Expanded (expand (tablesOf (now (file .entry))) c (buildIn (now (g .entry)) (now (tr .entry)) (now (w .entry)) k)) (now (g .exit)) (now (tr .exit)) (now (w .exit)) d ⌝ }
+{
+    let s = k.size;
+    match c {
+        Clause::InstallRoot => Progress::On(k),
+        Clause::Excluded(a, r) => {
+            let u = linking::expand_excluded(file, ix, g, s, a, r);
+            widen(k, u)
+        }
+        Clause::Learnt => Progress::On(k),
+        Clause::Requires(a, q) => {
+            let u = linking::expand_requires(file, ix, g, s, a, q);
+            widen(k, u)
+        }
+        Clause::Lock(a, b) => {
+            let u = linking::expand_lock(file, ix, g, s, a, b);
+            widen(k, u)
+        }
+        Clause::ForbidMultipleInstances(a, b) => expand_forbid(file, ix, g, tr, w, k, a, b),
+        Clause::Constrains(a, b, v) => {
+            let u = linking::expand_constrains(file, ix, g, s, a, b, v);
+            widen(k, u)
+        }
+        Clause::ConstrainsParent(a, b, v) => expand_pair(
+            file,
+            ix,
+            g,
+            tr,
+            w,
+            k,
+            Side::Parent,
+            a,
+            b,
+            v,
+        ),
+        Clause::ConstrainsExcluded(a, b, v) => expand_pair(
+            file,
+            ix,
+            g,
+            tr,
+            w,
+            k,
+            Side::Candidate,
+            a,
+            b,
+            v,
+        ),
+        Clause::AnyOf(_, _) => Progress::On(k),
+    }
+}

@@ -1,0 +1,212 @@
+-- Building over the tables: one clause, all clauses, the end. Each law is one way out of a function.
+use mathlib.Core.Path.{_≡_, refl, sym, ap, _∙_}
+use mathlib.Core.Bool.{Bool, true, false}
+use mathlib.Core.List.{List, [], _∷_}
+use mathlib.Core.Option.{Option, none, some}
+use Prim.Native.Nat.{ℕ, zero, suc, _+_, _-_, _<_, _≤_}
+use native.Mathlib.Numerals.{add-one}
+use native.Mathlib.Omega.{arith}
+use lib.ListN.{length, replicate}
+use Rattle.records.specs.declared.Clause.{Clause}
+use Rattle.records.specs.Tables.{Tables}
+use Rattle.records.specs.Views.{clauseOf, coreAt}
+use Rattle.store.specs.declared.Size.{Size}
+use Rattle.store.specs.Graph.{Graph, startGraph, settle, unreached}
+use Rattle.store.specs.Table.{graphIn, Stored, Growing}
+use Rattle.links.specs.Build.{Chains}
+use Rattle.reach.specs.Queue.{lowestOf}
+use Rattle.triples.specs.Triple.{Triples, lastIn, madeIn, triples-none, made-none, last-none, clear-fresh, Clear}
+use Rattle.expansion.specs.declared.Work.{Work}
+use Rattle.expansion.specs.declared.Progress.{Progress}
+use Rattle.expansion.specs.declared.Progress.the-variants as P
+use Rattle.expansion.specs.Expand.{Build, Step, on, stop, startBuild, expand}
+use Rattle.expansion.specs.Pairing.{buildIn, Holds, progressIn, HoldsIn, Expanded}
+use Rattle.graph.specs.declared.Turn.{Turn}
+use Rattle.graph.specs.declared.Turn.the-variants as U
+use Rattle.graph.specs.declared.Drawing.{Drawing}
+use Rattle.graph.specs.declared.Drawing.the-variants as D
+use Rattle.graph.specs.declared.Core.{Core}
+use Rattle.graph.specs.declared.Core.the-variants as O
+use Rattle.graph.specs.Graphs.{isLearnt, Turned, go, halt, expanded, coreTurn, turnAt, Built, built, stopped, buildFrom, buildOf, Outcome, drawn, refused, finished, graphOf, leftOf}
+
+-- ---- one clause
+
+abbrev pub turnIn : List ℕ → List ℕ → List ℕ → Turn → Turned
+turnIn g tr w (U.On k) = go (buildIn g tr w k)
+turnIn g tr w (U.Refused q s) = halt q (graphIn g s)
+
+abbrev pub TurnHolds : List ℕ → List ℕ → List ℕ → Turn → Type 0
+TurnHolds g tr w (U.On k) = Holds g tr w k
+TurnHolds g tr w (U.Refused q s) = Growing g s
+
+-- the tables and answer r hold X
+pub record Turns (X : Turned) (g tr w : List ℕ) (r : Turn) : Type 0 where
+  pub is : turnIn g tr w r ≡ X
+  pub holds : TurnHolds g tr w r
+
+module _ (T : Tables) (c : Clause) (g tr w : List ℕ) (k : Work) (b : Bool) (q : b ≡ isLearnt c) where
+  pub core-learnt : b ≡ true → Holds g tr w k → Turns (coreTurn T c (buildIn g tr w k)) g tr w (U.Refused 7 (k .size))
+  core-learnt e H = record { is = rw ((sym q ∙ e), coreTurn); holds = H .growing }
+
+  module _ (h us m : List ℕ) (d : Progress) (e : b ≡ false) (R : Expanded (expand T c (buildIn g tr w k)) h us m d) where
+    turned : coreTurn T c (buildIn g tr w k) ≡ expanded (progressIn h us m d)
+    turned = rw ((sym q ∙ e), coreTurn) (ap expanded (sym (R .is)))
+
+    pub core-on : (n : Work) → d ≡ P.On n → Turns (coreTurn T c (buildIn g tr w k)) h us m (U.On n)
+    core-on n f = record { is = sym (turned ∙ ap (λ (p : Progress). expanded (progressIn h us m p)) f); holds = rw f at (R .holds) }
+
+    pub core-full : (z : Size) → d ≡ P.Full z → Turns (coreTurn T c (buildIn g tr w k)) h us m (U.Refused 8 z)
+    core-full z f = record { is = sym (turned ∙ ap (λ (p : Progress). expanded (progressIn h us m p)) f); holds = rw f at (R .holds) }
+
+pub ruleset cores = (core-learnt, core-on, core-full)
+
+module _ (T : Tables) (i : ℕ) (g tr w : List ℕ) (k : Work) (b : Bool) (q : b ≡ coreAt T i) where
+  pub turn-out : b ≡ false → Holds g tr w k → Turns (turnAt T i (buildIn g tr w k)) g tr w (U.On k)
+  unfolding turnAt
+  turn-out e H = record { is = rw ((sym q ∙ e), turnAt); holds = H }
+
+  pub turn-in : (c : Clause) (h us m : List ℕ) (d : Turn) → b ≡ true → c ≡ clauseOf T i → Turns (coreTurn T c (buildIn g tr w k)) h us m d → Turns (turnAt T i (buildIn g tr w k)) h us m d
+  unfolding turnAt
+  turn-in c h us m d e f R = record { is = R .is ∙ rw ((sym q ∙ e), turnAt) (ap (λ (x : Clause). coreTurn T x (buildIn g tr w k)) f); holds = R .holds }
+
+pub ruleset turns = (turn-out, turn-in)
+
+-- ---- all clauses
+
+abbrev pub coreIn : List ℕ → List ℕ → List ℕ → Core → Built
+coreIn g tr w (O.Whole k) = built (buildIn g tr w k)
+coreIn g tr w (O.Refused q i s) = stopped q i (graphIn g s)
+
+abbrev pub CoreHolds : List ℕ → List ℕ → List ℕ → Core → Type 0
+CoreHolds g tr w (O.Whole k) = Holds g tr w k
+CoreHolds g tr w (O.Refused q i s) = Growing g s
+
+pub record Builds (X : Built) (g tr w : List ℕ) (r : Core) : Type 0 where
+  pub is : coreIn g tr w r ≡ X
+  pub holds : CoreHolds g tr w r
+
+-- the clauses from number i on, of n, lead to X
+pub record Left (X : Built) (T : Tables) (n i : ℕ) (g tr w : List ℕ) (k : Work) : Type 0 where
+  pub left : buildFrom (n - i) T i (buildIn g tr w k) ≡ X
+  pub holds : Holds g tr w k
+  pub low : i ≤ n
+
+abbrev onward : ℕ → Tables → ℕ → Turned → Built
+onward n T i (halt q g) = stopped q i g
+onward n T i (go b) = buildFrom n T (suc i) b
+
+same-onward : (n : ℕ) (T : Tables) (i : ℕ) (t : Turned) → elim t [ halt k g ↦ stopped k i g | go d ↦ buildFrom n T (suc i) d ] ≡ onward n T i t
+same-onward n T i (halt q g) = refl
+same-onward n T i (go b) = refl
+
+build-suc : (n m : ℕ) (T : Tables) (i : ℕ) (b : Build) → m ≡ suc n → buildFrom m T i b ≡ onward n T i (turnAt T i b)
+unfolding buildFrom
+build-suc n m T i b e = rw e (same-onward n T i (turnAt T i b))
+
+pub left-start : (T : Tables) (n : ℕ) (g tr w : List ℕ) (k : Work) → Holds g tr w k → Left (buildFrom n T 0 (buildIn g tr w k)) T n 0 g tr w k
+left-start T n g tr w k H = let z : n - 0 ≡ n = omega arith in record { left = rw z; holds = H; low = omega arith }
+
+module _ (X : Built) (T : Tables) (n i : ℕ) (g tr w h us m : List ℕ) (k : Work) (d : Turn) (L : Left X T n i g tr w k) (l : i < n) (R : Turns (turnAt T i (buildIn g tr w k)) h us m d) where
+  rest : onward (n - (i + 1)) T i (turnIn h us m d) ≡ X
+  rest = ap (onward (n - (i + 1)) T i) (R .is) ∙ sym (build-suc (n - (i + 1)) (n - i) T i (buildIn g tr w k) (omega arith)) ∙ L .left
+
+  pub left-next : (j : Work) → d ≡ U.On j → Left X T n (i + 1) h us m j
+  left-next j e =
+      let z : buildFrom (n - (i + 1)) T (suc i) (buildIn h us m j) ≡ X = ap (λ (t : Turn). onward (n - (i + 1)) T i (turnIn h us m t)) (sym e) ∙ rest in
+      record { left = ap (λ (x : ℕ). buildFrom (n - (i + 1)) T x (buildIn h us m j)) (add-one i) ∙ z; holds = rw e at (R .holds); low = omega arith }
+
+  -- p is the clause's number, wider
+  pub left-stop : (q p : ℕ) (z : Size) → d ≡ U.Refused q z → p ≡ i → Builds X h us m (O.Refused q p z)
+  left-stop q p z e f = rw f (record { is = ap (λ (t : Turn). onward (n - (i + 1)) T i (turnIn h us m t)) (sym e) ∙ rest; holds = rw e at (R .holds) })
+
+pub left-end : (X : Built) (T : Tables) (n i : ℕ) (g tr w : List ℕ) (k : Work) → Left X T n i g tr w k → n ≤ i → Builds X g tr w (O.Whole k)
+unfolding buildFrom
+left-end X T n i g tr w k L h =
+    let z : n - i ≡ 0 = omega arith in
+    record { is = ap (λ (m : ℕ). buildFrom m T i (buildIn g tr w k)) (sym z) ∙ L .left; holds = L .holds }
+
+pub ruleset lefts = (left-start, left-next, left-stop, left-end)
+
+-- ---- the end
+
+abbrev pub drawingIn : List ℕ → Drawing → Outcome
+drawingIn g (D.Whole s) = drawn (graphIn g s)
+drawingIn g (D.Refused q i s) = refused q i
+
+abbrev pub drawingSize : Drawing → Size
+drawingSize (D.Whole s) = s
+drawingSize (D.Refused q i s) = s
+
+abbrev pub Chained : List ℕ → List ℕ → Drawing → Type 0
+Chained g w (D.Whole s) = Chains g s w
+Chained g w (D.Refused q i s) = Unit {0}
+
+-- outcome X and graph G are what table g and answer r hold; a drawn graph is chained in w
+pub record Drew (X : Outcome) (G : Graph) (g w : List ℕ) (r : Drawing) : Type 0 where
+  pub is : drawingIn g r ≡ X
+  pub holds : graphIn g (drawingSize r) ≡ G
+  pub stored : Stored g (drawingSize r)
+  pub chained : Chained g w r
+
+none-low : (o : Option ℕ) (u : ℕ) → u ≡ lowestOf o → u ≡ 0 → o ≡ none
+none-low none u q e = refl
+none-low (some n) u q e = let f : ⊥ = omega arith in absurd f
+
+some-low : (o : Option ℕ) (u : ℕ) → u ≡ lowestOf o → (u ≡ 0 → ⊥) → o ≡ some (u - 1)
+some-low none u q e = absurd (e q)
+some-low (some n) u q e = let z : n ≡ u - 1 = omega arith in ap some z
+
+-- t is what `settle` left in h, u what looking for a node that is not reached gave
+module _ (g h w : List ℕ) (s t : Size) (u : ℕ) (C : Chains h t w) (e : graphIn h t ≡ settle (graphIn g s)) (q : u ≡ lowestOf (unreached (graphIn h t))) where
+  pub end-drawn : u ≡ 0 → Drew (finished (settle (graphIn g s))) (settle (graphIn g s)) h w (D.Whole t)
+  unfolding finished
+  end-drawn z =
+      let y : unreached (settle (graphIn g s)) ≡ none = ap unreached (sym e) ∙ none-low (unreached (graphIn h t)) u q z in
+      record { is = rw (y, finished) (ap drawn e); holds = e; stored = C .stored; chained = C }
+
+  -- p is the node's number, wider
+  pub end-unreached : (p : ℕ) → (u ≡ 0 → ⊥) → p ≡ u - 1 → Drew (finished (settle (graphIn g s))) (settle (graphIn g s)) h w (D.Refused 9 p t)
+  unfolding finished
+  end-unreached p z f =
+      let y : unreached (settle (graphIn g s)) ≡ some (u - 1) = ap unreached (sym e) ∙ some-low (unreached (graphIn h t)) u q z in
+      record { is = rw (y, finished, f); holds = e; stored = C .stored; chained = tt }
+
+pub ruleset ends = (end-drawn, end-unreached)
+
+-- ---- the whole
+
+-- the tables as building starts: s is what `start` gave
+pub start-holds : (g tr w : List ℕ) (s : Size) → Growing g s → length tr ≡ 1024 → w ≡ replicate 3456 0 → Holds g tr w (record { size = s; triples = 0 })
+start-holds g tr w s P h e =
+    record { growing = P; triples = triples-none tr w (rw e clear-fresh) h; few = omega arith }
+
+start-build : (g tr w : List ℕ) (s : Size) → graphIn g s ≡ startGraph → w ≡ replicate 3456 0 → buildIn g tr w (record { size = s; triples = 0 }) ≡ startBuild
+start-build g tr w s q e =
+    let C : Clear w = rw e clear-fresh in
+    rw (q, made-none tr, last-none w C)
+
+module _ (T : Tables) (n : ℕ) (g tr w h us m : List ℕ) (s : Size) (r : Core) (a : n ≡ length (T .clauses)) (q : graphIn g s ≡ startGraph) (e : w ≡ replicate 3456 0) (R : Builds (buildFrom n T 0 (buildIn g tr w (record { size = s; triples = 0 }))) h us m r) where
+  whole : coreIn h us m r ≡ buildOf T
+  unfolding buildOf
+  whole = R .is ∙ ap (λ (x : ℕ). buildFrom x T 0 (buildIn g tr w (record { size = s; triples = 0 }))) a ∙ ap (buildFrom (length (T .clauses)) T 0) (start-build g tr w s q e)
+
+  pub build-refused : (k i : ℕ) (z : Size) → r ≡ O.Refused k i z → Drew (graphOf T) (leftOf T) h m (D.Refused k i z)
+  unfolding graphOf leftOf
+  build-refused k i z f =
+      let y : buildOf T ≡ stopped k i (graphIn h z) = sym whole ∙ ap (coreIn h us m) f in
+      let P : Growing h z = rw f at (R .holds) in
+      record { is = rw (y, graphOf); holds = rw (y, leftOf); stored = P .stored; chained = tt }
+
+  pub build-whole : (k : Work) (j v : List ℕ) (d : Drawing) → r ≡ O.Whole k → Drew (finished (settle (graphIn h (k .size)))) (settle (graphIn h (k .size))) j v d → Drew (graphOf T) (leftOf T) j v d
+  unfolding graphOf leftOf
+  build-whole k j v d f F =
+      let y : buildOf T ≡ built (buildIn h us m k) = sym whole ∙ ap (coreIn h us m) f in
+      record { is = F .is ∙ rw (y, graphOf); holds = F .holds ∙ rw (y, leftOf); stored = F .stored; chained = F .chained }
+
+  pub whole-growing : (k : Work) → r ≡ O.Whole k → Growing h (k .size)
+  whole-growing k f = let H : Holds h us m k = rw f at (R .holds) in H .growing
+
+  pub whole-wide : (k : Work) → r ≡ O.Whole k → length m ≡ 3456
+  whole-wide k f = let H : Holds h us m k = rw f at (R .holds) in H .triples .chained .wide
+
+pub ruleset builds = (build-refused, build-whole)

@@ -1,0 +1,75 @@
+-- The graph of a file's tables: "Core clauses go in file order", 7 and 8 on the way, then unresolved may go, then 9.
+use mathlib.Core.Bool.{Bool, true, false}
+use mathlib.Core.Option.{Option, none, some}
+use Prim.Native.Nat.{ℕ, zero, suc}
+use lib.ListN.{length}
+use Rattle.records.specs.declared.Clause.{Clause}
+use Rattle.records.specs.declared.Clause.the-variants as C
+use Rattle.records.specs.Tables.{Tables}
+use Rattle.records.specs.Views.{clauseOf, clauseIn, coreAt}
+use Rattle.store.specs.Graph.{Graph, settle, reached, unreached}
+use Rattle.expansion.specs.Expand.{Build, Step, on, stop, startBuild, expand}
+
+abbrev pub isLearnt : Clause → Bool
+isLearnt C.InstallRoot = false
+isLearnt (C.Excluded a b) = false
+isLearnt C.Learnt = true
+isLearnt (C.Requires a b) = false
+isLearnt (C.Lock a b) = false
+isLearnt (C.ForbidMultipleInstances a b) = false
+isLearnt (C.Constrains a b c) = false
+isLearnt (C.ConstrainsParent a b c) = false
+isLearnt (C.ConstrainsExcluded a b c) = false
+isLearnt (C.AnyOf a b) = false
+
+-- what one clause leads to: a refusal's number comes with the graph so far
+pub data Turned : Type 0 where
+  go : Build → Turned
+  halt : ℕ → Graph → Turned
+
+-- 8: no room
+abbrev pub expanded : Step → Turned
+expanded (on b) = go b
+expanded (stop g) = halt 8 g
+
+-- 7: "Learnt in the core"
+abbrev pub coreTurn : Tables → Clause → Build → Turned
+coreTurn T c b = elim (isLearnt c) [ true ↦ halt 7 (b .graph) | false ↦ expanded (expand T c b) ]
+
+unfoldable pub turnAt : Tables → ℕ → Build → Turned
+unfolding clauseOf clauseIn expand
+turnAt T i b = elim (coreAt T i) [ false ↦ go b | true ↦ coreTurn T (clauseOf T i) b ]
+
+-- the graph of the whole core, or a refusal with its number, its place and the graph so far
+pub data Built : Type 0 where
+  built : Build → Built
+  stopped : ℕ → ℕ → Graph → Built
+
+-- n clauses from number i on
+unfoldable pub buildFrom : ℕ → Tables → ℕ → Build → Built
+unfolding turnAt
+buildFrom zero T i b = built b
+buildFrom (suc n) T i b = elim (turnAt T i b) [ halt k g ↦ stopped k i g | go d ↦ buildFrom n T (suc i) d ]
+
+unfoldable pub buildOf : Tables → Built
+unfolding buildFrom
+buildOf T = buildFrom (length (T .clauses)) T 0 startBuild
+
+-- the finished graph, or 7, 8 or 9 with its place
+pub data Outcome : Type 0 where
+  drawn : Graph → Outcome
+  refused : ℕ → ℕ → Outcome
+
+-- 9: "lowest such node, numbered after unresolved may have gone"
+unfoldable pub finished : Graph → Outcome
+unfolding unreached reached
+finished g = elim (unreached g) [ none ↦ drawn g | some n ↦ refused 9 n ]
+
+unfoldable pub graphOf : Tables → Outcome
+unfolding buildOf finished settle
+graphOf T = elim (buildOf T) [ stopped k i g ↦ refused k i | built b ↦ finished (settle (b .graph)) ]
+
+-- the graph that building leaves: the drawn one; for 7 and 8 the graph so far; for 9 the one that is not reached as a whole
+unfoldable pub leftOf : Tables → Graph
+unfolding buildOf settle
+leftOf T = elim (buildOf T) [ stopped k i g ↦ g | built b ↦ settle (b .graph) ]

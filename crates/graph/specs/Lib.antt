@@ -1,0 +1,3 @@
+pub mod Graphs
+pub mod Drawing
+pub mod Cases

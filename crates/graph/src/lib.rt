@@ -1,0 +1,183 @@
+// The conflict graph of a loaded file (conflict.rs: `Conflict::graph`): its core's clauses in file order, then the removal of
+// `unresolved`, the chains and reachability; refusals 7, 8 and 9.
+ghost use mathlib.Core.Path.{_≡_};
+ghost use Prim.Native.Nat.{_<_, _≤_};
+ghost use lib.ListN.{length, replicate};
+ghost use Rattle.records.specs.Read.{tablesOf};
+ghost use Rattle.index.specs.Index.{Loaded};
+ghost use Rattle.store.specs.Graph.{settle};
+ghost use Rattle.store.specs.Table.{graphIn, Growing};
+ghost use Rattle.expansion.specs.Pairing.{buildIn, Holds};
+ghost use Rattle.graph.specs.Graphs.{isLearnt, coreTurn, turnAt, buildFrom, finished, graphOf, leftOf};
+ghost use Rattle.graph.specs.Drawing.{Turns, Builds, Drew};
+use expansion::Progress;
+use expansion::Work;
+use records::Clause;
+use store::Size;
+
+// Where one clause led: on, or to a refusal's number.
+pub enum Turn {
+    On(Work),
+    Refused(u64, Size),
+}
+
+// Where the core led: to its end, or to a refusal's number and the clause.
+pub enum Core {
+    Whole(Work),
+    Refused(u64, u64, Size),
+}
+
+// The graph, or a refusal's number and place; with how much the table holds.
+pub enum Drawing {
+    Whole(Size),
+    Refused(u64, u64, Size),
+}
+
+// A number as an answer holds it.
+fn number(i: usize) -> u64
+    ensures { λ r. ⌜ r ≡ i ⌝ }
+{
+    i as u64
+}
+
+fn is_learnt(c: Clause) -> bool
+    ensures { λ r. ⌜ r ≡ isLearnt c ⌝ }
+{
+    match c {
+        Clause::InstallRoot => false,
+        Clause::Excluded(_, _) => false,
+        Clause::Learnt => true,
+        Clause::Requires(_, _) => false,
+        Clause::Lock(_, _) => false,
+        Clause::ForbidMultipleInstances(_, _) => false,
+        Clause::Constrains(_, _, _) => false,
+        Clause::ConstrainsParent(_, _, _) => false,
+        Clause::ConstrainsExcluded(_, _, _) => false,
+        Clause::AnyOf(_, _) => false,
+    }
+}
+
+// A clause of the core: 7 for Learnt, 8 where there is no room.
+fn core_turn(
+    file: &[u8],
+    ix: &[u16; 10432],
+    g: &mut [u64; 1152],
+    tr: &mut [u64; 1024],
+    w: &mut [u16; 3456],
+    k: Work,
+    c: Clause,
+) -> Turn
+    requires { ⌜ Loaded (now file) (now ix) ⌝ }
+    requires { ⌜ Holds (now g) (now tr) (now w) k ⌝ }
+    ensures { λ r. ⌜ Turns (coreTurn (tablesOf (now (file .entry))) c (buildIn (now (g .entry)) (now (tr .entry)) (now (w .entry)) k)) (now (g .exit)) (now (tr .exit)) (now (w .exit)) r ⌝ }
+{
+    if is_learnt(c) {
+        let s = k.size;
+        return Turn::Refused(7, s);
+    }
+    let d = expansion::expand(file, ix, g, tr, w, k, c);
+    match d {
+        Progress::On(m) => Turn::On(m),
+        Progress::Full(z) => Turn::Refused(8, z),
+    }
+}
+
+// Clause i, which may be outside the core.
+fn turn_at(
+    file: &[u8],
+    ix: &[u16; 10432],
+    g: &mut [u64; 1152],
+    tr: &mut [u64; 1024],
+    w: &mut [u16; 3456],
+    k: Work,
+    i: usize,
+) -> Turn
+    requires { ⌜ Loaded (now file) (now ix) ⌝ }
+    requires { ⌜ Holds (now g) (now tr) (now w) k ⌝ }
+    ensures { λ r. ⌜ Turns (turnAt (tablesOf (now (file .entry))) i (buildIn (now (g .entry)) (now (tr .entry)) (now (w .entry)) k)) (now (g .exit)) (now (tr .exit)) (now (w .exit)) r ⌝ }
+{
+    if views::in_core(file, ix, i) {
+        let c = views::clause(file, ix, i);
+        return core_turn(file, ix, g, tr, w, k, c);
+    }
+    Turn::On(k)
+}
+
+// The first n clauses.
+fn build_core(
+    file: &[u8],
+    ix: &[u16; 10432],
+    n: usize,
+    g: &mut [u64; 1152],
+    tr: &mut [u64; 1024],
+    w: &mut [u16; 3456],
+    k: Work,
+) -> Core
+    requires { ⌜ Loaded (now file) (now ix) ⌝ }
+    requires { ⌜ Holds (now g) (now tr) (now w) k ⌝ }
+    ensures { λ r. ⌜ Builds (buildFrom n (tablesOf (now (file .entry))) 0 (buildIn (now (g .entry)) (now (tr .entry)) (now (w .entry)) k)) (now (g .exit)) (now (tr .exit)) (now (w .exit)) r ⌝ }
+{
+    let mut m = k;
+    let mut i: usize = 0;
+    while i < n {
+        let d = turn_at(file, ix, g, tr, w, m, i);
+        match d {
+            Turn::Refused(q, z) => {
+                let p = number(i);
+                return Core::Refused(q, p, z);
+            }
+            Turn::On(z) => {
+                m = z;
+                i += 1;
+            }
+        }
+    }
+    Core::Whole(m)
+}
+
+// Unresolved may go, then the chains, then 9.
+fn finish(g: &mut [u64; 1152], w: &mut [u16; 3456], s: Size) -> Drawing
+    requires { ⌜ Growing (now g) s ⌝ }
+    requires { ⌜ length (now w) ≡ 3456 ⌝ }
+    ensures { λ r. ⌜ Drew (finished (settle (graphIn (now (g .entry)) s))) (settle (graphIn (now (g .entry)) s)) (now (g .exit)) (now (w .exit)) r ⌝ }
+{
+    let t = store::settle(g, s);
+    links::chain(g, t, w);
+    let u = reach::lowest_unreached(g, t, w);
+    if u == 0 {
+        return Drawing::Whole(t);
+    }
+    let p = number(u - 1);
+    Drawing::Refused(9, p, t)
+}
+
+// The graph of a file with n clauses. The tables come as fresh arrays; w holds the chains of a graph that is drawn.
+pub fn build(
+    file: &[u8],
+    ix: &[u16; 10432],
+    n: usize,
+    g: &mut [u64; 1152],
+    tr: &mut [u64; 1024],
+    w: &mut [u16; 3456],
+) -> Drawing
+    requires { ⌜ Loaded (now file) (now ix) ⌝ }
+    requires { ⌜ n ≡ length (tablesOf (now file) .clauses) ⌝ }
+    requires { ⌜ now g ≡ replicate 1152 0 ⌝ }
+    requires { ⌜ length (now tr) ≡ 1024 ⌝ }
+    requires { ⌜ now w ≡ replicate 3456 0 ⌝ }
+    ensures { λ r. ⌜ Drew (graphOf (tablesOf (now (file .entry)))) (leftOf (tablesOf (now (file .entry)))) (now (g .exit)) (now (w .exit)) r ⌝ }
+{
+    let s = store::start(g);
+    let k = Work {
+        size: s,
+        triples: 0,
+    };
+    let r = build_core(file, ix, n, g, tr, w, k);
+    match r {
+        Core::Refused(q, i, z) => Drawing::Refused(q, i, z),
+        Core::Whole(m) => {
+            let z = m.size;
+            finish(g, w, z)
+        }
+    }
+}

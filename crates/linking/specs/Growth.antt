@@ -1,0 +1,205 @@
+-- Links added one after another to a table that holds the graph: what an answer means, what is left to add, and how the two meet.
+use mathlib.Core.Path.{_≡_, refl, sym, ap, _∙_}
+use mathlib.Core.List.{List, [], _∷_, _++_, append-nil}
+use Prim.Native.Nat.{ℕ, zero, suc, _+_, _-_, _<_, _≤_}
+use native.Mathlib.Numerals.{add-one, sub-one}
+use native.Mathlib.Nat.{not-suc-le-zero}
+use native.Mathlib.Omega.{arith}
+use lib.ListN.{length, length-append}
+use lib.Dec.{ltb}
+use borrow.Author.Tests.{ltb-true, ltb-false, lt-ltb, le-ltb}
+use Rattle.basis.specs.Members.{split, clash}
+use Rattle.basis.specs.Lists.{place, snoc}
+use mathlib.Core.Option.{Option, none, some}
+use Rattle.store.specs.declared.ConflictNode.{ConflictNode}
+use Rattle.store.specs.declared.ConflictNode.the-variants as N
+use Rattle.store.specs.declared.ConflictCause.the-variants as K
+use Rattle.store.specs.declared.ConflictEdge.{ConflictEdge}
+use Rattle.store.specs.declared.ConflictEdge.the-variants as W
+use Rattle.store.specs.declared.Edge.{Edge}
+use Rattle.store.specs.declared.Size.{Size}
+use Rattle.store.specs.declared.Put.{Put}
+use Rattle.store.specs.declared.Put.the-variants.{At, Full}
+use Rattle.store.specs.Graph.{Graph, Added, added, full, sameNode, addNode, addEdge, addLink}
+use Rattle.store.specs.Table.{graphIn, Stored, Growing, addedIn, sizeOf, placeOf, edges-count}
+use Rattle.linking.specs.declared.Grown.{Grown}
+use Rattle.linking.specs.declared.Grown.the-variants as G
+use Rattle.linking.specs.Links.{Link, link, Linked, more, short, linkAll, previousLinks, forbidAll}
+
+-- ---- what an answer means
+
+abbrev pub grownIn : List ℕ → Grown → Linked
+grownIn g (G.On s) = more (graphIn g s)
+grownIn g (G.Full s) = short (graphIn g s)
+
+abbrev pub grownSize : Grown → Size
+grownSize (G.On s) = s
+grownSize (G.Full s) = s
+
+-- table h and answer r hold W, and the graph can grow on
+pub record Grew (W : Linked) (h : List ℕ) (r : Grown) : Type 0 where
+  pub is : grownIn h r ≡ W
+  pub growing : Growing h (grownSize r)
+
+-- adding the links ls to what table g holds gives W
+pub record Left (W : Linked) (ls : List Link) (g : List ℕ) (s : Size) : Type 0 where
+  pub left : linkAll ls (graphIn g s) ≡ W
+  pub growing : Growing g s
+
+-- ---- links one after another
+
+abbrev pub andThen : Linked → List Link → Linked
+andThen (more g) ls = linkAll ls g
+andThen (short g) ls = short g
+
+after : (a : Added) (xs ys : List Link) → ((g : Graph) → linkAll (xs ++ ys) g ≡ andThen (linkAll xs g) ys) → elim a [ full h ↦ short h | added i h ↦ linkAll (xs ++ ys) h ] ≡ andThen (elim a [ full h ↦ short h | added i h ↦ linkAll xs h ]) ys
+after (added i h) xs ys f = f h
+after (full h) xs ys f = refl
+
+pub link-append : (xs ys : List Link) (g : Graph) → linkAll (xs ++ ys) g ≡ andThen (linkAll xs g) ys
+unfolding linkAll
+link-append [] ys g = refl
+link-append (x ∷ xs) ys g = after (addLink g (x .source) (x .target) (x .weight)) xs ys (link-append xs ys)
+
+-- ---- the ways of a loop: r is what adding the first part xs gave
+
+module _ (W : Linked) (ls xs ys : List Link) (g h : List ℕ) (s t : Size) (r : Grown) where
+  pub left-next : Left W ls g s → Grew (linkAll xs (graphIn g s)) h r → r ≡ G.On t → ls ≡ xs ++ ys → Left W ys h t
+  left-next L R q e =
+      let z : linkAll xs (graphIn g s) ≡ more (graphIn h t) = sym (R .is) ∙ ap (grownIn h) q in
+      record {
+        left = sym (ap (λ (l : Linked). andThen l ys) z) ∙ sym (link-append xs ys (graphIn g s)) ∙ ap (λ (l : List Link). linkAll l (graphIn g s)) (sym e) ∙ L .left;
+        growing = rw q at (R .growing);
+      }
+
+  pub left-stop : Left W ls g s → Grew (linkAll xs (graphIn g s)) h r → r ≡ G.Full t → ls ≡ xs ++ ys → Grew W h (G.Full t)
+  left-stop L R q e =
+      let z : linkAll xs (graphIn g s) ≡ short (graphIn h t) = sym (R .is) ∙ ap (grownIn h) q in
+      record {
+        is = sym (ap (λ (l : Linked). andThen l ys) z) ∙ sym (link-append xs ys (graphIn g s)) ∙ ap (λ (l : List Link). linkAll l (graphIn g s)) (sym e) ∙ L .left;
+        growing = rw q at (R .growing);
+      }
+
+pub left-start : (ls : List Link) (g : List ℕ) (s : Size) → Growing g s → Left (linkAll ls (graphIn g s)) ls g s
+left-start ls g s P = record { left = refl; growing = P }
+
+pub left-end : (W : Linked) (ls : List Link) (g : List ℕ) (s : Size) → Left W ls g s → ls ≡ [] → Grew W g (G.On s)
+unfolding linkAll
+left-end W ls g s L e = record { is = ap (λ (l : List Link). linkAll l (graphIn g s)) (sym e) ∙ L .left; growing = L .growing }
+
+-- no link at all
+pub grew-none : (ls : List Link) (g : List ℕ) (s : Size) → ls ≡ [] → Growing g s → Grew (linkAll ls (graphIn g s)) g (G.On s)
+grew-none ls g s e P = left-end (linkAll ls (graphIn g s)) ls g s (left-start ls g s P) e
+
+-- the same links, told another way
+pub grew-as : (ls ms : List Link) (g h : List ℕ) (s : Size) (r : Grown) → Grew (linkAll ms (graphIn g s)) h r → ls ≡ ms → Grew (linkAll ls (graphIn g s)) h r
+grew-as ls ms g h s r R e = rw e R
+
+-- ---- one link, by `store::link`
+
+module _ (g h : List ℕ) (s t : Size) (x y : ConflictNode) (w : ConflictEdge) (a : Put) where
+  pub one-on : (i : ℕ) → addedIn h a ≡ addLink (graphIn g s) x y w → a ≡ At i t → Growing h (sizeOf a) → Grew (linkAll (link x y w ∷ []) (graphIn g s)) h (G.On t)
+  unfolding linkAll
+  one-on i p q P =
+      let z : addLink (graphIn g s) x y w ≡ added i (graphIn h t) = sym p ∙ ap (addedIn h) q in
+      record { is = rw (z, linkAll); growing = rw q at P }
+
+  pub one-full : addedIn h a ≡ addLink (graphIn g s) x y w → a ≡ Full t → Growing h (sizeOf a) → Grew (linkAll (link x y w ∷ []) (graphIn g s)) h (G.Full t)
+  unfolding linkAll
+  one-full p q P =
+      let z : addLink (graphIn g s) x y w ≡ full (graphIn h t) = sym p ∙ ap (addedIn h) q in
+      record { is = rw (z, linkAll); growing = rw q at P }
+
+pub ruleset ones = (one-on, one-full)
+
+-- ---- edges are only added
+
+pub edges-node : (g h : Graph) (x : ConflictNode) (i : ℕ) → addNode g x ≡ added i h → h .edges ≡ g .edges
+unfolding addNode
+edges-node g h x i e =
+    go (place (sameNode x) (g .nodes) 0) refl
+  where
+    go : (o : Option ℕ) → place (sameNode x) (g .nodes) 0 ≡ o → h .edges ≡ g .edges
+    go (some j) q = let z : added j g ≡ added i h = rw (q, addNode) at e in cc
+    go none q =
+        split (ltb (length (g .nodes)) 128)
+        (λ t. let z : added (length (g .nodes)) (record { nodes = snoc (g .nodes) x; edges = g .edges }) ≡ added i h = rw (q, addNode, t) at e in
+        let y : record { nodes = snoc (g .nodes) x; edges = g .edges } ≡ h = cc in ap (λ (k : Graph). k .edges) (sym y))
+        (λ t. let z : full g ≡ added i h = rw (q, addNode, t) at e in clash (cc))
+
+pub edges-edge : (g h : Graph) (e : Edge) (i : ℕ) → addEdge g e ≡ added i h → length (h .edges) ≡ suc (length (g .edges))
+unfolding addEdge
+edges-edge g h e i q =
+    split (ltb (length (g .edges)) 1024)
+    (λ t. let z : added (length (g .edges)) (record { nodes = g .nodes; edges = snoc (g .edges) e }) ≡ added i h = rw t at q in
+    let y : record { nodes = g .nodes; edges = snoc (g .edges) e } ≡ h = cc in
+    ap (λ (k : Graph). length (k .edges)) (sym y) ∙ rw length-append (omega arith))
+    (λ t. let z : full g ≡ added i h = rw t at q in clash (cc))
+
+pub edges-link : (g h : Graph) (x y : ConflictNode) (w : ConflictEdge) (i : ℕ) → addLink g x y w ≡ added i h → length (h .edges) ≡ suc (length (g .edges))
+unfolding addLink
+edges-link g h x y w i e = first (addNode g x) refl
+  where
+    second : (j : ℕ) (k : Graph) → addNode g x ≡ added j k → (b : Added) → addNode k y ≡ b → length (h .edges) ≡ suc (length (g .edges))
+    second j k p (added m l) q =
+        let z : addEdge l (record { source = j; target = m; weight = w }) ≡ added i h = rw (p, addLink, q) at e in
+        let a : l .edges ≡ k .edges = edges-node k l y m q in
+        let b : k .edges ≡ g .edges = edges-node g k x j p in
+        edges-edge l h (record { source = j; target = m; weight = w }) i z ∙ ap (λ (u : List Edge). suc (length u)) (a ∙ b)
+    second j k p (full l) q = let z : full l ≡ added i h = rw (p, addLink, q) at e in clash (cc)
+
+    first : (a : Added) → addNode g x ≡ a → length (h .edges) ≡ suc (length (g .edges))
+    first (added j k) p = second j k p (addNode k y) refl
+    first (full k) p = let z : full k ≡ added i h = rw (p, addLink) at e in clash (cc)
+
+edges-one : (l : Link) (ls : List Link) (g h : Graph) → ((k : Graph) → linkAll ls k ≡ more h → length (k .edges) ≤ length (h .edges)) → (a : Added) → addLink g (l .source) (l .target) (l .weight) ≡ a → linkAll (l ∷ ls) g ≡ more h → length (g .edges) ≤ length (h .edges)
+unfolding linkAll
+edges-one l ls g h f (added i k) q e =
+    let z : linkAll ls k ≡ more h = rw (q, linkAll) at e in
+    omega (arith, edges-link g k (l .source) (l .target) (l .weight) i q, f k z)
+edges-one l ls g h f (full k) q e = let z : short k ≡ more h = rw (q, linkAll) at e in clash (cc)
+
+pub edges-all : (ls : List Link) (g h : Graph) → linkAll ls g ≡ more h → length (g .edges) ≤ length (h .edges)
+unfolding linkAll
+edges-all [] g h e = let z : g ≡ h = cc in rw z (omega arith)
+edges-all (l ∷ ls) g h e = edges-one l ls g h (λ k z. edges-all ls k h z) (addLink g (l .source) (l .target) (l .weight)) refl e
+
+-- ---- a node of its own, then the link from the previous one
+
+module _ (g h : List ℕ) (s t : Size) (p n : ℕ) (a : Put) where
+  pub forbid-full : addedIn h a ≡ addNode (graphIn g s) (N.Solvable n) → a ≡ Full t → Growing h (sizeOf a) → Grew (forbidAll (graphIn g s) p n) h (G.Full t)
+  unfolding forbidAll
+  forbid-full q e P =
+      let z : addNode (graphIn g s) (N.Solvable n) ≡ full (graphIn h t) = sym q ∙ ap (addedIn h) e in
+      record { is = rw (z, forbidAll); growing = rw e at P }
+
+  pub forbid-first : (i : ℕ) → addedIn h a ≡ addNode (graphIn g s) (N.Solvable n) → a ≡ At i t → Growing h (sizeOf a) → p ≡ 0 → Grew (forbidAll (graphIn g s) p n) h (G.On t)
+  unfolding forbidAll linkAll
+  forbid-first i q e P f =
+      let z : addNode (graphIn g s) (N.Solvable n) ≡ added i (graphIn h t) = sym q ∙ ap (addedIn h) e in
+      let u : previousLinks p n ≡ [] = ap (λ (k : ℕ). previousLinks k n) f in
+      record { is = ap (λ (l : List Link). linkAll l (graphIn h t)) (sym u) ∙ rw (z, forbidAll); growing = rw e at P }
+
+  pub forbid-next : (m : List ℕ) (r : Grown) (i : ℕ) → addedIn h a ≡ addNode (graphIn g s) (N.Solvable n) → a ≡ At i t → (p ≡ 0 → ⊥) → Grew (linkAll (link (N.Solvable (p - 1)) (N.Solvable n) (W.Conflict K.ForbidMultipleInstances) ∷ []) (graphIn h t)) m r → Grew (forbidAll (graphIn g s) p n) m r
+  unfolding forbidAll
+  forbid-next m r i q e f R =
+      let z : addNode (graphIn g s) (N.Solvable n) ≡ added i (graphIn h t) = sym q ∙ ap (addedIn h) e in
+      let y : p ≡ suc (p - 1) = omega (arith, f) in
+      let u : previousLinks p n ≡ link (N.Solvable (p - 1)) (N.Solvable n) (W.Conflict K.ForbidMultipleInstances) ∷ [] = ap (λ (k : ℕ). previousLinks k n) y in
+      record { is = R .is ∙ ap (λ (l : List Link). linkAll l (graphIn h t)) (sym u) ∙ rw (z, forbidAll); growing = R .growing }
+
+pub edges-forbid : (g h : Graph) (p n : ℕ) → forbidAll g p n ≡ more h → length (g .edges) ≤ length (h .edges)
+unfolding forbidAll
+edges-forbid g h p n e = go (addNode g (N.Solvable n)) refl
+  where
+    go : (a : Added) → addNode g (N.Solvable n) ≡ a → length (g .edges) ≤ length (h .edges)
+    go (added i k) q =
+        let z : linkAll (previousLinks p n) k ≡ more h = rw (q, forbidAll) at e in
+        let y : k .edges ≡ g .edges = edges-node g k (N.Solvable n) i q in
+        rw (← y) (edges-all (previousLinks p n) k h z)
+    go (full k) q = let z : short k ≡ more h = rw (q, forbidAll) at e in clash (cc)
+
+pub held-on : (h : List ℕ) (a : Put) (i : ℕ) (t : Size) → a ≡ At i t → Growing h (sizeOf a) → Growing h t
+held-on h a i t e P = rw e at P
+
+pub ruleset forbids = (forbid-full, forbid-first, forbid-next)

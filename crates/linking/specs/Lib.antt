@@ -1,0 +1,4 @@
+pub mod Links
+pub mod Growth
+pub mod Requiring
+pub mod Direct

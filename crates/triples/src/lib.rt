@@ -1,0 +1,115 @@
+// What building the graph remembers besides the graph (conflict.rs: `constrains_edges`, `last_node_by_name`): the triples
+// made, a word each, found by hash, and the last solvable under each forbidden name.
+ghost use mathlib.Core.Path.{_≡_};
+ghost use Prim.Native.Nat.{_+_, _<_, _≤_};
+ghost use lib.ListN.{length, getD, set, take};
+ghost use lib.Dec.{eqb};
+ghost use Rattle.basis.specs.Lists.{any};
+ghost use Rattle.basis.specs.Chains.{linked};
+ghost use Rattle.basis.specs.Walks.{wordIs};
+ghost use Rattle.triples.specs.Triple.{triple, TripleWord, NodePart, Triples, tripleLay, hashOf, lastIn};
+use store::ConflictNode;
+
+fn node_word(x: ConflictNode) -> u64
+    ensures { λ r. ⌜ NodePart x r ⌝ }
+{
+    match x {
+        ConflictNode::Root => 0,
+        ConflictNode::Solvable(s) => 1 + 4 * (s as u64),
+        ConflictNode::UnresolvedDependency => 2,
+        ConflictNode::Excluded(r) => 3 + 4 * (r as u64),
+    }
+}
+
+// The word of the triple (parent, candidate, version set).
+pub fn pack(p: ConflictNode, d: ConflictNode, v: u16) -> u64
+    ensures { λ r. ⌜ TripleWord (triple p d v) r ⌝ }
+{
+    let a = node_word(p);
+    let b = node_word(d);
+    a + 262144 * b + 68719476736 * (v as u64)
+}
+
+fn hash(t: u64) -> usize
+    ensures { λ r. ⌜ (r ≡ hashOf t) × (r < 2048) ⌝ }
+{
+    (t % 2039) as usize
+}
+
+fn first(w: &[u16; 3456], n: usize) -> usize
+    requires { ⌜ n < 2048 ⌝ }
+    ensures { λ r. ⌜ r ≡ getD (now (w .entry)) (1024 + n) 0 ⌝ }
+{
+    let at = 1024 + n;
+    basis::wide16(w[at])
+}
+
+fn next(w: &[u16; 3456], i: usize) -> usize
+    requires { ⌜ i < 1024 ⌝ }
+    ensures { λ r. ⌜ r ≡ getD (now (w .entry)) i 0 ⌝ }
+{
+    basis::wide16(w[i])
+}
+
+fn word_is(tr: &[u64; 1024], t: u64, i: usize) -> bool
+    requires { ⌜ i < 1024 ⌝ }
+    ensures { λ r. ⌜ r ≡ wordIs (now (tr .entry)) t i ⌝ }
+{
+    t == tr[i]
+}
+
+// Word t is among the first n.
+pub fn made(tr: &[u64; 1024], w: &[u16; 3456], n: usize, t: u64) -> bool
+    requires { ⌜ Triples (now tr) (now w) n ⌝ }
+    ensures { λ r. ⌜ r ≡ any (eqb t) (take n (now (tr .entry))) ⌝ }
+{
+    let h = hash(t);
+    let mut e = first(w, h);
+    while 0 < e {
+        let i = e - 1;
+        if word_is(tr, t, i) {
+            return true;
+        }
+        e = next(w, i);
+    }
+    false
+}
+
+fn chain(w: &mut [u16; 3456], n: usize, h: usize)
+    requires { ⌜ (n < 1024) × (h < 2048) ⌝ }
+    ensures { λ _. ⌜ now (w .exit) ≡ linked tripleLay (now (w .entry)) n h ⌝ }
+{
+    let at = 1024 + h;
+    let head = w[at];
+    w[n] = head;
+    w[at] = (n + 1) as u16;
+}
+
+// Word t is put behind the n that are there.
+pub fn make(tr: &mut [u64; 1024], w: &mut [u16; 3456], n: usize, t: u64)
+    requires { ⌜ n < 1024 ⌝ }
+    ensures { λ _. ⌜ now (tr .exit) ≡ set (now (tr .entry)) n t ⌝ }
+    ensures { λ _. ⌜ now (w .exit) ≡ linked tripleLay (now (w .entry)) n (hashOf t) ⌝ }
+{
+    let h = hash(t);
+    tr[n] = t;
+    chain(w, n, h);
+}
+
+// One more than the last solvable under a name, or 0.
+pub fn last_under(w: &[u16; 3456], name: usize) -> u16
+    requires { ⌜ name < 128 ⌝ }
+    ensures { λ r. ⌜ r ≡ getD (lastIn (now (w .entry))) name 0 ⌝ }
+{
+    let at = 3072 + name;
+    w[at]
+}
+
+// Solvable s is the last one under a name.
+pub fn note_last(w: &mut [u16; 3456], name: usize, s: u16)
+    requires { ⌜ (name < 128) × (s < 256) ⌝ }
+    ensures { λ _. ⌜ now (w .exit) ≡ set (now (w .entry)) (3072 + name) (s + 1) ⌝ }
+{
+    let at = 3072 + name;
+    w[at] = s + 1;
+}

@@ -1,0 +1,54 @@
+// From bytes to the graph, over lent working arrays: refusals 1 to 9.
+ghost use mathlib.Core.Path.{_≡_};
+ghost use lib.ListN.{length, replicate};
+ghost use Rattle.index.specs.Index.{Blank};
+ghost use Rattle.urzulempa.specs.Answers.{refusalOf, drawingAnswer, checkOf};
+use crate::Answer;
+use graph::Drawing;
+
+// "the last three are 0 for 1 to 9 and 12"; 0 means done.
+pub fn refusal(number: u64, place: u64) -> Answer
+    ensures { λ r. ⌜ r ≡ refusalOf number place ⌝ }
+{
+    Answer {
+        number,
+        place,
+        bytes: 0,
+        units: 0,
+        depth: 0,
+    }
+}
+
+// A graph that is drawn is done; 7, 8 and 9 are as the graph says.
+pub fn drawn(d: Drawing) -> Answer
+    ensures { λ r. ⌜ r ≡ drawingAnswer d ⌝ }
+{
+    match d {
+        Drawing::Whole(_) => refusal(0, 0),
+        Drawing::Refused(k, i, _) => refusal(k, i),
+    }
+}
+
+pub fn check_in(
+    file: &[u8],
+    ix: &mut [u16; 10432],
+    g: &mut [u64; 1152],
+    tr: &mut [u64; 1024],
+    w: &mut [u16; 3456],
+) -> Answer
+    requires { ⌜ Blank (now ix) ⌝ }
+    requires { ⌜ now g ≡ replicate 1152 0 ⌝ }
+    requires { ⌜ length (now tr) ≡ 1024 ⌝ }
+    requires { ⌜ now w ≡ replicate 3456 0 ⌝ }
+    ensures { λ r. ⌜ r ≡ checkOf (now (file .entry)) ⌝ }
+{
+    let a = index::load(file, ix);
+    match a {
+        records::Answer::Refused { number, place } => refusal(number, place),
+        records::Answer::Accepted(c) => {
+            let n = c.clauses;
+            let d = graph::build(file, ix, n, g, tr, w);
+            drawn(d)
+        }
+    }
+}
