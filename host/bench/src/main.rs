@@ -1,0 +1,134 @@
+//! Port and conflict.rs side by side in one run: same inputs, both built for release, rooms cleared the same way.
+//! Times are the least of several rounds, taken in turns; ratios above 1 mean that the port is faster.
+
+use oracle::generate;
+use std::hint::black_box;
+use std::process::ExitCode;
+use std::time::{Duration, Instant};
+
+fn main() -> ExitCode {
+    if !oracle::AVAILABLE {
+        println!("bench: skipped: conflict.rs was not there when this was built");
+        return ExitCode::from(77);
+    }
+    println!("| what | bytes in | conflict.rs | port | ratio |");
+    println!("|---|---|---|---|---|");
+    graphs();
+    texts();
+    growth();
+    ExitCode::SUCCESS
+}
+
+/// The least time of one call: each round repeats it for at least this long.
+const ROUND: Duration = Duration::from_millis(40);
+const ROUNDS: usize = 5;
+
+fn once(call: &mut dyn FnMut()) -> f64 {
+    let start = Instant::now();
+    let mut n = 0u32;
+    while n == 0 || start.elapsed() < ROUND {
+        call();
+        n += 1;
+    }
+    start.elapsed().as_secs_f64() / f64::from(n)
+}
+
+/// Both calls in turns, so that a slow moment of the machine meets both.
+fn both(mut theirs: impl FnMut(), mut ours: impl FnMut()) -> (f64, f64) {
+    let mut best = (f64::MAX, f64::MAX);
+    for _ in 0..ROUNDS {
+        best.0 = best.0.min(once(&mut theirs));
+        best.1 = best.1.min(once(&mut ours));
+    }
+    best
+}
+
+/// Only the time counts.
+fn keep<T>(_: T) {}
+
+fn time(seconds: f64) -> String {
+    if seconds < 1e-3 {
+        format!("{:.2} µs", seconds * 1e6)
+    } else {
+        format!("{:.2} ms", seconds * 1e3)
+    }
+}
+
+fn row(what: &str, bytes: usize, (theirs, ours): (f64, f64)) {
+    println!("| {what} | {bytes} | {} | {} | {:.2} |", time(theirs), time(ours), theirs / ours);
+}
+
+fn made(shape: &str, seed: u64) -> Vec<u8> {
+    generate::file(shape, seed).unwrap_or_default()
+}
+
+/// The file of a shape, over some seeds, that is accepted and has the most edges.
+fn largest(shape: &str) -> Vec<u8> {
+    let size = |file: &[u8]| oracle::Problem::read(file).ok().and_then(|p| p.model().ok().map(|m| m.edge_count())).unwrap_or(0);
+    (0..40).map(|seed| made(shape, seed)).max_by_key(|f| size(f)).unwrap_or_default()
+}
+
+fn p7() -> Vec<u8> {
+    oracle::samples::all().into_iter().find(|s| s.0 == "replay.rec").map(|s| s.1).unwrap_or_default()
+}
+
+/// From bytes to the graph, and to the labelled graph, the reading included on both sides.
+fn graphs() {
+    let loads = [
+        ("P7", p7()),
+        ("middle load", largest("world-middle")),
+        ("largest load", largest("nodes-and-edges")),
+        ("hundreds of 23 and 24 on one auxiliary", largest("auxiliary-hundreds")),
+    ];
+    for (name, file) in &loads {
+        row(&format!("file to graph, {name}"), file.len(), both(|| keep(black_box(oracle::check(black_box(file)))), || keep(black_box(urzulempa::check(black_box(file))))));
+    }
+    for (name, file) in &loads {
+        let mut theirs = vec![oracle::Node { kind: 0, number: 0, group: 0, installable: 0, missing: 0 }; 128];
+        let mut ours = [urzulempa::Node::default(); 128];
+        row(&format!("file to labelled graph, {name}"), file.len(), both(|| keep(black_box(oracle::nodes(black_box(file), &mut theirs))), || keep(black_box(urzulempa::nodes(black_box(file), &mut ours)))));
+    }
+}
+
+/// Texts: a call on P7 from end to end, and bytes a second where there is much text.
+fn texts() {
+    let file = p7();
+    let (mut a, mut b) = (vec![0; 4096], vec![0; 4096]);
+    row("explanation of P7, a call", file.len(), both(|| keep(black_box(oracle::explain(black_box(&file), 0, &mut a))), || keep(black_box(urzulempa::explain(black_box(&file), 0, &mut b)))));
+    row("graph text of P7, a call", file.len(), both(|| keep(black_box(oracle::graphviz(black_box(&file), 1, &mut a))), || keep(black_box(urzulempa::graphviz(black_box(&file), 1, &mut b)))));
+    for (name, file, size) in [("exploding DAG, room of 64 MiB", made("dag-exploding-limit", 1), 64 << 20), ("depth 2,079, in full", made("depth-largest", 1), 32 << 20)] {
+        let (mut a, mut b) = (vec![0; size], vec![0; size]);
+        let times = both(|| keep(black_box(oracle::explain(black_box(&file), 0, &mut a))), || keep(black_box(urzulempa::explain(black_box(&file), 0, &mut b))));
+        let bytes = urzulempa::explain(&file, 0, &mut b).bytes as f64;
+        row(&format!("{name}: {:.0} and {:.0} MB/s", bytes / times.0 / 1e6, bytes / times.1 / 1e6), file.len(), times);
+    }
+    let file = largest("nodes-and-edges");
+    let (mut a, mut b) = (vec![0; 1 << 20], vec![0; 1 << 20]);
+    row("graph text, largest load", file.len(), both(|| keep(black_box(oracle::graphviz(black_box(&file), 1, &mut a))), || keep(black_box(urzulempa::graphviz(black_box(&file), 1, &mut b)))));
+}
+
+/// How the time grows with the file: the port's time for a record, a node, an edge and a line must not grow with the size.
+fn growth() {
+    println!();
+    println!("| port, by size | records | nodes | edges | time | time a record |");
+    println!("|---|---|---|---|---|---|");
+    for edges in [64, 128, 256, 512, 1024] {
+        let file = generate::limits::edges(edges);
+        let model = oracle::Problem::read(&file).ok().and_then(|p| p.model().ok().map(|m| (m.nodes().len(), m.edge_count())));
+        let Some((nodes, edges)) = model else { continue };
+        let mut list = [urzulempa::Node::default(); 128];
+        let best = (0..ROUNDS).map(|_| once(&mut || keep(black_box(urzulempa::nodes(black_box(&file), &mut list))))).fold(f64::MAX, f64::min);
+        let records = file.len() / 32;
+        println!("| file to labelled graph | {records} | {nodes} | {edges} | {} | {:.0} ns |", time(best), best / records as f64 * 1e9);
+    }
+    println!();
+    println!("| port, text by room | lines | bytes | time | time a line |");
+    println!("|---|---|---|---|---|");
+    let file = made("dag-exploding-limit", 1);
+    for size in [1 << 16, 1 << 18, 1 << 20, 1 << 22, 1 << 24] {
+        let mut room = vec![0; size];
+        let best = (0..ROUNDS).map(|_| once(&mut || keep(black_box(urzulempa::explain(black_box(&file), 0, &mut room))))).fold(f64::MAX, f64::min);
+        let answer = urzulempa::explain(&file, 0, &mut room);
+        println!("| exploding DAG | {} | {} | {} | {:.0} ns |", answer.units, answer.bytes, time(best), best / answer.units.max(1) as f64 * 1e9);
+    }
+}

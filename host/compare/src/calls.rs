@@ -1,0 +1,168 @@
+//! One call on one file, on both sides.
+
+use oracle::rng::Rng;
+
+#[derive(Clone, Copy, Debug, PartialEq, Eq)]
+pub enum Call {
+    Check,
+    Explain,
+    Plain,
+    Graph,
+    Nodes,
+}
+
+/// A call with its option, the size of what is lent, and the bytes that stand there before.
+#[derive(Clone, Copy, Debug)]
+pub struct Trial {
+    pub call: Call,
+    pub option: u64,
+    pub room: usize,
+    pub fill: u64,
+}
+
+/// Rooms up to this size are ample for most files; larger texts are cut by 10 on both sides.
+const AMPLE: usize = 16 << 10;
+
+impl Trial {
+    /// The answer's number, or what differs.
+    pub fn run(&self, file: &[u8]) -> Result<u64, String> {
+        match self.call {
+            Call::Check => same(self, oracle::check(file), urzulempa::check(file), &[], &[]),
+            Call::Nodes => self.nodes(file),
+            _ => self.text(file),
+        }
+    }
+
+    fn text(&self, file: &[u8]) -> Result<u64, String> {
+        let mut theirs = filled(self.room, self.fill);
+        let mut ours = theirs.clone();
+        let (a, b) = match self.call {
+            Call::Graph => (oracle::graphviz(file, self.option, &mut theirs), urzulempa::graphviz(file, self.option, &mut ours)),
+            Call::Plain => (oracle::explain(file, 0, &mut theirs), urzulempa::explain_plain(file, &mut ours)),
+            _ => (oracle::explain(file, self.option, &mut theirs), urzulempa::explain(file, self.option, &mut ours)),
+        };
+        same(self, a, b, &theirs, &ours)
+    }
+
+    fn nodes(&self, file: &[u8]) -> Result<u64, String> {
+        let bytes = filled(self.room * 8, self.fill);
+        let word = |i: usize| u16::from_le_bytes([bytes[i], bytes[i + 1]]);
+        let mut theirs: Vec<oracle::Node> = (0..self.room)
+            .map(|n| 8 * n)
+            .map(|i| oracle::Node { kind: word(i), number: word(i + 2), group: word(i + 4), installable: bytes[i + 6], missing: bytes[i + 7] })
+            .collect();
+        let mut ours: Vec<urzulempa::Node> = theirs
+            .iter()
+            .map(|n| urzulempa::Node { kind: n.kind, number: n.number, group: n.group, installable: n.installable, missing: n.missing })
+            .collect();
+        let (a, b) = (oracle::nodes(file, &mut theirs), urzulempa::nodes(file, &mut ours));
+        let flat = |kind: u16, number: u16, group: u16, i: u8, m: u8| [kind.to_le_bytes(), number.to_le_bytes(), group.to_le_bytes(), [i, m]].concat();
+        let theirs: Vec<u8> = theirs.iter().flat_map(|n| flat(n.kind, n.number, n.group, n.installable, n.missing)).collect();
+        let ours: Vec<u8> = ours.iter().flat_map(|n| flat(n.kind, n.number, n.group, n.installable, n.missing)).collect();
+        same(self, a, b, &theirs, &ours)
+    }
+}
+
+/// Bytes of every value, so that an untouched one is seen.
+fn filled(len: usize, seed: u64) -> Vec<u8> {
+    let mut rng = Rng::new(seed);
+    (0..len).map(|_| (rng.next() >> 32) as u8).collect()
+}
+
+fn same(trial: &Trial, theirs: oracle::Answer, ours: urzulempa::Answer, their_room: &[u8], our_room: &[u8]) -> Result<u64, String> {
+    let a = (theirs.number, theirs.place, theirs.bytes, theirs.units, theirs.depth);
+    let b = (ours.number, ours.place, ours.bytes, ours.units, ours.depth);
+    if a == b && their_room == our_room {
+        return Ok(a.0);
+    }
+    let at = their_room.iter().zip(our_room).position(|(x, y)| x != y);
+    let text = |bytes: &[u8], n: u64| String::from_utf8_lossy(&bytes[..bytes.len().min(usize::try_from(n).unwrap_or(0))]).into_owned();
+    let texts = if trial.call == Call::Nodes {
+        format!("conflict.rs: {their_room:?}\nport: {our_room:?}")
+    } else {
+        format!("conflict.rs:\n{}\nport:\n{}", text(their_room, theirs.bytes), text(our_room, ours.bytes))
+    };
+    Err(format!("number, place, bytes, units, depth: conflict.rs {a:?}, port {b:?}; first byte that differs: {at:?}\n{texts}"))
+}
+
+/// Every call on a file: options 0, 1 and bad ones; rooms 0, exact, one short, random and ample.
+pub fn trials(file: &[u8], rng: &mut Rng) -> Vec<Trial> {
+    let mut trials = vec![Trial { call: Call::Check, option: 0, room: 0, fill: 0 }];
+    let whole = oracle::check(file).number == 0;
+    for call in [Call::Explain, Call::Graph] {
+        for option in [0, 1] {
+            let mut room = vec![0; AMPLE];
+            let exact = if whole { measure(call, file, option, &mut room) } else { 0 };
+            let some = (rng.next() % (exact as u64 + 40)) as usize;
+            for room in [0, exact, exact.saturating_sub(1), some, AMPLE] {
+                trials.push(Trial { call, option, room, fill: rng.next() });
+            }
+        }
+        let bad = [2, 3, 255, 256, 1 << 32, u64::MAX, rng.next() | 2][(rng.next() % 7) as usize];
+        trials.push(Trial { call, option: bad, room: (rng.next() % 300) as usize, fill: rng.next() });
+    }
+    trials.push(Trial { call: Call::Plain, option: 0, room: (rng.next() % 2000) as usize, fill: rng.next() });
+    let nodes = if whole { count_nodes(file) } else { 0 };
+    for room in [0, nodes, nodes.saturating_sub(1), (rng.next() % 129) as usize, 128] {
+        trials.push(Trial { call: Call::Nodes, option: 0, room, fill: rng.next() });
+    }
+    trials
+}
+
+fn measure(call: Call, file: &[u8], option: u64, room: &mut [u8]) -> usize {
+    let answer = if call == Call::Graph { oracle::graphviz(file, option, room) } else { oracle::explain(file, option, room) };
+    usize::try_from(answer.bytes).unwrap_or(0)
+}
+
+fn count_nodes(file: &[u8]) -> usize {
+    let problem = oracle::Problem::read(file);
+    problem.ok().and_then(|p| p.model().ok().map(|m| m.nodes().len())).unwrap_or(0)
+}
+
+/// A file with every kind of record, which is accepted.
+pub fn every_kind() -> Vec<u8> {
+    let texted = |kind: u8, a: u16, b: u16, text: &str| record(kind, text.len() as u8, [a, b, 0], text);
+    let plain = |kind: u8, first: u8, a: u16, b: u16, c: u16| record(kind, first, [a, b, c], "");
+    [
+        texted(1, 0, 0, "codec"),
+        texted(1, 1, 0, "deck"),
+        texted(2, 0, 0, "9.1"),
+        texted(2, 1, 1, "2"),
+        texted(3, 0, 0, ">=9"),
+        texted(4, 0, 0, "codec *"),
+        texted(4, 1, 0, "deck 2"),
+        plain(5, 0, 0, 0, 0),
+        plain(5, 0, 1, 1, 0),
+        texted(6, 0, 0, "not for this truck"),
+        plain(7, 0, 0, 0, 0),
+        plain(7, 0, 1, 1, 0),
+        plain(7, 0, 2, 1, 1),
+        plain(7, 0, 3, 2, 0),
+        plain(7, 0, 4, 3, 0),
+        plain(7, 0, 5, 4, 0),
+        plain(7, 0, 6, 5, 0),
+        plain(16, 1, 0, 0, 0),
+        plain(19, 1, 0, 0, 0),
+        plain(25, 1, 4, 0, 0),
+        plain(19, 1, 4, 1, 0),
+        plain(17, 1, 1, 0, 0),
+        plain(18, 0, 0, 0, 0),
+        plain(20, 1, 1, 2, 0),
+        plain(21, 1, 1, 3, 0),
+        plain(22, 1, 2, 1, 0),
+        plain(23, 1, 2, 5, 0),
+        plain(24, 1, 1, 5, 0),
+        plain(8, 0, 4, 2, 0),
+    ]
+    .concat()
+}
+
+fn record(kind: u8, first: u8, fields: [u16; 3], text: &str) -> Vec<u8> {
+    let mut bytes = vec![kind, first];
+    for field in fields {
+        bytes.extend(field.to_le_bytes());
+    }
+    bytes.extend(text.as_bytes());
+    bytes.resize(32, 0);
+    bytes
+}

@@ -1,0 +1,97 @@
+//! The port against the oracle: every call, on generated files, with rooms of every kind. Answers, whole rooms and whole node
+//! lists have to be equal, untouched bytes among them.
+
+mod calls;
+mod shrink;
+
+use calls::{Call, Trial};
+use oracle::generate;
+use oracle::rng::Rng;
+use std::process::ExitCode;
+
+const USAGE: &str = "usage: compare files N SEED   N generated files over all shapes, all calls, all rooms
+       compare check N SEED   the same with the call `check` alone
+       compare bytes          a small file with every kind of record, each byte set to each value
+Status: 0 no difference, 1 a difference, 64 wrong usage, 77 without conflict.rs.";
+
+fn main() -> ExitCode {
+    let words: Vec<String> = std::env::args().skip(1).collect();
+    let words: Vec<&str> = words.iter().map(String::as_str).collect();
+    let job = match words[..] {
+        ["files" | "check", n, seed] => match (n.parse(), seed.parse()) {
+            (Ok(n), Ok(seed)) => Some((n, seed)),
+            _ => None,
+        },
+        ["bytes"] => Some((0, 0)),
+        _ => None,
+    };
+    let Some((n, seed)) = job else {
+        eprintln!("{USAGE}");
+        return ExitCode::from(64);
+    };
+    if !oracle::AVAILABLE {
+        println!("compare: skipped: conflict.rs was not there when this was built");
+        return ExitCode::from(77);
+    }
+    let found = if words[0] == "bytes" { bytes() } else { files(n, seed, words[0] == "check") };
+    if found { ExitCode::from(1) } else { ExitCode::SUCCESS }
+}
+
+const CHECK: Trial = Trial { call: Call::Check, option: 0, room: 0, fill: 0 };
+
+/// True if a difference was found.
+fn files(n: u64, seed: u64, check_only: bool) -> bool {
+    let mut answers = 0u64;
+    let mut numbers = [0u64; 13];
+    for index in 0..n {
+        let (shape, shape_seed) = generate::pick(index, seed);
+        let Some(file) = generate::file(shape, shape_seed) else { continue };
+        let mut rng = Rng::new(shape_seed ^ index.rotate_left(32));
+        let trials = if check_only { vec![CHECK] } else { calls::trials(&file, &mut rng) };
+        for trial in trials {
+            answers += 1;
+            match trial.run(&file) {
+                Ok(number) => numbers[usize::try_from(number).unwrap_or(12).min(12)] += 1,
+                Err(_) => {
+                    report(&format!("shape {shape} seed {shape_seed}"), &file, &trial);
+                    return true;
+                }
+            }
+        }
+    }
+    let seen: Vec<String> = numbers.iter().enumerate().filter(|(_, c)| **c > 0).map(|(k, c)| format!("{k}: {c}")).collect();
+    println!("compare: {n} files, {answers} answers compared, 0 differences; answers by number: {}", seen.join(", "));
+    false
+}
+
+/// Every byte of a small file that has all kinds, set to each of the 256 values.
+fn bytes() -> bool {
+    let file = calls::every_kind();
+    let mut tried = 0u64;
+    let mut damaged = file.clone();
+    for at in 0..file.len() {
+        for value in 0..=255 {
+            damaged[at] = value;
+            tried += 1;
+            if CHECK.run(&damaged).is_err() {
+                report(&format!("byte {at} set to {value}"), &damaged, &CHECK);
+                return true;
+            }
+        }
+        damaged[at] = file[at];
+    }
+    println!("compare: {} records of all kinds, {tried} files with one byte set, 0 differences", file.len() / 32);
+    false
+}
+
+fn report(whence: &str, file: &[u8], trial: &Trial) {
+    let smallest = shrink::smallest(file, |f| trial.run(f).is_err());
+    println!("compare: 1 difference: {whence}, {trial:?}");
+    println!("the smallest file found has {} bytes:", smallest.len());
+    for record in smallest.chunks(32) {
+        println!("  {}", record.iter().map(|b| format!("{b:02x}")).collect::<Vec<_>>().join(" "));
+    }
+    if let Err(said) = trial.run(&smallest) {
+        println!("{said}");
+    }
+}

@@ -1,0 +1,33 @@
+//! The five exported functions of the library (include/urzulempa.h). None of them has a precondition: a slice is all they ask.
+
+use crate::{Answer, Node};
+
+extern "C" {
+    fn urzulempa_explain(file: *const u8, file_len: usize, option: u64, room: *mut u8, room_len: usize) -> Answer;
+    fn urzulempa_explain_plain(file: *const u8, file_len: usize, room: *mut u8, room_len: usize) -> Answer;
+    fn urzulempa_graphviz(file: *const u8, file_len: usize, option: u64, room: *mut u8, room_len: usize) -> Answer;
+    fn urzulempa_check(file: *const u8, file_len: usize) -> Answer;
+    fn urzulempa_nodes(file: *const u8, file_len: usize, list: *mut Node, list_len: usize) -> Answer;
+}
+
+// SAFETY, for all five: pointer and length are those of one slice, and the library reads and writes inside it only (proved).
+
+pub fn explain(file: &[u8], option: u64, room: &mut [u8]) -> Answer {
+    unsafe { urzulempa_explain(file.as_ptr(), file.len(), option, room.as_mut_ptr(), room.len()) }
+}
+
+pub fn explain_plain(file: &[u8], room: &mut [u8]) -> Answer {
+    unsafe { urzulempa_explain_plain(file.as_ptr(), file.len(), room.as_mut_ptr(), room.len()) }
+}
+
+pub fn graphviz(file: &[u8], option: u64, room: &mut [u8]) -> Answer {
+    unsafe { urzulempa_graphviz(file.as_ptr(), file.len(), option, room.as_mut_ptr(), room.len()) }
+}
+
+pub fn check(file: &[u8]) -> Answer {
+    unsafe { urzulempa_check(file.as_ptr(), file.len()) }
+}
+
+pub fn nodes(file: &[u8], list: &mut [Node]) -> Answer {
+    unsafe { urzulempa_nodes(file.as_ptr(), file.len(), list.as_mut_ptr(), list.len()) }
+}

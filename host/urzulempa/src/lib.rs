@@ -1,0 +1,123 @@
+//! Why a load of packages has no solution: safe functions over the proved library.
+//!
+//! Every function takes any bytes and any room and gives an [`Answer`]; none of them panics, allocates or keeps anything.
+//!
+//! ```
+//! use urzulempa::{explain, Refusal};
+//!
+//! // A file without records has nothing to explain.
+//! let mut room = [0; 64];
+//! let answer = explain(&[], 0, &mut room);
+//! assert!(answer.is_done());
+//! assert_eq!(answer.bytes, 0);
+//!
+//! // 33 bytes are no file of 32-byte records, and the room stays as it was.
+//! let answer = explain(&[7; 33], 0, &mut room);
+//! assert_eq!(answer.refusal(), Some(Refusal::Length));
+//! assert_eq!(room, [0; 64]);
+//! ```
+
+mod ffi;
+mod refusal;
+
+pub use refusal::Refusal;
+
+/// What a call says: the text is whole, or a numbered refusal with its place; and what was written.
+#[repr(C)]
+#[derive(Clone, Copy, Debug, PartialEq, Eq)]
+pub struct Answer {
+    /// 0 when done, else the refusal's number.
+    pub number: u64,
+    /// Where: a record, a clause, a node, units written or a solvable, by the refusal.
+    pub place: u64,
+    /// Bytes written.
+    pub bytes: u64,
+    /// Whole units written: lines, or in the graph text the opening, edges and the closing brace.
+    pub units: u64,
+    /// How many packages are opened on the deepest branch of what was written.
+    pub depth: u64,
+}
+
+impl Answer {
+    /// The text is whole.
+    pub fn is_done(&self) -> bool {
+        self.number == 0
+    }
+
+    /// The refusal, unless the answer is done.
+    pub fn refusal(&self) -> Option<Refusal> {
+        Refusal::of(self)
+    }
+}
+
+/// One node of the conflict graph.
+#[repr(C)]
+#[derive(Clone, Copy, Debug, Default, PartialEq, Eq)]
+pub struct Node {
+    /// 0 root, 1 solvable, 2 unresolved, 3 excluded.
+    pub kind: u16,
+    /// The number of the solvable or of the reason, else 0.
+    pub number: u16,
+    /// The node number of its merge group's first member; its own if it is in none.
+    pub group: u16,
+    /// 1 if the node can be installed.
+    pub installable: u8,
+    /// 1 if the node is missing.
+    pub missing: u8,
+}
+
+/// The most nodes that a graph has.
+pub const MOST_NODES: usize = 128;
+
+/// Writes the explanation into the room; option 1 indents the top level, 0 does not, any other is refused.
+pub fn explain(file: &[u8], option: u64, room: &mut [u8]) -> Answer {
+    ffi::explain(file, option, room)
+}
+
+/// Writes the explanation with option 0.
+pub fn explain_plain(file: &[u8], room: &mut [u8]) -> Answer {
+    ffi::explain_plain(file, room)
+}
+
+/// Writes the graph in the DOT language; option 1 draws each merge group once.
+pub fn graphviz(file: &[u8], option: u64, room: &mut [u8]) -> Answer {
+    ffi::graphviz(file, option, room)
+}
+
+/// Refusals 1 to 9, and no text.
+pub fn check(file: &[u8]) -> Answer {
+    ffi::check(file)
+}
+
+/// Fills the list with one entry a node; a list shorter than the nodes is left as it was, with refusal 10.
+///
+/// ```
+/// let mut list = [urzulempa::Node::default(); urzulempa::MOST_NODES];
+/// let answer = urzulempa::nodes(&[], &mut list);
+/// assert!(answer.is_done());
+/// assert_eq!(list[0].kind, 0);
+/// ```
+pub fn nodes(file: &[u8], list: &mut [Node]) -> Answer {
+    ffi::nodes(file, list)
+}
+
+/// A call that writes into a room, such as [`explain`] with its file and option filled in, with a room that grows until the
+/// text fits or has `most` bytes.
+///
+/// ```
+/// let (answer, text) = urzulempa::grown(1 << 20, |room| urzulempa::explain(&[], 0, room));
+/// assert!(answer.is_done());
+/// assert!(text.is_empty());
+/// ```
+pub fn grown(most: usize, call: impl Fn(&mut [u8]) -> Answer) -> (Answer, Vec<u8>) {
+    let mut size = most.min(4096);
+    loop {
+        let mut room = vec![0; size];
+        let answer = call(&mut room);
+        if answer.number != 10 || size == most {
+            room.truncate(usize::try_from(answer.bytes).unwrap_or(size));
+            return (answer, room);
+        }
+        size = most.min(size * 4);
+    }
+}

@@ -1,0 +1,150 @@
+//! The command: explain, graph, nodes, check.
+
+mod decode;
+
+use std::fs;
+use std::io::{self, Read, Write};
+use std::process::ExitCode;
+use urzulempa::{check, explain, graphviz, grown, nodes, Answer, Node, Refusal, MOST_NODES};
+
+const HELP: &str = "\
+urzulempa: why a load of packages has no solution, from a file of clause records
+
+  urzulempa explain FILE [--indent] [--room N]   the explanation; --indent draws the top level too
+  urzulempa graph FILE [--simplify] [--room N]   the graph in the DOT language; --simplify draws a merge group once
+  urzulempa nodes FILE                           the nodes: number, kind, what it names, group, labels
+  urzulempa check FILE                           whether the file is accepted, and no text
+
+FILE may be - for standard input. N is the most bytes of text (default 67108864).
+Text goes to standard output, everything else to standard error.
+Exit status: 0 done, 2 refused, 1 trouble with a file, 64 wrong usage.
+
+Examples:
+  urzulempa explain samples/replay.rec
+  urzulempa graph samples/replay.rec --simplify | dot -Tsvg > replay.svg
+  urzulempa check - < samples/load.rec
+";
+
+const DEFAULT_ROOM: usize = 64 << 20;
+
+fn main() -> ExitCode {
+    let words: Vec<String> = std::env::args_os().skip(1).map(|w| w.to_string_lossy().into_owned()).collect();
+    match run(&words) {
+        Ok(code) => code,
+        Err(why) => {
+            say(&format!("urzulempa: {why}"));
+            ExitCode::from(1)
+        }
+    }
+}
+
+fn run(words: &[String]) -> Result<ExitCode, String> {
+    if words.is_empty() || words.iter().any(|w| w == "--help" || w == "-h") {
+        return if words.is_empty() { Ok(usage("no command")) } else { print(HELP.as_bytes()).map(|()| ExitCode::SUCCESS) };
+    }
+    let mut file = None;
+    let (mut option, mut room) = (0, DEFAULT_ROOM);
+    let mut rest = words[1..].iter();
+    while let Some(word) = rest.next() {
+        match (words[0].as_str(), word.as_str()) {
+            ("explain", "--indent") | ("graph", "--simplify") => option = 1,
+            ("explain" | "graph", "--room") => match rest.next().and_then(|n| n.parse().ok()) {
+                Some(n) => room = n,
+                None => return Ok(usage("--room wants a number of bytes")),
+            },
+            (_, w) if w == "-" || !w.starts_with('-') => {
+                if file.replace(w.to_owned()).is_some() {
+                    return Ok(usage("one FILE, please"));
+                }
+            }
+            (_, w) => return Ok(usage(&format!("{w} is no option of {}", words[0]))),
+        }
+    }
+    if !["explain", "graph", "nodes", "check"].contains(&words[0].as_str()) {
+        return Ok(usage(&format!("{} is no command", words[0])));
+    }
+    let Some(name) = file else { return Ok(usage("FILE is missing")) };
+    let bytes = read(&name)?;
+    match words[0].as_str() {
+        "explain" => text(&bytes, grown(room, |r| explain(&bytes, option, r))),
+        "graph" => text(&bytes, grown(room, |r| graphviz(&bytes, option, r))),
+        "nodes" => list(&bytes),
+        _ => Ok(told(&bytes, &check(&bytes))),
+    }
+}
+
+fn usage(why: &str) -> ExitCode {
+    say(&format!("urzulempa: {why}; `urzulempa --help` shows the commands"));
+    ExitCode::from(64)
+}
+
+fn read(name: &str) -> Result<Vec<u8>, String> {
+    let mut bytes = Vec::new();
+    let read = if name == "-" { io::stdin().lock().read_to_end(&mut bytes).map(|_| ()) } else { fs::read(name).map(|b| bytes = b) };
+    read.map(|()| bytes).map_err(|e| format!("{name}: {e}"))
+}
+
+fn text(file: &[u8], (answer, text): (Answer, Vec<u8>)) -> Result<ExitCode, String> {
+    print(&text)?;
+    Ok(told(file, &answer))
+}
+
+fn list(file: &[u8]) -> Result<ExitCode, String> {
+    let mut list = [Node::default(); MOST_NODES];
+    let answer = nodes(file, &mut list);
+    if answer.is_done() {
+        let count = count_nodes(file);
+        let kinds = ["root", "solvable", "unresolved", "excluded"];
+        let mut out = String::from("node kind number group installable missing\n");
+        for (n, node) in list.iter().take(count).enumerate() {
+            let kind = kinds.get(usize::from(node.kind)).unwrap_or(&"?");
+            out += &format!("{n} {kind} {} {} {} {}\n", node.number, node.group, node.installable, node.missing);
+        }
+        print(out.as_bytes())?;
+    }
+    Ok(told(file, &answer))
+}
+
+/// The shortest list that the library fills has one entry a node.
+fn count_nodes(file: &[u8]) -> usize {
+    (0..MOST_NODES).find(|&n| nodes(file, &mut vec![Node::default(); n]).is_done()).unwrap_or(MOST_NODES)
+}
+
+/// Says a refusal in a sentence, with the record that it points at, decoded.
+fn told(file: &[u8], answer: &Answer) -> ExitCode {
+    let Some(refusal) = answer.refusal() else { return ExitCode::SUCCESS };
+    let record = refusal.record().or_else(|| match refusal {
+        Refusal::Learnt(c) | Refusal::GraphFull(c) => decode::clause_record(file, c),
+        Refusal::Endless(s) => decode::solvable_record(file, s),
+        _ => None,
+    });
+    say(&format!("refused {} at {}: {refusal}", answer.number, place(&refusal, answer.place, record)));
+    if let Some((record, said)) = record.and_then(|r| decode::describe(file, r).map(|said| (r, said))) {
+        say(&format!("record {record}: {said}; {}", decode::defined(file, record)));
+    }
+    ExitCode::from(2)
+}
+
+fn place(refusal: &Refusal, place: u64, record: Option<u64>) -> String {
+    let byte = record.map(|r| format!(", byte {}", r * 32)).unwrap_or_default();
+    match refusal {
+        Refusal::Learnt(_) | Refusal::GraphFull(_) => format!("clause {place}{byte}"),
+        Refusal::Unreached(_) => format!("node {place}"),
+        Refusal::Room(_) => format!("unit {place}"),
+        Refusal::Endless(_) => format!("solvable {place}{byte}"),
+        Refusal::Length | Refusal::Option => "the whole file".into(),
+        _ => format!("record {place}{byte}"),
+    }
+}
+
+fn print(bytes: &[u8]) -> Result<(), String> {
+    let mut out = io::stdout().lock();
+    match out.write_all(bytes).and_then(|()| out.flush()) {
+        Err(e) if e.kind() != io::ErrorKind::BrokenPipe => Err(format!("standard output: {e}")),
+        _ => Ok(()),
+    }
+}
+
+fn say(line: &str) {
+    let _ = writeln!(io::stderr().lock(), "{line}");
+}

@@ -1,0 +1,85 @@
+//! The refusals, each with one sentence that says what to do.
+
+use crate::Answer;
+use std::fmt;
+
+/// Why there is no whole text (document 01, "Refusal numbers"), with its place.
+#[derive(Clone, Copy, Debug, PartialEq, Eq)]
+pub enum Refusal {
+    /// 1
+    Length,
+    /// 2, by record
+    Kind(u64),
+    /// 3, by record
+    Shape(u64),
+    /// 4, by record
+    Number(u64),
+    /// 5, by record
+    Origin(u64),
+    /// 6, by record
+    TableFull(u64),
+    /// 7, by clause
+    Learnt(u64),
+    /// 8, by clause
+    GraphFull(u64),
+    /// 9, by node
+    Unreached(u64),
+    /// 10, by units written
+    Room(u64),
+    /// 11, by solvable
+    Endless(u64),
+    /// 12
+    Option,
+    /// A number that no call gives.
+    Unknown(u64),
+}
+
+impl Refusal {
+    pub(crate) fn of(answer: &Answer) -> Option<Self> {
+        let place = answer.place;
+        Some(match answer.number {
+            0 => return None,
+            1 => Self::Length,
+            2 => Self::Kind(place),
+            3 => Self::Shape(place),
+            4 => Self::Number(place),
+            5 => Self::Origin(place),
+            6 => Self::TableFull(place),
+            7 => Self::Learnt(place),
+            8 => Self::GraphFull(place),
+            9 => Self::Unreached(place),
+            10 => Self::Room(place),
+            11 => Self::Endless(place),
+            12 => Self::Option,
+            other => Self::Unknown(other),
+        })
+    }
+
+    /// The record that the refusal points at, if it points at one.
+    pub fn record(&self) -> Option<u64> {
+        match *self {
+            Self::Kind(r) | Self::Shape(r) | Self::Number(r) | Self::Origin(r) | Self::TableFull(r) => Some(r),
+            _ => None,
+        }
+    }
+}
+
+impl fmt::Display for Refusal {
+    fn fmt(&self, f: &mut fmt::Formatter<'_>) -> fmt::Result {
+        match *self {
+            Self::Length => write!(f, "the file's length is no multiple of 32 or above 65,536 bytes: it was cut or is no record file; write it again"),
+            Self::Kind(r) => write!(f, "record {r} has a kind that does not exist: the writer is newer than this reader, or the file is damaged"),
+            Self::Shape(r) => write!(f, "record {r} has a bad length, flag, text byte or origin, or a byte that must be 0 is not: write it again"),
+            Self::Number(r) => write!(f, "record {r} is out of order or names something that is not defined before it: put definitions first and number them from 0"),
+            Self::Origin(r) => write!(f, "record {r} names a variable of an origin that its field does not allow: check what the variable stands for"),
+            Self::TableFull(r) => write!(f, "record {r} is one more than its table holds: the load is too large; leave out what is not in the core"),
+            Self::Learnt(c) => write!(f, "clause {c} is a learnt clause in the core: hand over the clauses that it was learnt from instead"),
+            Self::GraphFull(c) => write!(f, "clause {c} would add node 129 or edge 1,025: the conflict is too large to draw; cut the core down"),
+            Self::Unreached(n) => write!(f, "node {n} is not reached from the root: the core lacks a clause that leads to it"),
+            Self::Room(u) => write!(f, "the room was full after {u} whole units: lend a larger one"),
+            Self::Endless(s) => write!(f, "solvable {s} comes to be opened below itself, so the explanation would never end; the lines before that are whole"),
+            Self::Option => write!(f, "the option is neither 0 nor 1"),
+            Self::Unknown(n) => write!(f, "refusal {n}, which no call gives"),
+        }
+    }
+}
