@@ -1,3 +1,4 @@
 pub mod Graphs
 pub mod Drawing
+pub mod Exact
 pub mod Cases

@@ -2,3 +2,4 @@ pub mod Links
 pub mod Growth
 pub mod Requiring
 pub mod Direct
+pub mod Exact

@@ -269,3 +269,7 @@ held tr w n T = omega (arith, T .long, T .chained .most)
 -- the chain's number as a call gave it
 pub hash-linked : (w l : List ℕ) (n h t : ℕ) → l ≡ linked tripleLay w n h → h ≡ hashOf t → l ≡ linked tripleLay w n (hashOf t)
 hash-linked w l n h t q e = rw (← e) q
+
+-- two words that the relation allows are equal
+pub word-one : (t : Triple) (r w : ℕ) → TripleWord t r → TripleWord t w → r ≡ w
+word-one t r w p q = p .is ∙ sym (q .is)

@@ -1,0 +1,31 @@
+-- What `build` promises determines its answer and every word of the graph's table.
+use mathlib.Core.Path.{_≡_, refl, sym, ap, _∙_}
+use mathlib.Core.List.{List}
+use Prim.Native.Nat.{ℕ}
+use Rattle.basis.specs.Members.{clash}
+use Rattle.store.specs.declared.Size.{Size}
+use Rattle.store.specs.Graph.{Graph}
+use Rattle.store.specs.Table.{graphIn, Stored}
+use Rattle.store.specs.Exact.{size-one, table-one}
+use Rattle.graph.specs.declared.Drawing.{Drawing}
+use Rattle.graph.specs.declared.Drawing.the-variants as D
+use Rattle.graph.specs.Graphs.{Outcome, drawn, refused}
+use Rattle.graph.specs.Drawing.{drawingSize, Drew}
+
+module _ (X : Outcome) (G : Graph) (g h w v : List ℕ) where
+  pub drew-table : (r q : Drawing) → Drew X G g w r → Drew X G h v q → g ≡ h
+  drew-table r q R Q = table-one g h (drawingSize r) (drawingSize q) (R .stored) (Q .stored) (R .holds ∙ sym (Q .holds))
+
+  sizes : (r q : Drawing) → Drew X G g w r → Drew X G h v q → drawingSize r ≡ drawingSize q
+  sizes r q R Q = size-one g h (drawingSize r) (drawingSize q) (R .stored) (Q .stored) (R .holds ∙ sym (Q .holds))
+
+  pub drew-answer : (r q : Drawing) → Drew X G g w r → Drew X G h v q → r ≡ q
+  drew-answer (D.Whole s) (D.Whole t) R Q = ap D.Whole (sizes (D.Whole s) (D.Whole t) R Q)
+  drew-answer (D.Whole s) (D.Refused k i t) R Q = let z : drawn (graphIn g s) ≡ refused k i = R .is ∙ sym (Q .is) in clash (cc)
+  drew-answer (D.Refused k i s) (D.Whole t) R Q = let z : refused k i ≡ drawn (graphIn h t) = R .is ∙ sym (Q .is) in clash (cc)
+  drew-answer (D.Refused k i s) (D.Refused l j t) R Q =
+      let z : refused k i ≡ refused l j = R .is ∙ sym (Q .is) in
+      let y : s ≡ t = sizes (D.Refused k i s) (D.Refused l j t) R Q in
+      let a : k ≡ l = cc in
+      let b : i ≡ j = cc in
+      cc

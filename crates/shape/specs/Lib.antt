@@ -1,0 +1,4 @@
+pub mod Shaped
+pub mod Reared
+pub mod Graphed
+pub mod Uses
