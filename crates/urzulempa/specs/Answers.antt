@@ -9,7 +9,6 @@ use Rattle.records.specs.declared.Counts.{Counts}
 use Rattle.records.specs.declared.Answer as Reads
 use Rattle.records.specs.Tables.{Tables, countsOf}
 use Rattle.records.specs.Read.{Reading, good, bad, readOf, answerOf, tablesIn, tablesOf}
-use Rattle.index.specs.Load.{load-counts}
 use Rattle.store.specs.Graph.{Graph}
 use Rattle.graph.specs.declared.Drawing.{Drawing}
 use Rattle.graph.specs.declared.Drawing.the-variants as D
@@ -26,7 +25,7 @@ outcomeAnswer (drawn G) = refusalOf 0 0
 outcomeAnswer (refused k p) = refusalOf k p
 
 -- "1, then record by record in the table's order, then core clauses in order (7, 8), then 9"
-abbrev checkBy : Reading → Answer
+abbrev pub checkBy : Reading → Answer
 checkBy (bad k p) = refusalOf k p
 checkBy (good T) = outcomeAnswer (graphOf T)
 
@@ -66,7 +65,3 @@ check-accepted file a x c G g w d e q D h = h ∙ same-answer g d ∙ ap outcome
     go : (y : Reading) → readOf file ≡ y → Accepted c ≡ answerOf y → outcomeAnswer (graphOf (tablesIn (readOf file))) ≡ checkBy y
     go (bad k i) f h = clash (cc)
     go (good T) f h = ap (λ (z : Reading). outcomeAnswer (graphOf (tablesIn z))) f
-
--- the number of clauses that the reader counted
-pub clauses-counted : (file : List ℕ) (a : Reads.Answer) (c : Counts) → a ≡ Accepted c → a ≡ answerOf (readOf file) → c .clauses ≡ length (tablesOf file .clauses)
-clauses-counted file a c e q = ap (λ (d : Counts). d .clauses) (load-counts file a c q e)

@@ -1,6 +1,8 @@
 // The public calls (include/urzulempa.h). Each owns its working arrays, takes any bytes, any room and any option, and has no
 // `requires`.
 mod checks;
+mod graphs;
+mod nodes;
 
 // "An answer holds number, place, bytes, units, depth" (document 01, "Refusal numbers").
 #[repr(C)]
@@ -13,7 +15,10 @@ pub struct Answer {
 }
 
 ghost use mathlib.Core.Path.{_≡_};
+ghost use lib.ListN.{length};
+ghost use Rattle.texts.specs.Wrote.{over};
 ghost use Rattle.urzulempa.specs.Answers.{checkOf};
+ghost use Rattle.urzulempa.specs.Draws.{resultAnswer, drawFile};
 
 // Refusals 1 to 9, and no text.
 #[no_mangle]
@@ -25,4 +30,20 @@ pub extern "C" fn urzulempa_check(file: &[u8]) -> Answer
     let mut tr = [0u64; 1024];
     let mut w = [0u16; 3456];
     checks::check_in(file, &mut ix, &mut g, &mut tr, &mut w)
+}
+
+// The graph in the DOT language; option 1 simplifies.
+#[no_mangle]
+pub extern "C" fn urzulempa_graphviz(file: &[u8], option: u64, room: &mut [u8]) -> Answer
+    ensures { λ r. ⌜ r ≡ resultAnswer (drawFile (now (file .entry)) option (length (now (room .entry)))) ⌝ }
+    ensures { λ _. ⌜ now (room .exit) ≡ over (drawFile (now (file .entry)) option (length (now (room .entry))) .text) (now (room .entry)) ⌝ }
+{
+    if 1 < option {
+        return checks::refusal(12, 0);
+    }
+    let mut ix = [0u16; 10432];
+    let mut g = [0u64; 1152];
+    let mut tr = [0u64; 1024];
+    let mut w = [0u16; 3456];
+    graphs::draw_in(file, option == 1, &mut ix, &mut g, &mut tr, &mut w, room)
 }

@@ -1,5 +1,6 @@
 use Rattle.index.specs.Load.{load-loaded}
-use Rattle.urzulempa.specs.Answers.{clauses-counted, check-refused, check-accepted}
+use Rattle.nodelist.specs.Ways.{clauses-counted}
+use Rattle.urzulempa.specs.Answers.{check-refused, check-accepted}
 use borrow.Author.Needs.{needs}
 use Rattle.urzulempa.proofs.checks.check_in.Statement.{statement}
 use Rattle.urzulempa.proofs.checks.check_in.Tie as tie

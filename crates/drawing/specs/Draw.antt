@@ -1,0 +1,96 @@
+-- The graph text (conflict.rs: `graphviz`). Units are the opening, one edge, the closing brace.
+use mathlib.Core.Bool.{Bool, true, false, cond}
+use mathlib.Core.List.{List, [], _∷_, map}
+use Prim.Native.Nat.{ℕ, suc, _-_}
+use lib.ListN.{length, getD}
+use lib.Dec.{ltb, eqb}
+use Rattle.basis.specs.Lists.{has, snoc, concatMap, upto}
+use Rattle.basis.specs.Quote.{utf8}
+use Rattle.records.specs.Tables.{Tables}
+use Rattle.records.specs.Views.{nameText, solvableName}
+use Rattle.store.specs.declared.ConflictNode.{ConflictNode}
+use Rattle.store.specs.declared.ConflictNode.the-variants as N
+use Rattle.store.specs.declared.Edge.{Edge}
+use Rattle.store.specs.Graph.{Graph, out, nodeAt}
+use Rattle.groups.specs.Groups.{headOr, mates}
+use Rattle.strokes.specs.Stroke.{isRed, stroke}
+
+-- the graph with, for each node, 0 if it is in no group, else one more than the number of its group's first member (`merged_nodes`)
+pub record Drawn : Type 0 where
+  pub tables : Tables
+  pub graph : Graph
+  pub merged : List ℕ
+
+-- "A group has two or more"
+abbrev pub markOf : List ℕ → ℕ
+markOf ms = cond (ltb 1 (length ms)) (suc (headOr 0 ms)) 0
+
+-- "For the graph text, option 1 simplifies."; else `HashMap::default()`
+unfoldable pub drawnOf : ℕ → Tables → Graph → Drawn
+unfolding mates
+drawnOf opt T G =
+    record {
+      tables = T;
+      graph = G;
+      merged = cond (eqb opt 1) (map (λ n. markOf (mates (λ s. nameText T (solvableName T s)) G n)) (upto (length (G .nodes)) 0)) [];
+    }
+
+-- the root and the solvables have edges; of a merged group only the first is drawn
+unfoldable pub drawnAt : List ℕ → ConflictNode → ℕ → Bool
+drawnAt ms N.Root n = true
+drawnAt ms (N.Solvable s) n = eqb (cond (ltb 0 (getD ms n 0)) (getD ms n 0 - 1) n) n
+drawnAt ms N.UnresolvedDependency n = false
+drawnAt ms (N.Excluded r) n = false
+
+module _ (D : Drawn) where
+  abbrev pub isMerged : ℕ → Bool
+  isMerged n = ltb 0 (getD (D .merged) n 0)
+
+  -- `merged.ids[0]`
+  abbrev pub firstOf : ℕ → ℕ
+  firstOf n = getD (D .merged) n 0 - 1
+
+  abbrev pub leadOf : ℕ → ℕ
+  leadOf n = cond (isMerged n) (firstOf n) n
+
+  -- ---- edges
+
+  unfoldable pub edgeText : ℕ → Edge → List ℕ
+  unfolding stroke isRed
+  edgeText n e =
+      stroke (D .tables) (nodeAt (D .graph) n) (nodeAt (D .graph) (leadOf (e .target))) (isRed (e .weight) (nodeAt (D .graph) (e .target))) (e .weight)
+
+  -- of the edges to one merged group only the newest, whatever its label; `seen` are the groups so far (`added_edges`)
+  unfoldable pub kept : List Edge → List ℕ → List Edge
+  kept [] seen = []
+  kept (e ∷ es) seen =
+      elim (isMerged (e .target)) [
+        | false ↦ e ∷ kept es seen
+        | true ↦ elim (has (firstOf (e .target)) seen) [ true ↦ kept es seen | false ↦ e ∷ kept es (firstOf (e .target) ∷ seen) ]
+      ]
+
+  -- ---- nodes
+
+  unfoldable pub isDrawn : ℕ → Bool
+  unfolding drawnAt
+  isDrawn n = drawnAt (D .merged) (nodeAt (D .graph) n) n
+
+  unfoldable pub edgeUnits : ℕ → List (List ℕ)
+  unfolding edgeText kept out
+  edgeUnits n = map (edgeText n) (kept (out (D .graph) n) [])
+
+  unfoldable pub nodeUnits : ℕ → List (List ℕ)
+  unfolding isDrawn edgeUnits
+  nodeUnits n = cond (isDrawn n) (edgeUnits n) []
+
+  unfoldable pub allUnits : List (List ℕ)
+  unfolding nodeUnits
+  allUnits = concatMap nodeUnits (upto (length (D .graph .nodes)) 0)
+
+  unfoldable pub restUnits : List (List ℕ)
+  unfolding allUnits
+  restUnits = snoc allUnits (utf8 "}")
+
+  unfoldable pub drawingUnits : List (List ℕ)
+  unfolding restUnits
+  drawingUnits = utf8 "digraph {" ∷ restUnits

@@ -1,0 +1,20 @@
+-- The units of the graph text that fit. "The graph text never gets 11, and its depth is 0."
+use mathlib.Core.List.{List, map}
+use Prim.Native.Nat.{ℕ}
+use Rattle.machine.specs.Units.{TextUnit, Result, fit}
+use Rattle.drawing.specs.declared.Answer.{Answer}
+use Rattle.drawing.specs.Draw.{Drawn, drawingUnits}
+
+abbrev pub unitOf : List ℕ → TextUnit
+unitOf t = record { bytes = t; openings = 0 }
+
+unfoldable pub shownOf : List (List ℕ) → ℕ → Result
+shownOf us room = fit 0 0 room (map unitOf us)
+
+unfoldable pub drawShown : Drawn → ℕ → Result
+unfolding drawingUnits shownOf
+drawShown D room = shownOf (drawingUnits D) room
+
+-- the answer: all of the result but the bytes written
+abbrev pub answerIn : Result → Answer
+answerIn r = record { number = r .number; place = r .place; bytes = r .bytes; units = r .units; depth = r .depth }

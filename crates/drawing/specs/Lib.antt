@@ -1,0 +1,9 @@
+pub mod Draw
+pub mod Graphviz
+pub mod Pen
+pub mod Fits
+pub mod Stamps
+pub mod Walk
+pub mod Marks
+pub mod Same
+pub mod Samples

@@ -1,0 +1,233 @@
+-- The ways through the code, each with what it leaves.
+use mathlib.Core.Path.{_≡_, refl, sym, ap, _∙_}
+use mathlib.Core.Bool.{Bool, true, false, cond}
+use mathlib.Core.List.{List, [], _∷_, _++_, map}
+use Prim.Native.Nat.{ℕ, zero, suc, _+_, _*_, _/_, _%_, _<_, _≤_}
+use native.Mathlib.Omega.{arith}
+use lib.ListN.{length, getD, take, drop, set, replicate, length-map, List·getD-map}
+use lib.Seq.{drop-cons, append-snoc, set-at}
+use lib.Dec.{ltb}
+use borrow.Author.Tests.{lt-ltb, le-ltb}
+use Rattle.basis.specs.Lists.{upto}
+use Rattle.basis.specs.Members.{clash}
+use Rattle.records.specs.declared.Answer.the-variants.{Accepted, Refused}
+use Rattle.records.specs.declared.Counts.{Counts}
+use Rattle.records.specs.declared.Answer.{Answer}
+use Rattle.records.specs.Tables.{Tables}
+use Rattle.records.specs.Read.{Reading, good, bad, readOf, answerOf, tablesIn, tablesOf}
+use Rattle.index.specs.Load.{load-counts}
+use Rattle.store.specs.declared.ConflictNode.{ConflictNode}
+use Rattle.store.specs.declared.Size.{Size}
+use Rattle.store.specs.Graph.{Graph, nodeAt}
+use Rattle.store.specs.Words.{byKind, nodeOf}
+use Rattle.store.specs.Table.{graphIn, nodeWords, Stored, nodes-count}
+use Rattle.links.specs.Build.{Chains}
+use Rattle.graph.specs.declared.Drawing.{Drawing}
+use Rattle.graph.specs.declared.Drawing.the-variants as D
+use Rattle.graph.specs.Graphs.{Outcome, drawn, refused, graphOf}
+use Rattle.graph.specs.Drawing.{Drew, drawingIn}
+use Rattle.labels.specs.Labels.{installable, missing}
+use Rattle.labels.specs.Marks.{bitsOf, marksOf, marks-at}
+use Rattle.labels.specs.Passes.{Blank}
+use Rattle.groups.specs.Groups.{titleOf, leadBy, leadOf}
+use Rattle.groups.specs.Leads.{leadsTo, leads-at, lead-le}
+use Rattle.naming.specs.Naming.{nameOf}
+use Rattle.listing.specs.Listing.{kindOf, numberOf, entriesTo, kind-small}
+use Rattle.listing.specs.Listing as W
+use Rattle.entries.specs.Entry.{wordOf, Narrow, Narrows}
+use Rattle.entries.specs.declared.NodeEntry.{NodeEntry}
+use Rattle.nodelist.specs.declared.Counted.{Counted}
+use Rattle.nodelist.specs.Nodes.{flag, nodeEntry, nodeEntries, Nodes, entered, denied, nodesDrawn, nodesRead, nodesOf, refusalOf, countedBy, listedBy}
+use Rattle.nodelist.specs.Listed.{wordsOver, Listed}
+
+-- ---- numbers in a row
+
+length-upto : (k a : ℕ) → length (upto k a) ≡ k
+length-upto zero a = refl
+length-upto (suc k) a = ap suc (length-upto k (suc a))
+
+module _ {A : Type 0} (f : ℕ → A) where
+  map-last : (k a : ℕ) → map f (upto (suc k) a) ≡ map f (upto k a) ++ (f (a + k) ∷ [])
+  map-last zero a = let z : a ≡ a + 0 = omega arith in ap (λ (n : ℕ). f n ∷ []) z
+  map-last (suc k) a =
+      let z : suc a + k ≡ a + suc k = omega arith in
+      ap (λ (t : List A). f a ∷ t) (map-last k (suc a) ∙ ap (λ (n : ℕ). map f (upto k (suc a)) ++ (f n ∷ [])) z)
+
+  map-same : (h : ℕ → A) (k a : ℕ) → ((n : ℕ) → n < a + k → f n ≡ h n) → map f (upto k a) ≡ map h (upto k a)
+  map-same h zero a e = refl
+  map-same h (suc k) a e =
+      ap (λ (x : A). x ∷ map f (upto k (suc a))) (e a (omega arith))
+      ∙ ap (λ (t : List A). h a ∷ t) (map-same h k (suc a) (λ n i. e n (omega arith)))
+
+map-twice : (f : ℕ → NodeEntry) (l : List ℕ) → map wordOf (map f l) ≡ map (λ n. wordOf (f n)) l
+map-twice f [] = refl
+map-twice f (n ∷ l) = ap (λ (t : List ℕ). wordOf (f n) ∷ t) (map-twice f l)
+
+narrow-all : (f : ℕ → NodeEntry) (k a : ℕ) → ((n : ℕ) → n < a + k → Narrow (f n)) → Narrows (map f (upto k a))
+narrow-all f zero a e = tt
+narrow-all f (suc k) a e = (e a (omega arith), narrow-all f k (suc a) (λ n i. e n (omega arith)))
+
+-- ---- one node's word
+
+bits-first : (a b : Bool) → bitsOf a b % 2 ≡ flag a
+bits-first true true = refl
+bits-first true false = refl
+bits-first false true = refl
+bits-first false false = refl
+
+bits-second : (a b : Bool) → bitsOf a b / 2 % 2 ≡ flag b
+bits-second true true = refl
+bits-second true false = refl
+bits-second false true = refl
+bits-second false false = refl
+
+flag-small : (b : Bool) → flag b < 256
+flag-small true = omega arith
+flag-small false = omega arith
+
+kind-fits : (x : ConflictNode) → kindOf x < 65536
+kind-fits x = omega (arith, kind-small x)
+
+number-by : (k n : ℕ) → n < 65536 → numberOf (byKind k n) < 65536
+number-by zero n h = omega arith
+number-by (suc zero) n h = h
+number-by (suc (suc zero)) n h = omega arith
+number-by (suc (suc (suc k))) n h = h
+
+-- a stored node's number is one of 16 bits
+number-fits : (g : List ℕ) (s : Size) (n : ℕ) → numberOf (nodeAt (graphIn g s) n) < 65536
+unfolding graphIn
+number-fits g s n =
+    let w : ℕ = getD (nodeWords g (s .nodes)) n 0 in
+    rw (List·getD-map nodeOf (nodeWords g (s .nodes)) n 0) (number-by (w % 4) (w / 4 % 65536) (omega arith))
+
+module _ (T : Tables) (g : List ℕ) (s : Size) (S : Stored g s) where
+  pub entries-count : length (nodeEntries T (graphIn g s)) ≡ s .nodes
+  unfolding nodeEntries
+  entries-count =
+      length-map (upto (length (graphIn g s .nodes)) 0) (nodeEntry T (graphIn g s))
+      ∙ length-upto (length (graphIn g s .nodes)) 0
+      ∙ nodes-count g s S
+
+  narrow-entry : (n : ℕ) → n < s .nodes → Narrow (nodeEntry T (graphIn g s) n)
+  unfolding nodeEntry leadOf
+  narrow-entry n h =
+      let G : Graph = graphIn g s in
+      let c : length (G .nodes) ≡ s .nodes = nodes-count g s S in
+      let l : leadBy (titleOf (nameOf T) G) G n ≤ n = lead-le (titleOf (nameOf T) G) G n (omega (arith, c)) in
+      record {
+        kind-fits = kind-fits (nodeAt G n);
+        number-fits = number-fits g s n;
+        group-fits = omega (arith, l, S .nodes-most);
+        installable-fits = flag-small (installable G n);
+        missing-fits = flag-small (missing G n);
+      }
+
+  pub narrow-entries : Narrows (nodeEntries T (graphIn g s))
+  unfolding nodeEntries
+  narrow-entries =
+      narrow-all (nodeEntry T (graphIn g s)) (length (graphIn g s .nodes)) 0 (λ n h. narrow-entry n (omega (arith, nodes-count g s S)))
+
+-- ---- all nodes' words
+
+-- node n's word, from the tables of marks and leads
+abbrev wordAt : Graph → List ℕ → List ℕ → ℕ → ℕ
+wordAt G marks leads n = W.entryOf (nodeAt G n) (getD marks n 0) (getD leads n 0)
+
+words-front : (G : Graph) (marks leads : List ℕ) (k : ℕ) (l : List ℕ) → k ≤ length l → entriesTo G marks leads k l ≡ map (wordAt G marks leads) (upto k 0) ++ drop k l
+unfolding entriesTo
+words-front G marks leads zero l h = refl
+words-front G marks leads (suc k) l h =
+    let f : ℕ → ℕ = wordAt G marks leads in
+    let z : 0 + k ≡ k = omega arith in
+    let e : map f (upto (suc k) 0) ≡ map f (upto k 0) ++ (f k ∷ []) = map-last f k 0 ∙ ap (λ (n : ℕ). map f (upto k 0) ++ (f n ∷ [])) z in
+    ap (λ (t : List ℕ). set t k (f k)) (words-front G marks leads k l (omega arith) ∙ ap (λ (t : List ℕ). map f (upto k 0) ++ t) (drop-cons l k 0 h))
+    ∙ (set-at (map f (upto k 0)) (getD l k 0) (drop (suc k) l) (f k) k (length-map (upto k 0) f ∙ length-upto k 0)
+    ∙ (sym (append-snoc (map f (upto k 0)) (f k) (drop (suc k) l)) ∙ ap (λ (t : List ℕ). t ++ drop (suc k) l) (sym e)))
+
+module _ (T : Tables) (g : List ℕ) (s : Size) (ls marks leads l m words : List ℕ) (C : Chains g s ls) (q : marks ≡ marksOf (graphIn g s)) (p : leads ≡ leadsTo (titleOf (nameOf T) (graphIn g s)) (graphIn g s) (s .nodes) m) (b : length m ≡ 128) where
+  word-is : (n : ℕ) → n < s .nodes → wordAt (graphIn g s) marks leads n ≡ wordOf (nodeEntry T (graphIn g s) n)
+  unfolding W.entryOf nodeEntry leadOf
+  word-is n h =
+      let G : Graph = graphIn g s in
+      let i : getD marks n 0 ≡ bitsOf (installable G n) (missing G n) = ap (λ (t : List ℕ). getD t n 0) q ∙ marks-at G n (omega (arith, C .stored .nodes-most)) in
+      let j : getD leads n 0 ≡ leadBy (titleOf (nameOf T) G) G n = ap (λ (t : List ℕ). getD t n 0) p ∙ leads-at (titleOf (nameOf T) G) G (s .nodes) m (omega (arith, b, C .stored .nodes-most)) n h in
+      rw (i, j, bits-first (installable G n) (missing G n), bits-second (installable G n) (missing G n))
+
+  words-whole : words ≡ entriesTo (graphIn g s) marks leads (s .nodes) l → length l ≡ 128 → words ≡ wordsOver (nodeEntries T (graphIn g s)) l
+  unfolding nodeEntries
+  words-whole e a =
+      let G : Graph = graphIn g s in
+      let N : ℕ = length (G .nodes) in
+      let c : s .nodes ≡ N = sym (nodes-count g s (C .stored)) in
+      let many : length (map (nodeEntry T G) (upto N 0)) ≡ N = length-map (upto N 0) (nodeEntry T G) ∙ length-upto N 0 in
+      e ∙ ap (λ (k : ℕ). entriesTo G marks leads k l) c
+      ∙ words-front G marks leads N l (omega (arith, a, c, C .stored .nodes-most))
+      ∙ ap (λ (t : List ℕ). t ++ drop N l)
+      (map-same (wordAt G marks leads) (λ n. wordOf (nodeEntry T G n)) N 0 (λ n h. word-is n (omega (arith, c))) ∙ sym (map-twice (nodeEntry T G) (upto N 0)))
+      ∙ ap (λ (k : ℕ). map wordOf (map (nodeEntry T G) (upto N 0)) ++ drop k l) (sym many)
+
+-- ---- a graph that is drawn
+
+module _ (T : Tables) (g : List ℕ) (s : Size) (ls l : List ℕ) (room : ℕ) (C : Chains g s ls) where
+  short-room : room < s .nodes → ltb room (length (nodeEntries T (graphIn g s))) ≡ true
+  short-room h = rw (entries-count T g s (C .stored)) (lt-ltb room (s .nodes) h)
+
+  pub listed-short : (r : Counted) → r ≡ refusalOf 10 0 → room < s .nodes → Listed (entered (nodeEntries T (graphIn g s))) room l r l
+  listed-short r q h =
+      let t : ltb room (length (nodeEntries T (graphIn g s))) ≡ true = short-room h in
+      record { counted = rw (t, cond) q; written = rw (t, cond) refl; few = rw q (omega arith); narrow = rw (t, cond) tt }
+
+  module _ (marks leads m words : List ℕ) (q : marks ≡ marksOf (graphIn g s)) (p : leads ≡ leadsTo (titleOf (nameOf T) (graphIn g s)) (graphIn g s) (s .nodes) m) (e : words ≡ entriesTo (graphIn g s) marks leads (s .nodes) l) where
+    pub listed-whole : s .nodes ≤ room → length m ≡ 128 → length l ≡ 128 → Listed (entered (nodeEntries T (graphIn g s))) room l (record { number = 0; place = 0; units = 1; count = s .nodes }) words
+    listed-whole h b a =
+        let k : length (nodeEntries T (graphIn g s)) ≡ s .nodes = entries-count T g s (C .stored) in
+        let t : ltb room (length (nodeEntries T (graphIn g s))) ≡ false = rw k (le-ltb room (s .nodes) h) in
+        record {
+          counted = rw (t, cond, k);
+          written = rw (t, cond) (words-whole T g s ls marks leads l m words C q p b e a);
+          few = C .stored .nodes-most;
+          narrow = rw (t, cond) (narrow-entries T g s (C .stored));
+        }
+
+-- ---- a file
+
+-- the number of clauses that the reader counted
+pub clauses-counted : (file : List ℕ) (a : Answer) (c : Counts) → a ≡ Accepted c → a ≡ answerOf (readOf file) → c .clauses ≡ length (tablesOf file .clauses)
+clauses-counted file a c e q = ap (λ (d : Counts). d .clauses) (load-counts file a c q e)
+
+denied-listed : (X : Nodes) (room : ℕ) (l : List ℕ) (r : Counted) (k p : ℕ) → X ≡ denied k p → r ≡ refusalOf k p → Listed X room l r l
+denied-listed X room l r k p e q = rw e (record { counted = q; written = refl; few = rw q (omega arith); narrow = tt })
+
+pub listed-refused : (file : List ℕ) (a : Answer) (room : ℕ) (l : List ℕ) (r : Counted) (k p : ℕ) → a ≡ Refused k p → a ≡ answerOf (readOf file) → r ≡ refusalOf k p → Listed (nodesOf file) room l r l
+unfolding nodesOf
+listed-refused file a room l r k p e q h = denied-listed (nodesOf file) room l r k p (go (readOf file) (sym e ∙ q)) h
+  where
+    go : (y : Reading) → Refused k p ≡ answerOf y → nodesRead y ≡ denied k p
+    go (bad i j) f = let u : i ≡ k = cc in let v : j ≡ p = cc in rw (u, v)
+    go (good T) f = clash (cc)
+
+-- an accepted file's nodes are its graph's
+accepted-nodes : (file : List ℕ) (a : Answer) (c : Counts) → a ≡ Accepted c → a ≡ answerOf (readOf file) → nodesOf file ≡ nodesDrawn (tablesOf file) (graphOf (tablesOf file))
+unfolding nodesOf tablesOf
+accepted-nodes file a c e q = go (readOf file) refl (sym e ∙ q)
+  where
+    go : (y : Reading) → readOf file ≡ y → Accepted c ≡ answerOf y → nodesRead y ≡ nodesDrawn (tablesIn (readOf file)) (graphOf (tablesIn (readOf file)))
+    go (bad k i) f h = clash (cc)
+    go (good T) f h = ap (λ (z : Reading). nodesDrawn (tablesIn z) (graphOf (tablesIn z))) (sym f)
+
+module _ (file : List ℕ) (a : Answer) (c : Counts) (G : Graph) (g w : List ℕ) (d : Drawing) (R : Drew (graphOf (tablesOf file)) G g w d) where
+  drew-nodes : a ≡ Accepted c → a ≡ answerOf (readOf file) → nodesOf file ≡ nodesDrawn (tablesOf file) (drawingIn g d)
+  drew-nodes e q = accepted-nodes file a c e q ∙ ap (nodesDrawn (tablesOf file)) (sym (R .is))
+
+  pub listed-halted : (room : ℕ) (l : List ℕ) (r : Counted) (k p : ℕ) (s : Size) → d ≡ D.Refused k p s → a ≡ Accepted c → a ≡ answerOf (readOf file) → r ≡ refusalOf k p → Listed (nodesOf file) room l r l
+  listed-halted room l r k p s f e q h =
+      denied-listed (nodesOf file) room l r k p (drew-nodes e q ∙ ap (λ (x : Drawing). nodesDrawn (tablesOf file) (drawingIn g x)) f) h
+
+  pub listed-drawn : (room : ℕ) (l : List ℕ) (r : Counted) (ws : List ℕ) (s : Size) → d ≡ D.Whole s → a ≡ Accepted c → a ≡ answerOf (readOf file) → Listed (entered (nodeEntries (tablesOf file) (graphIn g s))) room l r ws → Listed (nodesOf file) room l r ws
+  listed-drawn room l r ws s f e q L =
+      let x : nodesOf file ≡ entered (nodeEntries (tablesOf file) (graphIn g s)) = drew-nodes e q ∙ ap (λ (x : Drawing). nodesDrawn (tablesOf file) (drawingIn g x)) f in
+      rw x L
+
+pub drawn-chained : (X : Outcome) (G : Graph) (g w : List ℕ) (d : Drawing) (s : Size) → Drew X G g w d → d ≡ D.Whole s → Chains g s w
+drawn-chained X G g w d s R f = rw f at (R .chained)

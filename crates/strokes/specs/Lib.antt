@@ -1,0 +1,3 @@
+pub mod Stroke
+pub mod Short
+pub mod Sizes

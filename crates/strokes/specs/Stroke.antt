@@ -1,0 +1,51 @@
+-- The text of one edge of the graph text (conflict.rs: `graphviz`). "Text is quoted there as it stands."
+use mathlib.Core.Bool.{Bool, true, cond}
+use mathlib.Core.List.{List, _++_}
+use Rattle.basis.specs.Quote.{utf8}
+use Rattle.records.specs.Tables.{Tables}
+use Rattle.records.specs.Views.{nameText, solvableName, versionText, setText, requirementText, reasonText}
+use Rattle.store.specs.declared.ConflictNode.{ConflictNode}
+use Rattle.store.specs.declared.ConflictNode.the-variants as N
+use Rattle.store.specs.declared.ConflictCause.the-variants as K
+use Rattle.store.specs.declared.ConflictEdge.{ConflictEdge}
+use Rattle.store.specs.declared.ConflictEdge.the-variants as W
+use Rattle.store.specs.Graph.{isUnresolved}
+use Prim.Native.Nat.{ℕ}
+
+-- "Solvable text: name, space, version"
+unfoldable pub solvableText : Tables → ℕ → List ℕ
+solvableText T s = nameText T (solvableName T s) ++ utf8 " " ++ versionText T s
+
+unfoldable pub excludedText : Tables → ℕ → List ℕ
+excludedText T r = utf8 "reason: " ++ reasonText T r
+
+-- "The root is `<root>`", "unresolved", "reason: "
+unfoldable pub nodeText : Tables → ConflictNode → List ℕ
+unfolding solvableText excludedText
+nodeText T N.Root = utf8 "<root>"
+nodeText T (N.Solvable s) = solvableText T s
+nodeText T N.UnresolvedDependency = utf8 "unresolved"
+nodeText T (N.Excluded r) = excludedText T r
+
+unfoldable pub label : Tables → ConflictEdge → List ℕ
+label T (W.Requires q) = requirementText T q
+label T (W.Conflict (K.Locked s)) = utf8 "already installed"
+label T (W.Conflict (K.Constrains v)) = setText T v
+label T (W.Conflict K.ForbidMultipleInstances) = utf8 "already installed"
+label T (W.Conflict K.Excluded) = utf8 "excluded"
+
+-- black for a requirement that has a candidate, else red
+unfoldable pub isRed : ConflictEdge → ConflictNode → Bool
+isRed (W.Requires q) x = isUnresolved x
+isRed (W.Conflict c) x = true
+
+abbrev pub colour : Bool → List ℕ
+colour red = cond red (utf8 "red") (utf8 "black")
+
+unfoldable pub paint : Bool → List ℕ
+paint red = utf8 "\"[color=" ++ colour red ++ utf8 ", label=\""
+
+-- `"\"{}\" -> \"{}\"[color={color}, label=\"{label}\"];"`
+unfoldable pub stroke : Tables → ConflictNode → ConflictNode → Bool → ConflictEdge → List ℕ
+unfolding nodeText label paint
+stroke T x y red w = utf8 "\"" ++ nodeText T x ++ utf8 "\" -> \"" ++ nodeText T y ++ paint red ++ label T w ++ utf8 "\"];"

@@ -1,0 +1,164 @@
+-- The graph text of a file: 12 first, then 1 to 9, then the units that fit.
+use mathlib.Core.Path.{_≡_, refl, sym, ap, _∙_}
+use mathlib.Core.Bool.{Bool, true, false, cond}
+use mathlib.Core.List.{List, []}
+use Prim.Native.Nat.{ℕ, zero, suc, _≤_, _<_}
+use native.Mathlib.Omega.{arith}
+use lib.ListN.{length, replicate, getD}
+use lib.Dec.{leb, eqb}
+use borrow.Author.Tests.{le-leb, lt-leb, eq-eqb, ne-eqb, eqb-true, eqb-false}
+use Rattle.basis.specs.Members.{clash}
+use Rattle.records.specs.declared.Answer as Reads
+use Rattle.records.specs.declared.Answer.the-variants.{Accepted, Refused}
+use Rattle.records.specs.declared.Counts.{Counts}
+use Rattle.records.specs.Tables.{Tables}
+use Rattle.records.specs.Read.{Reading, good, bad, readOf, answerOf, tablesIn, tablesOf}
+use Rattle.store.specs.declared.Size.{Size}
+use Rattle.store.specs.Graph.{Graph}
+use Rattle.store.specs.Table.{graphIn, nodes-count}
+use Rattle.links.specs.Build.{Chains}
+use Rattle.groups.specs.Groups.{titleOf, leadOf}
+use Rattle.groups.specs.Leads.{leadsTo, leads-at}
+use Rattle.naming.specs.Naming.{nameOf}
+use Rattle.graph.specs.declared.Drawing.{Drawing}
+use Rattle.graph.specs.declared.Drawing.the-variants as D
+use Rattle.graph.specs.Graphs.{Outcome, drawn, refused, graphOf}
+use Rattle.graph.specs.Drawing.{Drew, drawingIn, Chained}
+use Rattle.machine.specs.Units.{Result}
+use Rattle.texts.specs.Wrote.{over}
+use Rattle.drawing.specs.declared.Answer as Drawn
+use Rattle.drawing.specs.Draw.{drawnOf}
+use Rattle.drawing.specs.Graphviz.{drawShown, answerIn}
+use Rattle.drawing.specs.Same.{Leading, Given, optionOf}
+use Rattle.urzulempa.specs.declared.Answer.{Answer}
+use Rattle.urzulempa.specs.Answers.{refusalOf}
+
+-- ---- what is right
+
+-- a refusal writes nothing: "the last three are 0 for 1 to 9 and 12"
+abbrev pub refusalResult : ℕ → ℕ → Result
+refusalResult k p = record { number = k; place = p; bytes = 0; units = 0; depth = 0; text = [] }
+
+abbrev pub drawBy : ℕ → ℕ → Tables → Outcome → Result
+drawBy opt room T (refused k p) = refusalResult k p
+drawBy opt room T (drawn G) = drawShown (drawnOf opt T G) room
+
+abbrev drawRead : ℕ → ℕ → Reading → Result
+drawRead opt room (bad k p) = refusalResult k p
+drawRead opt room (good T) = drawBy opt room T (graphOf T)
+
+-- once the option is known to be 0 or 1
+unfoldable pub drawBytes : ℕ → ℕ → List ℕ → Result
+drawBytes opt room file = drawRead opt room (readOf file)
+
+-- "12 is tested first"
+unfoldable pub drawFile : List ℕ → ℕ → ℕ → Result
+unfolding drawBytes
+drawFile file opt room = cond (leb opt 1) (drawBytes opt room file) (refusalResult 12 0)
+
+-- the answer: all of the result but the text
+abbrev pub resultAnswer : Result → Answer
+resultAnswer r = record { number = r .number; place = r .place; bytes = r .bytes; units = r .units; depth = r .depth }
+
+abbrev pub drawingAs : Drawn.Answer → Answer
+drawingAs r = record { number = r .number; place = r .place; bytes = r .bytes; units = r .units; depth = r .depth }
+
+-- ---- the ways through the code
+
+pub draws-given : (t : Bool) (T : Tables) (g : List ℕ) (s : Size) (w leads l : List ℕ) → leads ≡ leadsTo (titleOf (nameOf T) (graphIn g s)) (graphIn g s) (s .nodes) l → Chains g s w → length l ≡ 128 → Given t T (graphIn g s) leads
+unfolding Given leadOf
+draws-given false T g s w leads l e C h = tt
+draws-given true T g s w leads l e C h =
+    record {
+      lead = λ j i.
+          ap (λ (x : List ℕ). getD x j 0) e
+          ∙ leads-at (titleOf (nameOf T) (graphIn g s)) (graphIn g s) (s .nodes) l (omega (arith, C .stored .nodes-most)) j (omega (arith, nodes-count g s (C .stored)));
+    }
+
+pub draws-answer : (x : Answer) (d : Drawn.Answer) (R : Result) → x ≡ drawingAs d → d ≡ answerIn R → x ≡ resultAnswer R
+draws-answer x d R q e = q ∙ ap drawingAs e
+
+-- the graph's answer d taken apart
+module _ (T : Tables) (G : Graph) (g w : List ℕ) (d : Drawing) (X : Drew (graphOf T) G g w d) (opt room : ℕ) where
+  pub after-refused : (x : Answer) (k i : ℕ) (s : Size) → d ≡ D.Refused k i s → x ≡ refusalOf k i → x ≡ resultAnswer (drawBy opt room T (graphOf T))
+  after-refused x k i s e q =
+      let z : graphOf T ≡ refused k i = sym (X .is) ∙ ap (drawingIn g) e in
+      rw z q
+
+  pub after-refused-room : (a : List ℕ) (k i : ℕ) (s : Size) → d ≡ D.Refused k i s → a ≡ over (drawBy opt room T (graphOf T) .text) a
+  after-refused-room a k i s e =
+      let z : graphOf T ≡ refused k i = sym (X .is) ∙ ap (drawingIn g) e in
+      rw z refl
+
+  pub after-whole : (x : Answer) (s : Size) → d ≡ D.Whole s → x ≡ resultAnswer (drawShown (drawnOf opt T (graphIn g s)) room) → x ≡ resultAnswer (drawBy opt room T (graphOf T))
+  after-whole x s e q =
+      let z : graphOf T ≡ drawn (graphIn g s) = sym (X .is) ∙ ap (drawingIn g) e in
+      rw z q
+
+  pub after-whole-room : (a b : List ℕ) (s : Size) → d ≡ D.Whole s → b ≡ over (drawShown (drawnOf opt T (graphIn g s)) room .text) a → b ≡ over (drawBy opt room T (graphOf T) .text) a
+  after-whole-room a b s e q =
+      let z : graphOf T ≡ drawn (graphIn g s) = sym (X .is) ∙ ap (drawingIn g) e in
+      rw z q
+
+  pub after-chains : (s : Size) → d ≡ D.Whole s → Chains g s w
+  after-chains s e = rw e at (X .chained)
+
+-- the reader's answer a taken apart
+module _ (file : List ℕ) (a : Reads.Answer) (q : a ≡ answerOf (readOf file)) (opt room : ℕ) where
+  read-bad : (k p : ℕ) → a ≡ Refused k p → readOf file ≡ bad k p
+  read-bad k p e = go (readOf file) (sym e ∙ q)
+    where
+      go : (y : Reading) → Refused k p ≡ answerOf y → y ≡ bad k p
+      go (bad l i) f = cc
+      go (good T) f = clash (cc)
+
+  read-good : (c : Counts) → a ≡ Accepted c → readOf file ≡ good (tablesOf file)
+  unfolding tablesOf
+  read-good c e = go (readOf file) refl (sym e ∙ q)
+    where
+      go : (y : Reading) → readOf file ≡ y → Accepted c ≡ answerOf y → readOf file ≡ good (tablesIn (readOf file))
+      go (bad l i) f h = clash (cc)
+      go (good T) f h = f ∙ ap (λ (z : Reading). good (tablesIn z)) (sym f)
+
+  pub bytes-refused : (x : Answer) (k p : ℕ) → a ≡ Refused k p → x ≡ refusalOf k p → x ≡ resultAnswer (drawBytes opt room file)
+  unfolding drawBytes
+  bytes-refused x k p e h = rw (read-bad k p e) h
+
+  pub bytes-refused-room : (b : List ℕ) (k p : ℕ) → a ≡ Refused k p → b ≡ over (drawBytes opt room file .text) b
+  unfolding drawBytes
+  bytes-refused-room b k p e = rw (read-bad k p e) refl
+
+  pub bytes-accepted : (x : Answer) (c : Counts) → a ≡ Accepted c → x ≡ resultAnswer (drawBy opt room (tablesOf file) (graphOf (tablesOf file))) → x ≡ resultAnswer (drawBytes opt room file)
+  unfolding drawBytes
+  bytes-accepted x c e h = rw (read-good c e) h
+
+  pub bytes-accepted-room : (l b : List ℕ) (c : Counts) → a ≡ Accepted c → b ≡ over (drawBy opt room (tablesOf file) (graphOf (tablesOf file)) .text) l → b ≡ over (drawBytes opt room file .text) l
+  unfolding drawBytes
+  bytes-accepted-room l b c e h = rw (read-good c e) h
+
+-- the option
+option-is : (opt : ℕ) → opt ≤ 1 → optionOf (eqb opt 1) ≡ opt
+option-is zero h = refl
+option-is (suc zero) h = refl
+option-is (suc (suc n)) h = let f : ⊥ = omega arith in absurd f
+
+module _ (file : List ℕ) (opt room : ℕ) where
+  pub file-option : (x : Answer) → 1 < opt → x ≡ refusalOf 12 0 → x ≡ resultAnswer (drawFile file opt room)
+  unfolding drawFile
+  file-option x h q = rw (lt-leb opt 1 h) q
+
+  pub file-option-room : (a : List ℕ) → 1 < opt → a ≡ over (drawFile file opt room .text) a
+  unfolding drawFile
+  file-option-room a h = rw (lt-leb opt 1 h) refl
+
+  pub file-bytes : (x : Answer) → opt ≤ 1 → x ≡ resultAnswer (drawBytes (optionOf (eqb opt 1)) room file) → x ≡ resultAnswer (drawFile file opt room)
+  unfolding drawFile
+  file-bytes x h q = rw (le-leb opt 1 h) (rw (option-is opt h) at q)
+
+  pub file-bytes-room : (a b : List ℕ) → opt ≤ 1 → b ≡ over (drawBytes (optionOf (eqb opt 1)) room file .text) a → b ≡ over (drawFile file opt room .text) a
+  unfolding drawFile
+  file-bytes-room a b h q = rw (le-leb opt 1 h) (rw (option-is opt h) at q)
+
+pub answer-via : (d : Drawn.Answer) (a b c e f : ℕ) → a ≡ d .number → b ≡ d .place → c ≡ d .bytes → e ≡ d .units → f ≡ d .depth
+    → _≡_ {A = Answer} (record { number = a; place = b; bytes = c; units = e; depth = f }) (drawingAs d)
+answer-via d a b c e f p q r s t = rw (p, q, r, s, t)
