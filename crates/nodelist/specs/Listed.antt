@@ -1,7 +1,7 @@
 -- What `node_words` leaves, and what that tells the one who hands the entries out.
-use mathlib.Core.Path.{_≡_, refl, sym, ap, _∙_}
-use mathlib.Core.Bool.{Bool, true, false, cond}
-use mathlib.Core.List.{List, [], _++_, map}
+use mathlib.Core.Path.{_≡_, refl, sym, _∙_}
+use mathlib.Core.Bool.{cond}
+use mathlib.Core.List.{List, _++_, map}
 use Prim.Native.Nat.{ℕ, _≤_}
 use native.Mathlib.Omega.{arith}
 use lib.ListN.{length, take, drop, length-map}
@@ -12,7 +12,7 @@ use Rattle.basis.specs.Members.{split}
 use Rattle.entries.specs.Entry.{wordOf, Narrows}
 use Rattle.entries.specs.declared.NodeEntry.{NodeEntry}
 use Rattle.nodelist.specs.declared.Counted.{Counted}
-use Rattle.nodelist.specs.Nodes.{Nodes, entered, denied, refusalOf, countedBy, listedBy}
+use Rattle.nodelist.specs.Nodes.{Nodes, entered, denied, countedBy, listedBy}
 
 -- the entries' words from place 0 on; the words behind stay
 abbrev pub wordsOver : List NodeEntry → List ℕ → List ℕ
@@ -25,6 +25,10 @@ pub record Listed (X : Nodes) (room : ℕ) (l : List ℕ) (r : Counted) (ws : Li
   pub written : ws ≡ wordsOver (listedBy X room) l
   pub few : r .count ≤ 128
   pub narrow : Narrows (listedBy X room)
+
+-- two results that it allows are equal
+pub listed-one : (X : Nodes) (room : ℕ) (l : List ℕ) (r q : Counted) (ws vs : List ℕ) → Listed X room l r ws → Listed X room l q vs → (r ≡ q) × (ws ≡ vs)
+listed-one X room l r q ws vs L M = (L .counted ∙ sym (M .counted), L .written ∙ sym (M .written))
 
 counted-many : (X : Nodes) (room : ℕ) → length (listedBy X room) ≡ countedBy X room .count
 counted-many (denied k p) room = refl

@@ -1,6 +1,6 @@
 -- The definitions on small files, by computing: P1, P2, P3, and P7's nodes in lists of 3 and of 4 entries.
 use mathlib.Core.Path.{_≡_, refl}
-use mathlib.Core.List.{List, [], _∷_, _++_, map}
+use mathlib.Core.List.{List, [], _∷_, map}
 use Prim.Native.Nat.{ℕ}
 use lib.ListN.{length, replicate}
 use Rattle.records.specs.Shapes.{Rec, cut, shapeOf}
@@ -13,7 +13,7 @@ use Rattle.store.specs.declared.Edge.{Edge}
 use Rattle.store.specs.Graph.{Graph, settle, reached, unreached}
 use Rattle.graph.specs.Graphs.{turnAt, buildFrom, buildOf, finished, graphOf}
 use Rattle.entries.specs.declared.NodeEntry.{NodeEntry}
-use Rattle.nodelist.specs.Nodes.{nodeEntries, Nodes, entered, denied, nodesOf, refusalOf, countedBy}
+use Rattle.nodelist.specs.Nodes.{nodeEntries, entered, denied, nodesOf, refusalOf, countedBy}
 
 abbrev node : ℕ → ℕ → ℕ → ℕ → ℕ → NodeEntry
 node k n g i m = record { kind = k; number = n; group = g; installable = i; missing = m }

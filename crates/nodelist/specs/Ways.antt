@@ -2,9 +2,9 @@
 use mathlib.Core.Path.{_≡_, refl, sym, ap, _∙_}
 use mathlib.Core.Bool.{Bool, true, false, cond}
 use mathlib.Core.List.{List, [], _∷_, _++_, map}
-use Prim.Native.Nat.{ℕ, zero, suc, _+_, _*_, _/_, _%_, _<_, _≤_}
+use Prim.Native.Nat.{ℕ, zero, suc, _+_, _/_, _%_, _<_, _≤_}
 use native.Mathlib.Omega.{arith}
-use lib.ListN.{length, getD, take, drop, set, replicate, length-map, List·getD-map}
+use lib.ListN.{length, getD, drop, set, length-map, List·getD-map}
 use lib.Seq.{drop-cons, append-snoc, set-at}
 use lib.Dec.{ltb}
 use borrow.Author.Tests.{lt-ltb, le-ltb}
@@ -24,11 +24,10 @@ use Rattle.store.specs.Table.{graphIn, nodeWords, Stored, nodes-count}
 use Rattle.links.specs.Build.{Chains}
 use Rattle.graph.specs.declared.Drawing.{Drawing}
 use Rattle.graph.specs.declared.Drawing.the-variants as D
-use Rattle.graph.specs.Graphs.{Outcome, drawn, refused, graphOf}
+use Rattle.graph.specs.Graphs.{Outcome, graphOf}
 use Rattle.graph.specs.Drawing.{Drew, drawingIn}
 use Rattle.labels.specs.Labels.{installable, missing}
 use Rattle.labels.specs.Marks.{bitsOf, marksOf, marks-at}
-use Rattle.labels.specs.Passes.{Blank}
 use Rattle.groups.specs.Groups.{titleOf, leadBy, leadOf}
 use Rattle.groups.specs.Leads.{leadsTo, leads-at, lead-le}
 use Rattle.naming.specs.Naming.{nameOf}
@@ -37,7 +36,7 @@ use Rattle.listing.specs.Listing as W
 use Rattle.entries.specs.Entry.{wordOf, Narrow, Narrows}
 use Rattle.entries.specs.declared.NodeEntry.{NodeEntry}
 use Rattle.nodelist.specs.declared.Counted.{Counted}
-use Rattle.nodelist.specs.Nodes.{flag, nodeEntry, nodeEntries, Nodes, entered, denied, nodesDrawn, nodesRead, nodesOf, refusalOf, countedBy, listedBy}
+use Rattle.nodelist.specs.Nodes.{flag, nodeEntry, nodeEntries, Nodes, entered, denied, nodesDrawn, nodesRead, nodesOf, refusalOf}
 use Rattle.nodelist.specs.Listed.{wordsOver, Listed}
 
 -- ---- numbers in a row

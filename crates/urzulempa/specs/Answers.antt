@@ -2,12 +2,10 @@
 use mathlib.Core.Path.{_≡_, refl, sym, ap, _∙_}
 use mathlib.Core.List.{List}
 use Prim.Native.Nat.{ℕ}
-use lib.ListN.{length}
 use Rattle.basis.specs.Members.{clash}
 use Rattle.records.specs.declared.Answer.the-variants.{Accepted, Refused}
 use Rattle.records.specs.declared.Counts.{Counts}
 use Rattle.records.specs.declared.Answer as Reads
-use Rattle.records.specs.Tables.{Tables, countsOf}
 use Rattle.records.specs.Read.{Reading, good, bad, readOf, answerOf, tablesIn, tablesOf}
 use Rattle.store.specs.Graph.{Graph}
 use Rattle.graph.specs.declared.Drawing.{Drawing}

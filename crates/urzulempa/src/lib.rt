@@ -1,6 +1,7 @@
 // The public calls (include/urzulempa.h). Each owns its working arrays, takes any bytes, any room and any option, and has no
 // `requires`.
 mod checks;
+mod explains;
 mod graphs;
 mod nodes;
 
@@ -19,6 +20,7 @@ ghost use lib.ListN.{length};
 ghost use Rattle.texts.specs.Wrote.{over};
 ghost use Rattle.urzulempa.specs.Answers.{checkOf};
 ghost use Rattle.urzulempa.specs.Draws.{resultAnswer, drawFile};
+ghost use Rattle.urzulempa.specs.Says.{Says};
 
 // Refusals 1 to 9, and no text.
 #[no_mangle]
@@ -46,4 +48,27 @@ pub extern "C" fn urzulempa_graphviz(file: &[u8], option: u64, room: &mut [u8]) 
     let mut tr = [0u64; 1024];
     let mut w = [0u16; 3456];
     graphs::draw_in(file, option == 1, &mut ix, &mut g, &mut tr, &mut w, room)
+}
+
+// The explanation; option 1 indents the top level.
+#[no_mangle]
+pub extern "C" fn urzulempa_explain(file: &[u8], option: u64, room: &mut [u8]) -> Answer
+    ensures { λ r. ⌜ Says (now (file .entry)) option (now (room .entry)) (now (room .exit)) r ⌝ }
+{
+    if 1 < option {
+        return checks::refusal(12, 0);
+    }
+    let mut ix = [0u16; 10432];
+    let mut g = [0u64; 1152];
+    let mut tr = [0u64; 1024];
+    let mut w = [0u16; 3456];
+    explains::explain_in(file, option == 1, &mut ix, &mut g, &mut tr, &mut w, room)
+}
+
+// The explanation by a plain call, which means option 0.
+#[no_mangle]
+pub extern "C" fn urzulempa_explain_plain(file: &[u8], room: &mut [u8]) -> Answer
+    ensures { λ r. ⌜ Says (now (file .entry)) 0 (now (room .entry)) (now (room .exit)) r ⌝ }
+{
+    urzulempa_explain(file, 0, room)
 }

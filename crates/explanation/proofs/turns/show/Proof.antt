@@ -1,0 +1,13 @@
+use borrow.Author.Needs.{needs}
+use Rattle.explanation.specs.Turned.{show-settled}
+use Rattle.explanation.specs.Stand.{kid-low}
+use Rattle.explanation.proofs.turns.show.Statement.{statement}
+use Rattle.explanation.proofs.turns.show.Tie as tie
+
+pub show-spec : {M : Type 1} → statement M
+show-spec =
+    tie.close
+    (tie.spec
+    (λ c. search needs) (λ c κs. (search needs, (search kid-low, search needs)))
+    (λ c κs. (search needs, (search needs, (search needs, search needs)))) (λ c. search needs)
+    (λ c. search show-settled))

@@ -1,0 +1,103 @@
+// The whole walk (conflict.rs, lines 893 to 1186).
+use super::frames::Top;
+use super::turns::Step;
+use super::turns::level;
+use super::turns::turn;
+use texts::Indenter;
+ghost use mathlib.Core.Path.{_≡_};
+ghost use mathlib.Core.List.{[]};
+ghost use lib.ListN.{length};
+ghost use Rattle.records.specs.Read.{tablesOf};
+ghost use Rattle.index.specs.Index.{Loaded};
+ghost use Rattle.explanation.specs.Judge.{Flags};
+ghost use Rattle.explanation.specs.Walk.{Ready, Answered};
+
+// "An answer holds number, place, bytes, units, depth".
+pub struct Told {
+    pub number: u64,
+    pub place: usize,
+    pub bytes: usize,
+    pub units: usize,
+    pub depth: usize,
+}
+
+// The explanation of a packed plan: its text at the start of the room, and the answer.
+pub fn explain_plan(
+    file: &[u8],
+    ix: &[u16; 10432],
+    p: &[u64; 1280],
+    k: &[u16; 1024],
+    fr: &mut [u64; 2080],
+    seen: &mut [u8; 128],
+    out: &mut [u8],
+    top: bool,
+) -> Told
+    requires { ⌜ Loaded (now file) (now ix) ⌝ }
+    requires { ⌜ Ready (tablesOf (now file)) (now p) (now k) ⌝ }
+    requires { ⌜ (length (now fr) ≡ 2080) × (length (now seen) ≡ 128) ⌝ }
+    requires { ⌜ Flags (now seen) [] ⌝ }
+    ensures { λ r. ⌜ Answered (tablesOf (now (file .entry))) (now (p .entry)) (now (k .entry)) top (now (out .entry)) (now (out .exit)) r ⌝ }
+{
+    let mut g = Indenter::new(top);
+    let mut t = Top {
+        r: plan::run_first(p, 0),
+        re: plan::run_end(p, 0),
+        k: 0,
+        ke: 0,
+        d: 0,
+        at: 0,
+        units: 0,
+        depth: 0,
+    };
+    loop {
+        let h = level(g, t);
+        let at = t.at;
+        let m = turn(file, ix, p, k, fr, seen, &mut out[at..], h, t);
+        let s = m.step;
+        match s {
+            Step::On => {
+                let u = m.top;
+                t = u;
+                g = h;
+            }
+            Step::Done => {
+                return Told {
+                    number: 0,
+                    place: 0,
+                    bytes: t.at,
+                    units: t.units,
+                    depth: t.depth,
+                };
+            }
+            Step::Loops(n) => {
+                let place = basis::wide16(plan::solvable(p, n));
+                return Told {
+                    number: 11,
+                    place,
+                    bytes: t.at,
+                    units: t.units,
+                    depth: t.depth,
+                };
+            }
+            Step::Full => {
+                let u = m.top;
+                return Told {
+                    number: 10,
+                    place: u.units,
+                    bytes: u.at,
+                    units: u.units,
+                    depth: u.depth,
+                };
+            }
+            Step::Deep => {
+                return Told {
+                    number: 10,
+                    place: 0,
+                    bytes: 0,
+                    units: 0,
+                    depth: 0,
+                };
+            }
+        }
+    }
+}

@@ -1,0 +1,3 @@
+pub mod Marks
+pub mod Sets
+pub mod Line

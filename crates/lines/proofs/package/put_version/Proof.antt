@@ -1,0 +1,10 @@
+use borrow.Author.Needs.{needs}
+use Rattle.lines.specs.PackageLaws.{version-room, version-wrote}
+use Rattle.lines.proofs.package.put_version.Statement.{statement}
+use Rattle.lines.proofs.package.put_version.Tie as tie
+
+pub put-version-spec : {M : Type 1} → statement M
+put-version-spec =
+    tie.close
+    (tie.spec
+    (λ c κs. search needs) (λ c κs. search version-room) (λ c. search needs) (λ c. search version-wrote))

@@ -1,0 +1,7 @@
+pub mod Lines
+pub mod Said
+pub mod Tried
+pub mod RunLaws
+pub mod PackageLaws
+pub mod SetLaws
+pub mod Same

@@ -1,0 +1,196 @@
+// The lines of a package (conflict.rs, lines 1109 to 1153): one, or several where it "would constrain".
+use super::package::package_line;
+use texts::Indenter;
+use texts::wordings;
+use texts::writers::put;
+ghost use mathlib.Core.Path.{_≡_};
+ghost use mathlib.Core.List.{_∷_};
+ghost use Prim.Native.Nat.{_+_, _≤_, _<_};
+ghost use lib.ListN.{length};
+ghost use lib.Dec.{leb};
+ghost use Rattle.records.specs.Read.{tablesOf};
+ghost use Rattle.index.specs.Index.{Loaded};
+ghost use Rattle.texts.specs.Wrote.{Wrote};
+ghost use Rattle.texts.specs.Marks.{marksOf};
+ghost use Rattle.texts.specs.Indent.{indent};
+ghost use Rattle.plan.specs.Fields.{textLength, setAt, setsFrom, setsIn};
+ghost use Rattle.lines.specs.Said.{packageIn, setSaid, setsSaid, packageAll};
+ghost use Rattle.lines.specs.Tried.{Tried, Lined};
+ghost use Rattle.lines.specs.SetLaws.{setPieces, joinedPart};
+
+// How far the lines of an entry came: bytes and lines written, and whether the next did not fit.
+pub struct Part {
+    pub bytes: usize,
+    pub units: usize,
+    pub full: bool,
+}
+
+pub fn put_set(out: &mut [u8], g: Indenter, name: &[u8], set: &[u8]) -> usize
+    requires { ⌜ g .count ≤ 4160 ⌝ }
+    requires { ⌜ length (indent (g .top) (marksOf g)) + 69 + length (now name) + length (now set) ≤ length (now out) ⌝ }
+    ensures { λ r. ⌜ Wrote (setPieces g (now (name .entry)) (now (set .entry))) (now (out .entry)) (now (out .exit)) r ⌝ }
+{
+    let a = g.get_indent(out);
+    let b = a + put(&mut out[a..], name);
+    let c = b + wordings::space(&mut out[b..]);
+    let d = c + put(&mut out[c..], set);
+    d + wordings::conflicts_any(&mut out[d..])
+}
+
+// The line where it fits: its length, or 0.
+pub fn try_set(out: &mut [u8], g: Indenter, name: &[u8], set: &[u8]) -> usize
+    requires { ⌜ g .count ≤ 4160 ⌝ }
+    ensures { λ r. ⌜ Tried (setPieces g (now (name .entry)) (now (set .entry))) (now (out .entry)) (now (out .exit)) r ⌝ }
+{
+    let fixed = g.indent_length() + 69;
+    let room = out.len();
+    if room < fixed {
+        return 0;
+    }
+    let left = room - fixed;
+    if left < name.len() {
+        return 0;
+    }
+    if left - name.len() < set.len() {
+        return 0;
+    }
+    put_set(out, g, name, set)
+}
+
+// The line of version set v: its length, or 0 where it does not fit.
+pub fn set_line(file: &[u8], ix: &[u16; 10432], out: &mut [u8], g: Indenter, v: u16) -> usize
+    requires { ⌜ Loaded (now file) (now ix) ⌝ }
+    requires { ⌜ g .count ≤ 4160 ⌝ }
+    ensures { λ r. ⌜ Tried (setSaid (tablesOf (now (file .entry))) (g .top) (marksOf g) v) (now (out .entry)) (now (out .exit)) r ⌝ }
+{
+    let name = views::name_text(file, ix, views::set_name(file, ix, v));
+    let set = views::set_text(file, ix, v);
+    try_set(out, g, name, set)
+}
+
+// The line of version set i under "would constrain"; that of the first place comes last.
+pub fn set_turn(
+    file: &[u8],
+    ix: &[u16; 10432],
+    k: &[u16; 1024],
+    out: &mut [u8],
+    g: Indenter,
+    first: usize,
+    i: usize,
+) -> usize
+    requires { ⌜ Loaded (now file) (now ix) ⌝ }
+    requires { ⌜ g .count < 4160 ⌝ }
+    ensures { λ r. ⌜ Tried (setSaid (tablesOf (now (file .entry))) (g .top) (leb i first ∷ marksOf g) (setAt (now (k .entry)) i)) (now (out .entry)) (now (out .exit)) r ⌝ }
+{
+    let h = g.push_level_with_order(i <= first);
+    let v = plan::set_at(k, i);
+    set_line(file, ix, out, h, v)
+}
+
+// The lines of the version sets from the end down to the first.
+pub fn set_lines(
+    file: &[u8],
+    ix: &[u16; 10432],
+    k: &[u16; 1024],
+    out: &mut [u8],
+    g: Indenter,
+    first: usize,
+    end: usize,
+) -> Part
+    requires { ⌜ Loaded (now file) (now ix) ⌝ }
+    requires { ⌜ g .count < 4160 ⌝ }
+    ensures { λ r. ⌜ Lined (setsSaid (tablesOf (now (file .entry))) (g .top) (marksOf g) (setsFrom (now (k .entry)) first end)) (now (out .entry)) (now (out .exit)) (r .bytes) (r .units) (r .full) ⌝ }
+    ensures { λ r. do ⌜ (r .bytes ≤ (← ⟦out.len()⟧ .entry)) × (r .units ≤ r .bytes) ⌝ }
+{
+    let mut e = end;
+    let mut at: usize = 0;
+    let mut units: usize = 0;
+    while first < e {
+        let i = e - 1;
+        let b = set_turn(file, ix, k, &mut out[at..], g, first, i);
+        if b == 0 {
+            return Part {
+                bytes: at,
+                units,
+                full: true,
+            };
+        }
+        at += b;
+        units += 1;
+        e = i;
+    }
+    Part {
+        bytes: at,
+        units,
+        full: false,
+    }
+}
+
+// The lines under package n, which "would constrain".
+pub fn sets_of(
+    file: &[u8],
+    ix: &[u16; 10432],
+    p: &[u64; 1280],
+    k: &[u16; 1024],
+    out: &mut [u8],
+    g: Indenter,
+    n: usize,
+) -> Part
+    requires { ⌜ Loaded (now file) (now ix) ⌝ }
+    requires { ⌜ g .count < 4160 ⌝ }
+    ensures { λ r. ⌜ Lined (setsSaid (tablesOf (now (file .entry))) (g .top) (marksOf g) (setsIn (now (p .entry)) (now (k .entry)) n)) (now (out .entry)) (now (out .exit)) (r .bytes) (r .units) (r .full) ⌝ }
+    ensures { λ r. do ⌜ (r .bytes ≤ (← ⟦out.len()⟧ .entry)) × (r .units ≤ r .bytes) ⌝ }
+{
+    let first = plan::sets_first(p, n);
+    let end = plan::sets_end(p, n);
+    set_lines(file, ix, k, out, g, first, end)
+}
+
+// The lines under a package, counted with its own of b bytes.
+pub fn behind_line(b: usize, s: Part) -> Part
+    requires { ⌜ (1 ≤ b) × (b + s .bytes < 18446744073709551616) × (s .units ≤ s .bytes) ⌝ }
+    ensures { λ r. ⌜ r ≡ joinedPart b s ⌝ }
+    ensures { λ r. ⌜ (r .bytes ≡ b + s .bytes) × (r .units ≤ r .bytes) ⌝ }
+{
+    Part {
+        bytes: b + s.bytes,
+        units: 1 + s.units,
+        full: s.full,
+    }
+}
+
+// All lines of package n.
+pub fn package_lines(
+    file: &[u8],
+    ix: &[u16; 10432],
+    p: &[u64; 1280],
+    k: &[u16; 1024],
+    out: &mut [u8],
+    g: Indenter,
+    n: usize,
+) -> Part
+    requires { ⌜ Loaded (now file) (now ix) ⌝ }
+    requires { ⌜ g .count < 4160 ⌝ }
+    requires { ⌜ textLength (now p) n ≡ length (packageIn (tablesOf (now file)) (now p) n) ⌝ }
+    ensures { λ r. ⌜ Lined (packageAll (tablesOf (now (file .entry))) (now (p .entry)) (now (k .entry)) (g .top) (marksOf g) n) (now (out .entry)) (now (out .exit)) (r .bytes) (r .units) (r .full) ⌝ }
+    ensures { λ r. do ⌜ (r .bytes ≤ (← ⟦out.len()⟧ .entry)) × (r .units ≤ r .bytes) ⌝ }
+{
+    let b = package_line(file, ix, p, out, g, n);
+    if b < 1 {
+        return Part {
+            bytes: 0,
+            units: 0,
+            full: true,
+        };
+    }
+    let t = plan::line_kind(p, n);
+    if t == 3 {
+        let s = sets_of(file, ix, p, k, &mut out[b..], g, n);
+        return behind_line(b, s);
+    }
+    Part {
+        bytes: b,
+        units: 1,
+        full: false,
+    }
+}

@@ -1,0 +1,166 @@
+-- From the parts to the promise.
+use mathlib.Core.Path.{_≡_, refl, sym, ap, _∙_}
+use mathlib.Core.Logic.{inl, inr}
+use mathlib.Core.Bool.{Bool, true, false, cond}
+use mathlib.Core.List.{List, [], _∷_, _++_}
+use Prim.Native.Nat.{ℕ, zero, suc, _+_, _-_, _*_, _%_, _<_, _≤_}
+use native.Mathlib.Omega.{arith}
+use lib.ListN.{length, getD, replicate, length-append, length-replicate, getD-replicate}
+use lib.Dec.{eqb, ltb}
+use borrow.Author.Tests.{lt-ltb, ltb-true}
+use Rattle.basis.specs.Lists.{filter, has, upto, concatMap}
+use Rattle.basis.specs.Members.{In, All, split, in-filter}
+use Rattle.basis.specs.Quote.{utf8}
+use Rattle.basis.specs.Chains.{oldest}
+use Rattle.records.specs.Tables.{Tables}
+use Rattle.records.specs.Views.{nameText, solvableName, versionText}
+use Rattle.store.specs.declared.Size.{Size}
+use Rattle.store.specs.Graph.{Graph, nodeAt}
+use Rattle.store.specs.Table.{graphIn, nodeIn, node-in, nodes-count}
+use Rattle.links.specs.Build.{Chains}
+use Rattle.labels.specs.Labels.{installable, missing, installables}
+use Rattle.labels.specs.Marks.{bitsOf, marksOf}
+use Rattle.groups.specs.Groups as Groups
+use Rattle.groups.specs.Groups.{headOr, mates}
+use Rattle.plan.specs.Plan.{Shown, shownOf, isInstallable, leadOf}
+use Rattle.plan.specs.Display.{solvableBy, solvableOf, versionOf, joined, membersOf, packageText}
+use Rattle.plan.specs.Mates.{group-at, map-upto, in-upto, alikes, lead-first, members-alike}
+use Rattle.plan.specs.Planned.{Planned}
+use Rattle.plan.specs.Fields.{headIn, tailIn, runIn, leadIn, mateIn, matesFrom, mates-more, membersIn, solvableIn}
+use Rattle.runs.specs.Kids.{markedIn, nextAt}
+use Rattle.planning.specs.Truth.{Given}
+use Rattle.planning.specs.Grouping.{Grouped, LeadsOk}
+use Rattle.planning.specs.Giving.{given, given-nexts}
+use Rattle.planning.specs.Node.{NodeFor}
+use Rattle.planning.specs.Building.{FreshPlan, Built}
+use Rattle.planning.specs.Final.{Sized, built-members, planned}
+use Rattle.measuring.specs.Lengths.{behindLength, sizeIn}
+use Rattle.measuring.specs.Sizes.{Short, SizesDone}
+
+-- ---- what the labels' and the groups' tables promise
+
+pub record Labelled (T : Tables) (g : List ℕ) (s : Size) (ms ld : List ℕ) : Type 0 where
+  pub marks : (n : ℕ) → n < s .nodes → markedIn ms n ≡ isInstallable (shownOf T (graphIn g s)) n
+  pub leads : (n : ℕ) → n < s .nodes → getD ld n 0 ≡ leadOf (shownOf T (graphIn g s)) n
+  pub long : length ld ≡ 128
+
+bit-is : (a b : Bool) → eqb (bitsOf a b % 2) 1 ≡ a
+bit-is true true = refl
+bit-is true false = refl
+bit-is false true = refl
+bit-is false false = refl
+
+-- the labels' own table
+pub marks-are : (T : Tables) (g : List ℕ) (s : Size) (ms : List ℕ) → ms ≡ marksOf (graphIn g s) → (n : ℕ) → n < 128 → markedIn ms n ≡ isInstallable (shownOf T (graphIn g s)) n
+unfolding markedIn marksOf shownOf
+marks-are T g s ms q n h =
+    let z : 0 + n ≡ n = omega arith in
+    rw (q, map-upto (λ n. bitsOf (installable (graphIn g s) n) (missing (graphIn g s) n)) 128 0 n 0 h, z)
+    (bit-is (installable (graphIn g s) n) (missing (graphIn g s) n))
+
+-- ---- a lead is a node
+
+three : (a v w : List ℕ) → length (a ++ utf8 " " ++ (v ++ w)) ≡ length a + (1 + (length v + length w))
+three a v w = omega (arith, length-append (a ++ utf8 " ") (v ++ w), length-append a (utf8 " "), length-append v w)
+
+head-or : (l : List ℕ) (d m : ℕ) → ((x : ℕ) → In x l → x < m) → d < m → getD l 0 d < m
+head-or [] d m f h = h
+head-or (x ∷ l) d m f h = f x (inl refl)
+
+module _ (T : Tables) (g : List ℕ) (s : Size) (ls ms ld : List ℕ) (c : Chains g s ls) (b : Labelled T g s ms ld) where
+  abbrev S : Shown
+  S = shownOf T (graphIn g s)
+
+  inside : (n : ℕ) → n < s .nodes → n < length (graphIn g s .nodes)
+  inside n h = rw (nodes-count g s (c .stored)) h
+
+  lead-node : (n : ℕ) → n < s .nodes → leadOf S n < s .nodes
+  lead-node n h =
+      rw (← lead-first T (graphIn g s) n (inside n h))
+      (head-or (alikes T (graphIn g s) n) n (s .nodes)
+      (λ x i. omega (arith, nodes-count g s (c .stored), in-upto (length (graphIn g s .nodes)) 0 x (in-filter (λ m. eqb (leadOf S m) (leadOf S n)) x (upto (length (graphIn g s .nodes)) 0) i .1) .1)) h)
+
+  pub leads-ok : LeadsOk ld (s .nodes)
+  leads-ok =
+      record { each = λ i h. omega (arith, b .leads i h, lead-node i h, c .stored .nodes-most); few = c .stored .nodes-most; long = b .long }
+
+  module _ (gr p k : List ℕ) (z : Grouped ld gr (s .nodes) 0) (d : Built g ls ms gr (s .nodes) p k) where
+    have : Given T g s ms gr
+    have = given T g s ms ld gr (c .stored) (b .marks) (b .leads) z
+
+    nexts : (i : ℕ) → i < s .nodes → nextAt gr i ≡ oldest (leadOf S) (suc i) (s .nodes) (leadOf S i)
+    nexts = given-nexts T g s ms ld gr (c .stored) (b .marks) (b .leads) z
+
+    pub tails-short : Short p (s .nodes)
+    unfolding tailIn
+    tails-short =
+        record {
+          each = λ i h. rw (lt-ltb i 128 (omega (arith, c .stored .nodes-most))) at (d .nodes i h .short);
+          few = c .stored .nodes-most;
+          long = d .p-long;
+        }
+
+    -- ---- the lengths
+
+    solvable-is : (n : ℕ) → n < s .nodes → solvableIn p n ≡ solvableOf S n
+    unfolding shownOf
+    solvable-is n h = d .nodes n h .solvable ∙ ap solvableBy (node-in g s (c .stored) n h)
+
+    behind-is : (ns : List ℕ) → ((x : ℕ) → In x ns → x < s .nodes) → behindLength T p ns ≡ length (concatMap (λ m. utf8 " | " ++ versionOf S m) ns)
+    unfolding behindLength shownOf
+    behind-is [] f = refl
+    behind-is (m ∷ ns) f =
+        rw (solvable-is m (f m (inl refl)), length-append, length-append) (omega (arith, behind-is ns (λ x i. f x (inr i))))
+
+    member-node : (n : ℕ) → n < s .nodes → (x : ℕ) → In x (membersOf S n) → x < s .nodes
+    member-node n h x i =
+        omega (arith, nodes-count g s (c .stored), in-upto (length (graphIn g s .nodes)) 0 x (in-filter (λ m. eqb (leadOf S m) (leadOf S n)) x (upto (length (graphIn g s .nodes)) 0) (rw (members-alike T (graphIn g s) n (inside n h)) at i) .1) .1)
+
+    first-member : (n : ℕ) → n < s .nodes → membersOf S n ≡ leadIn p n ∷ matesFrom p (mateIn p (leadIn p n))
+    unfolding membersIn
+    first-member n h =
+        let l : leadIn p n < 128 = rw (d .nodes n h .lead ∙ have .lead n h) (omega (arith, lead-node n h, c .stored .nodes-most)) in
+        let q : leadIn p n + 1 - 1 ≡ leadIn p n = omega arith in
+        sym (built-members T g s ls ms gr p k p have d nexts (λ i. refl) n h)
+        ∙ mates-more p (leadIn p n + 1) (omega arith) (omega arith) ∙ rw q
+
+    size-is : (n : ℕ) → n < s .nodes → sizeIn T p n ≡ length (packageText S n)
+    unfolding sizeIn shownOf
+    size-is n h =
+        let m = first-member n h in
+        let f : (x : ℕ) → In x (leadIn p n ∷ matesFrom p (mateIn p (leadIn p n))) → x < s .nodes = λ x i. member-node n h x (rw m i) in
+        let v : List ℕ = concatMap (λ m. utf8 " | " ++ versionOf S m) (matesFrom p (mateIn p (leadIn p n))) in
+        rw (solvable-is n h, solvable-is (leadIn p n) (f (leadIn p n) (inl refl)), behind-is (matesFrom p (mateIn p (leadIn p n))) (λ x i. f x (inr i)))
+        (sym (three (nameText T (solvableName T (solvableOf S n))) (versionOf S (leadIn p n)) v)
+        ∙ ap (λ (l : List ℕ). length (nameText T (solvableName T (solvableOf S n)) ++ utf8 " " ++ joined S l)) (sym m))
+
+    pub assembled : (u : List ℕ) → SizesDone T p u (s .nodes) → Planned S u k
+    unfolding headIn tailIn runIn
+    assembled u y =
+        planned T g s ls ms gr p k u c have d nexts
+        (record {
+          heads = λ n. split (ltb n 128) (λ t. rw t (y .heads n (ltb-true n 128 t))) (λ t. rw t);
+          runs = λ r. rw (y .runs r);
+          tails = λ n h. rw (lt-ltb n 128 (omega (arith, c .stored .nodes-most))) (y .tails n h ∙ ap (λ (v : ℕ). getD p (128 + n) 0 + 274877906944 * v) (size-is n h));
+          small = λ n h. rw (← size-is n h) (y .small n h);
+        })
+
+-- ---- for the caller
+
+-- fresh arrays
+pub fresh-plan : FreshPlan (replicate 1280 0) (replicate 1024 0)
+fresh-plan =
+    record {
+      blank = λ r h. getD-replicate {A = ℕ} 1280 (256 + r) 0 0 (omega arith);
+      p-long = length-replicate {A = ℕ} 1280 0;
+      k-long = length-replicate {A = ℕ} 1024 0;
+    }
+
+head-of : (l : List ℕ) (d : ℕ) → getD l 0 d ≡ headOr d l
+head-of [] d = refl
+head-of (x ∷ l) d = refl
+
+-- the lead as the crate of groups has it
+pub lead-group : (T : Tables) (G : Graph) (n : ℕ) → n < length (G .nodes) → leadOf (shownOf T G) n ≡ Groups.leadOf (λ s. nameText T (solvableName T s)) G n
+unfolding Groups.leadOf Groups.leadBy Groups.mates
+lead-group T G n h = ap (λ (l : List ℕ). getD l 0 n) (group-at T G n h) ∙ head-of (mates (λ s. nameText T (solvableName T s)) G n) n

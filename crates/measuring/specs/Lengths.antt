@@ -1,0 +1,107 @@
+-- How long the display text of a package is, as the tables tell it.
+use mathlib.Core.Path.{_≡_, refl, sym, ap, _∙_}
+use mathlib.Core.Bool.{Bool, true, false, cond}
+use mathlib.Core.List.{List, [], _∷_, _++_}
+use Prim.Native.Nat.{ℕ, zero, suc, _+_, _*_, _-_, _<_, _≤_}
+use native.Mathlib.Omega.{arith}
+use lib.ListN.{length, getD, take, length-append, length-take, List·getD-eq-default}
+use lib.Dec.{ltb}
+use borrow.Author.Tests.{ltb-true, ltb-false}
+use Rattle.basis.specs.Lists.{concatMap}
+use Rattle.basis.specs.Members.{split}
+use Rattle.basis.specs.Quote.{utf8}
+use Rattle.records.specs.declared.Table.{Table}
+use Rattle.records.specs.declared.Table.the-variants.{Names, Solvables}
+use Rattle.records.specs.declared.First.{First}
+use Rattle.records.specs.declared.First.the-variants as F
+use Rattle.records.specs.Shapes.{Rec}
+use Rattle.records.specs.Tables.{Tables, tableOf, at, noRec}
+use Rattle.records.specs.Read.{shown, tablesOf}
+use Rattle.records.specs.Views.{nameText, solvableName, versionText}
+use Rattle.index.specs.Promise.{RightFirst, Valid}
+use Rattle.index.specs.Index.{Loaded}
+use Rattle.index.specs.Found.{loaded-valid}
+use Rattle.plan.specs.Fields.{leadIn, mateIn, mateField, mate-below, matesFrom, mates-none, mates-more, mates-less, membersIn, solvableIn}
+
+-- ---- "Text is 1 to 24 bytes"
+
+first-short : (k : First) (r : Rec) → RightFirst k r → length (shown r) ≤ 24
+first-short F.Length r h = h .1
+first-short F.Flag r h = omega (arith, length-take (r .first) (r .text))
+first-short F.Unused r h = omega (arith, length-take (r .first) (r .text))
+
+text-short : (T : Tables) → Valid T → (t : Table) (i : ℕ) → length (shown (at (tableOf t T) i)) ≤ 24
+text-short T v t i =
+    split (ltb i (length (tableOf t T)))
+    (λ q. let s = v .sound t i (ltb-true i (length (tableOf t T)) q) in first-short (s .shape .first) (at (tableOf t T) i) (s .right-first))
+    (λ q. rw (List·getD-eq-default (tableOf t T) noRec (ltb-false i (length (tableOf t T)) q)) (omega arith))
+
+module _ (file ix : List ℕ) (l : Loaded file ix) where
+  pub version-short : (s r : ℕ) → r ≡ length (versionText (tablesOf file) s) → r ≤ 24
+  version-short s r q = omega (arith, text-short (tablesOf file) (loaded-valid file ix l) Solvables s)
+
+  pub name-short : (n r : ℕ) → r ≡ length (nameText (tablesOf file) n) → r ≤ 24
+  name-short n r q = omega (arith, text-short (tablesOf file) (loaded-valid file ix l) Names n)
+
+module _ (file ix : List ℕ) (l : Loaded file ix) (n : ℕ) (t : List ℕ) (r : ℕ) where
+  pub version-length-is : t ≡ versionText (tablesOf file) n → r ≡ length t → (r ≡ length (versionText (tablesOf file) n)) × (r ≤ 24)
+  version-length-is q e = (e ∙ ap length q, version-short file ix l n r (e ∙ ap length q))
+
+  pub name-length-is : t ≡ nameText (tablesOf file) n → r ≡ length t → (r ≡ length (nameText (tablesOf file) n)) × (r ≤ 24)
+  name-length-is q e = (e ∙ ap length q, name-short file ix l n r (e ∙ ap length q))
+
+-- ---- the members behind the first, from member x - 1 on
+
+unfoldable pub behindLength : Tables → List ℕ → List ℕ → ℕ
+behindLength T p [] = 0
+behindLength T p (m ∷ ms) = 3 + length (versionText T (solvableIn p m)) + behindLength T p ms
+
+pub record Counting (T : Tables) (p : List ℕ) (x₁ x c : ℕ) : Type 0 where
+  pub small : x < 256
+  pub so-far : c + behindLength T p (matesFrom p x) ≡ behindLength T p (matesFrom p x₁)
+  pub few : 0 < x → c ≤ 27 * x
+  pub most : c ≤ 6912
+
+pub counting-start : (T : Tables) (p : List ℕ) (x : ℕ) → x < 256 → Counting T p x x 0
+counting-start T p x h = record { small = h; so-far = omega arith; few = λ l. omega arith; most = omega arith }
+
+next-more : (p : List ℕ) (n : ℕ) → 0 < mateIn p n → n + 1 < mateIn p n
+unfolding mateIn
+next-more p n h =
+    split (ltb (n + 1) (mateField p n)) (λ t. rw t (ltb-true (n + 1) (mateField p n) t)) (λ t. absurd (never (rw t at h)))
+  where
+    never : 0 < 0 → ⊥
+    never h = omega arith
+
+module _ (file ix : List ℕ) (l : Loaded file ix) (p : List ℕ) (x₁ x c : ℕ) (z : Counting (tablesOf file) p x₁ x c) where
+  pub counting-less : 0 < x → (y : ℕ) → y ≡ mateIn p (x - 1) → length (matesFrom p y) < length (matesFrom p x)
+  counting-less h y q = rw q (mates-less p x h (z .small))
+
+  pub counting-step : 0 < x → (s v y : ℕ) → s ≡ solvableIn p (x - 1) → v ≡ length (versionText (tablesOf file) s) → v ≤ 24 → y ≡ mateIn p (x - 1) → Counting (tablesOf file) p x₁ y (c + (3 + v))
+  unfolding behindLength
+  counting-step h s v y ss vv vl yy =
+      let q = ap (behindLength (tablesOf file) p) (mates-more p x h (z .small)) in
+      let w : v ≡ length (versionText (tablesOf file) (solvableIn p (x - 1))) = vv ∙ ap (λ (a : ℕ). length (versionText (tablesOf file) a)) ss in
+      let f = z .few h in
+      let o = z .small in
+      record {
+        small = rw yy (mate-below p (x - 1));
+        so-far = rw yy (omega (arith, z .so-far));
+        few = λ k. let n = next-more p (x - 1) (rw yy at k) in omega arith;
+        most = omega arith;
+      }
+
+pub counting-end : (T : Tables) (p : List ℕ) (x₁ x c : ℕ) → Counting T p x₁ x c → x ≤ 0 → c ≡ behindLength T p (matesFrom p x₁)
+unfolding behindLength
+counting-end T p x₁ x c z h = omega (arith, z .so-far, ap (behindLength T p) (mates-none p x h))
+
+-- ---- the whole
+
+unfoldable pub sizeIn : Tables → List ℕ → ℕ → ℕ
+sizeIn T p n =
+    length (nameText T (solvableName T (solvableIn p n))) + (1 + (length (versionText T (solvableIn p (leadIn p n))) + behindLength T p (matesFrom p (mateIn p (leadIn p n)))))
+
+pub size-is : (T : Tables) (p : List ℕ) (n l s t m a v x r : ℕ) → l ≡ leadIn p n → s ≡ solvableIn p n → m ≡ solvableName T s → a ≡ length (nameText T m) → t ≡ solvableIn p l → v ≡ length (versionText T t)
+    → x ≡ mateIn p l → r ≡ behindLength T p (matesFrom p x) → a + (1 + (v + r)) ≡ sizeIn T p n
+unfolding sizeIn
+size-is T p n l s t m a v x r ll ss mm aa tt vv xx rr = rw (← ll, ← ss, ← mm, ← aa, ← tt, ← vv, ← xx, ← rr)

@@ -1,0 +1,117 @@
+-- "With at most 126 solvable nodes the bound of demand 3 is at most 2,079", for the plan of a graph and for its tables.
+use mathlib.Core.Path.{_≡_, refl, sym, ap, _∙_}
+use mathlib.Core.Logic.{inl, inr}
+use mathlib.Core.Bool.{Bool, true, false, cond, _&&_, not, false≢true}
+use mathlib.Core.List.{List, [], _∷_, _++_, reverse}
+use Prim.Native.Nat.{ℕ, zero, suc, _≤_, _<_}
+use native.Mathlib.Omega.{arith}
+use lib.ListN.{length, getD}
+use lib.Dec.{eqb}
+use borrow.Author.Tests.{eqb-true, ne-eqb}
+use Rattle.basis.specs.Lists.{any, all, filter, has, upto}
+use Rattle.basis.specs.Members.{In, Distinct, split, either, in-filter, filter-in, in-reverse}
+use Rattle.records.specs.Tables.{Tables}
+use Rattle.store.specs.declared.ConflictNode.{ConflictNode}
+use Rattle.store.specs.declared.ConflictNode.the-variants as N
+use Rattle.store.specs.Graph.{Graph, nodeAt, isSolvable}
+use Rattle.groups.specs.Counts.{solvables}
+use Rattle.labels.specs.Runs.{Run}
+use Rattle.machine.specs.Machine.{Plan}
+use Rattle.machine.specs.Bound.{Counted, most}
+use Rattle.machine.specs.Count.{Grouped, groups, unmerged, counts, most-of, leading, following}
+use Rattle.plan.specs.Plan.{Shown, shownOf, isMerged, leadOf, offered, dedup, kidsOf, noCandidates, runInstallable, isInstallable, planOf, groupOf}
+use Rattle.plan.specs.Mates.{upto-in, in-upto, upto-distinct, filter-distinct, named-lead, another-mate}
+use Rattle.plan.specs.Fields.{planIn, kidsIn}
+use Rattle.plan.specs.Planned.{Planned}
+
+-- past the nodes stands the root
+pub node-solvable : (xs : List ConflictNode) (n : ℕ) → isSolvable (getD xs n N.Root) ≡ true → n < length xs
+node-solvable [] n s = absurd (false≢true s)
+node-solvable (x ∷ xs) zero s = omega arith
+node-solvable (x ∷ xs) (suc n) s = omega (arith, node-solvable xs n s)
+
+module _ (T : Tables) (G : Graph) where
+  solvable-in : (n : ℕ) → n < length (G .nodes) → isSolvable (nodeAt G n) ≡ true → In n (solvables G)
+  unfolding solvables
+  solvable-in n h s = filter-in (λ n. isSolvable (nodeAt G n)) n (upto (length (G .nodes)) 0) s (upto-in (length (G .nodes)) 0 n (omega arith) (omega arith))
+
+  in-solvable : (n : ℕ) → In n (solvables G) → (n < length (G .nodes)) × (isSolvable (nodeAt G n) ≡ true)
+  unfolding solvables
+  in-solvable n i =
+      let f = in-filter (λ n. isSolvable (nodeAt G n)) n (upto (length (G .nodes)) 0) i in
+      let r = in-upto (length (G .nodes)) 0 n (f .1) in
+      (omega (arith, r .1), f .0)
+
+  solvables-distinct : Distinct (solvables G)
+  unfolding solvables
+  solvables-distinct = filter-distinct (λ n. isSolvable (nodeAt G n)) (upto (length (G .nodes)) 0) (upto-distinct (length (G .nodes)) 0)
+
+  -- groups by merged and lead: whatever the runs are called
+  pub grouped : {R : Type 0} (P : Plan R) → ((n : ℕ) → n < length (G .nodes) → P .merged n ≡ isMerged (shownOf T G) n) → ((n : ℕ) → n < length (G .nodes) → P .lead n ≡ leadOf (shownOf T G) n)
+      → Grouped P (solvables G)
+  grouped P m l =
+      record {
+        distinct = solvables-distinct;
+        named = λ n i t. let s = in-solvable n i in
+            let x = named-lead T G n (s .0) (s .1) (sym (m n (s .0)) ∙ t) in
+            rw (l n (s .0)) (solvable-in (leadOf (shownOf T G) n) (x .0) (x .1), m (leadOf (shownOf T G) n) (x .0) ∙ x .2, l (leadOf (shownOf T G) n) (x .0) ∙ x .3);
+        another = λ n i t. let s = in-solvable n i in
+            let b = both (P .merged n) (eqb (P .lead n) n) t in
+            let q : leadOf (shownOf T G) n ≡ n = sym (l n (s .0)) ∙ eqb-true (P .lead n) n (b .1) in
+            let x = another-mate T G n (s .0) (s .1) (sym (m n (s .0)) ∙ b .0) in
+            let e : P .lead (x .0) ≡ n = l (x .0) (x .1) ∙ x .4 ∙ q in
+            (x .0, solvable-in (x .0) (x .1) (x .2), rw (m (x .0) (x .1), x .3, ne-eqb (P .lead (x .0)) (x .0) (λ y. x .5 (q ∙ sym e ∙ y))), e);
+      }
+    where
+      both : (a b : Bool) → a && b ≡ true → (a ≡ true) × (b ≡ true)
+      both true b e = (refl, e)
+      both false b e = absurd (false≢true e)
+
+  -- ---- the kids of any run are solvable nodes
+
+  module _ (S : Shown) where
+    in-dedup : (ns seen : List ℕ) (n : ℕ) → In n (dedup S ns seen) → In n ns
+    in-dedup [] seen n i = i
+    in-dedup (m ∷ ns) seen n i =
+        split (has m seen)
+        (λ t. inr (in-dedup ns seen n (rw (t, dedup) at i)))
+        (λ t. either (rw (t, dedup) at i) (λ e. inl e) (λ j. inr (in-dedup ns (cond (isMerged S m) (groupOf S m ++ seen) seen) n j)))
+
+    kid-offered : (q : Run) (n : ℕ) → In n (kidsOf S q) → isSolvable (nodeAt (S .graph) n) ≡ true
+    kid-offered q n i =
+        split (noCandidates S q)
+        (λ t. absurd (rw t at i))
+        (λ t. in-filter (λ n. isSolvable (nodeAt (S .graph) n)) n (cond (runInstallable S q) (filter (isInstallable S) (q .to)) (q .to))
+        (in-dedup (offered S q) [] n (in-reverse n (dedup S (offered S q) []) (rw t at i))) .0)
+
+    pub kid-solvable : (q : Run) (n : ℕ) → In n (kidsOf S q) → (n < length (S .graph .nodes)) × (isSolvable (nodeAt (S .graph) n) ≡ true)
+    kid-solvable q n i = let s = kid-offered q n i in (node-solvable (S .graph .nodes) n s, s)
+
+  -- ---- B1's premises
+
+  abbrev pub shownPlan : Plan Run
+  shownPlan = planOf (shownOf T G)
+
+  show-grouped : Grouped shownPlan (solvables G)
+  show-grouped = grouped shownPlan (λ n h. refl) (λ n h. refl)
+
+  pub show-counted : (r : Run) (n : ℕ) → In n (shownPlan .kids r) → Counted shownPlan (groups shownPlan (solvables G)) (unmerged shownPlan (solvables G)) n
+  unfolding shownOf
+  show-counted r n i =
+      let k = kid-solvable (shownOf T G) r n i in counts shownPlan (solvables G) show-grouped n (solvable-in n (k .0) (k .1))
+
+  pub show-most : length (solvables G) ≤ 126 → most shownPlan (groups shownPlan (solvables G)) (unmerged shownPlan (solvables G)) ≤ 2079
+  show-most h = most-of shownPlan (solvables G) show-grouped h
+
+  -- the same for the packed tables
+  module _ (p k : List ℕ) (z : Planned (shownOf T G) p k) where
+    plan-grouped : Grouped (planIn p k) (solvables G)
+    unfolding planIn shownOf
+    plan-grouped = grouped (planIn p k) (λ n h. z .nodes n h .merged) (λ n h. z .nodes n h .lead)
+
+    pub plan-counted : (r n : ℕ) → In n (planIn p k .kids r) → Counted (planIn p k) (groups (planIn p k) (solvables G)) (unmerged (planIn p k) (solvables G)) n
+    unfolding planIn shownOf
+    plan-counted r n i = let x = z .kids r n i in counts (planIn p k) (solvables G) plan-grouped n (solvable-in n (x .0) (x .1))
+
+    pub plan-most : length (solvables G) ≤ 126 → most (planIn p k) (groups (planIn p k) (solvables G)) (unmerged (planIn p k) (solvables G)) ≤ 2079
+    plan-most h = most-of (planIn p k) (solvables G) plan-grouped h

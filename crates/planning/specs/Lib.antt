@@ -1,0 +1,9 @@
+pub mod Truth
+pub mod Words
+pub mod Node
+pub mod Nodes
+pub mod Building
+pub mod Members
+pub mod Final
+pub mod Grouping
+pub mod Giving

@@ -1,0 +1,36 @@
+// The plan of a labelled graph, written into the tables from their ends downwards, node by node.
+pub mod mates;
+pub mod node;
+
+ghost use mathlib.Core.Path.{_≡_};
+ghost use Prim.Native.Nat.{_<_, _≤_};
+ghost use Rattle.links.specs.Build.{Chains};
+ghost use Rattle.planning.specs.Building.{FreshPlan, Built};
+use store::Size;
+
+// The runs, kids, lines and groups of all nodes.
+pub fn nodes(
+    g: &[u64; 1152],
+    s: Size,
+    ls: &[u16; 3456],
+    ms: &[u16; 128],
+    gr: &[u16; 128],
+    p: &mut [u64; 1280],
+    k: &mut [u16; 1024],
+)
+    requires { ⌜ Chains (now g) s (now ls) ⌝ }
+    requires { ⌜ FreshPlan (now p) (now k) ⌝ }
+    ensures { λ _. ⌜ Built (now (g .entry)) (now (ls .entry)) (now (ms .entry)) (now (gr .entry)) (s .nodes) (now (p .exit)) (now (k .exit)) ⌝ }
+{
+    let count = s.nodes;
+    let mut n: usize = 0;
+    let mut rc: usize = 1024;
+    let mut kc: usize = 1024;
+    while n < count {
+        let e = links::first_out(ls, n);
+        let r = node::node(g, ls, ms, gr, p, k, n, e, rc, kc);
+        rc = r.run;
+        kc = r.kid;
+        n += 1;
+    }
+}

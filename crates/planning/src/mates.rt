@@ -1,0 +1,46 @@
+// The table of groups, from each node's lead (conflict.rs: `merged_candidates`): lead, whether there are two members or more,
+// and the next member.
+ghost use mathlib.Core.Path.{_≡_};
+ghost use Prim.Native.Nat.{ℕ, _<_, _≤_};
+ghost use lib.ListN.{length, getD};
+ghost use Rattle.planning.specs.Grouping.{GroupWord, LeadsOk, Grouped, Grouping};
+
+fn group_word(l: usize, i: usize, x: usize) -> usize
+    requires { ⌜ (l < 128) × (x ≤ 128) ⌝ }
+    ensures { λ r. ⌜ GroupWord r l i x × (r < 65536) ⌝ }
+{
+    if x == 0 {
+        if l == i {
+            return l;
+        }
+        return l + 128 + 256 * x;
+    }
+    l + 128 + 256 * x
+}
+
+// From the last node down; `last` holds the lowest member so far of each lead.
+fn group_all(ld: &[u16; 128], gr: &mut [u16; 128], last: &mut [u16; 128], count: usize)
+    requires { ⌜ Grouping (now ld) (now gr) (now last) count count ⌝ }
+    ensures { λ _. ⌜ Grouped (now (ld .entry)) (now (gr .exit)) count 0 ⌝ }
+{
+    let mut n = count;
+    while 0 < n {
+        let i = n - 1;
+        let l = basis::wide16(basis::get16(ld, i));
+        let x = basis::wide16(basis::get16(last, l));
+        let w = group_word(l, i, x);
+        gr[i] = w as u16;
+        last[l] = n as u16;
+        n = i;
+    }
+}
+
+// Each of the first `count` nodes.
+pub fn group_words(ld: &[u16; 128], gr: &mut [u16; 128], count: usize)
+    requires { ⌜ LeadsOk (now ld) count ⌝ }
+    requires { ⌜ length (now gr) ≡ 128 ⌝ }
+    ensures { λ _. ⌜ Grouped (now (ld .entry)) (now (gr .exit)) count 0 ⌝ }
+{
+    let mut last = [0u16; 128];
+    group_all(ld, gr, &mut last, count);
+}

@@ -1,0 +1,3 @@
+pub mod Cut
+pub mod Kids
+pub mod Along

@@ -1,0 +1,4 @@
+pub mod Passed
+pub mod Written
+pub mod Turned
+pub mod Passing

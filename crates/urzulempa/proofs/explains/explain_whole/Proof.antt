@@ -1,0 +1,34 @@
+use Rattle.measuring.specs.Assembly.{fresh-plan}
+use Rattle.urzulempa.specs.Says.{whole-ready, whole-says}
+use borrow.Author.Needs.{needs}
+use Rattle.urzulempa.proofs.explains.explain_whole.Statement.{statement}
+use Rattle.urzulempa.proofs.explains.explain_whole.Tie as tie
+use Rattle.urzulempa.proofs.explains.explain_whole.Reads as reads
+use Rattle.urzulempa.proofs.explains.explain_whole.Lts as lts
+use Rattle.urzulempa.proofs.explains.plan_of.Reads as plan-of-reads
+use Rattle.urzulempa.proofs.explains.tell_plan.Reads as tell-plan-reads
+use Rattle.urzulempa.proofs.explains.told.Reads as told-reads
+
+-- src/explains.rt:99:5
+plan-of-requires : tie.Need-plan-of-requires
+plan-of-requires c κs = (search needs, (search needs, search (needs, fresh-plan)))
+
+-- src/explains.rt:100:9
+tell-plan-requires : tie.Need-tell-plan-requires
+tell-plan-requires c κs = (search needs, search (needs, whole-ready))
+
+-- src/explains.rt:101:5
+told-requires : tie.Need-told-requires
+told-requires c κs = search needs
+
+-- src/explains.rt:83:1
+same-length : tie.Need-same-length
+same-length c = search needs
+
+-- src/explains.rt:83:1
+returns : tie.Need-returns
+returns c = search (needs, whole-says)
+
+pub explain-whole-spec : {M : Type 1} → statement M
+explain-whole-spec =
+    tie.close (tie.spec plan-of-requires tell-plan-requires told-requires same-length returns)

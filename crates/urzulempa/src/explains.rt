@@ -1,0 +1,148 @@
+// The explanation of a file, over lent working arrays.
+ghost use mathlib.Core.Path.{_≡_};
+ghost use mathlib.Core.List.{[]};
+ghost use lib.ListN.{length, replicate};
+ghost use Rattle.records.specs.Read.{tablesOf};
+ghost use Rattle.index.specs.Index.{Loaded, Blank};
+ghost use Rattle.store.specs.Table.{graphIn};
+ghost use Rattle.links.specs.Build.{Chains};
+ghost use Rattle.graph.specs.Graphs.{graphOf, leftOf, drawn};
+ghost use Rattle.graph.specs.Drawing.{Drew};
+ghost use Rattle.plan.specs.Plan.{shownOf};
+ghost use Rattle.plan.specs.Planned.{Planned};
+ghost use Rattle.planning.specs.Building.{FreshPlan};
+ghost use Rattle.explanation.specs.Walk.{Ready};
+ghost use Rattle.explanation.specs.Walk.{Answered};
+ghost use Rattle.drawing.specs.Same.{optionOf};
+ghost use Rattle.urzulempa.specs.Says.{Says, toldAs};
+use crate::Answer;
+use crate::checks::refusal;
+use explanation::walk::Told;
+use graph::Drawing;
+use store::Size;
+
+// Labels, groups, then the plan.
+fn plan_of(
+    file: &[u8],
+    ix: &[u16; 10432],
+    g: &[u64; 1152],
+    s: Size,
+    w: &[u16; 3456],
+    p: &mut [u64; 1280],
+    k: &mut [u16; 1024],
+)
+    requires { ⌜ Loaded (now file) (now ix) ⌝ }
+    requires { ⌜ Chains (now g) s (now w) ⌝ }
+    requires { ⌜ FreshPlan (now p) (now k) ⌝ }
+    ensures { λ _. ⌜ Planned (shownOf (tablesOf (now (file .entry))) (graphIn (now (g .entry)) s)) (now (p .exit)) (now (k .exit)) ⌝ }
+{
+    let mut ms = [0u16; 128];
+    labels::label(g, s, w, &mut ms);
+    let mut ld = [0u16; 128];
+    naming::group_named(file, ix, g, s, w, &mut ld);
+    let mut gr = [0u16; 128];
+    measuring::build_plan(file, ix, g, s, w, &ms, &ld, &mut gr, p, k);
+}
+
+fn tell_plan(
+    file: &[u8],
+    ix: &[u16; 10432],
+    p: &[u64; 1280],
+    k: &[u16; 1024],
+    top: bool,
+    room: &mut [u8],
+) -> Told
+    requires { ⌜ Loaded (now file) (now ix) ⌝ }
+    requires { ⌜ Ready (tablesOf (now file)) (now p) (now k) ⌝ }
+    ensures { λ r. ⌜ Answered (tablesOf (now (file .entry))) (now (p .entry)) (now (k .entry)) top (now (room .entry)) (now (room .exit)) r ⌝ }
+{
+    let mut fr = [0u64; 2080];
+    let mut seen = [0u8; 128];
+    explanation::walk::explain_plan(file, ix, p, k, &mut fr, &mut seen, room, top)
+}
+
+fn wide(x: usize) -> u64
+    ensures { λ r. ⌜ r ≡ x ⌝ }
+{
+    x as u64
+}
+
+fn told(t: Told) -> Answer
+    ensures { λ r. ⌜ r ≡ toldAs t ⌝ }
+{
+    Answer {
+        number: t.number,
+        place: wide(t.place),
+        bytes: wide(t.bytes),
+        units: wide(t.units),
+        depth: wide(t.depth),
+    }
+}
+
+// A graph that is drawn whole.
+fn explain_whole(
+    file: &[u8],
+    ix: &[u16; 10432],
+    g: &[u64; 1152],
+    s: Size,
+    w: &[u16; 3456],
+    top: bool,
+    room: &mut [u8],
+) -> Answer
+    requires { ⌜ Loaded (now file) (now ix) ⌝ }
+    requires { ⌜ Chains (now g) s (now w) ⌝ }
+    requires { ⌜ graphOf (tablesOf (now file)) ≡ drawn (graphIn (now g) s) ⌝ }
+    ensures { λ r. ⌜ Says (now (file .entry)) (optionOf top) (now (room .entry)) (now (room .exit)) r ⌝ }
+{
+    let mut p = [0u64; 1280];
+    let mut k = [0u16; 1024];
+    plan_of(file, ix, g, s, w, &mut p, &mut k);
+    let t = tell_plan(file, ix, &p, &k, top, room);
+    told(t)
+}
+
+// What building answered.
+fn explain_built(
+    file: &[u8],
+    ix: &[u16; 10432],
+    g: &[u64; 1152],
+    w: &[u16; 3456],
+    d: Drawing,
+    top: bool,
+    room: &mut [u8],
+) -> Answer
+    requires { ⌜ Loaded (now file) (now ix) ⌝ }
+    requires { ⌜ Drew (graphOf (tablesOf (now file))) (leftOf (tablesOf (now file))) (now g) (now w) d ⌝ }
+    ensures { λ r. ⌜ Says (now (file .entry)) (optionOf top) (now (room .entry)) (now (room .exit)) r ⌝ }
+{
+    match d {
+        Drawing::Refused(k, i, _) => refusal(k, i),
+        Drawing::Whole(s) => explain_whole(file, ix, g, s, w, top, room),
+    }
+}
+
+pub fn explain_in(
+    file: &[u8],
+    top: bool,
+    ix: &mut [u16; 10432],
+    g: &mut [u64; 1152],
+    tr: &mut [u64; 1024],
+    w: &mut [u16; 3456],
+    room: &mut [u8],
+) -> Answer
+    requires { ⌜ Blank (now ix) ⌝ }
+    requires { ⌜ now g ≡ replicate 1152 0 ⌝ }
+    requires { ⌜ length (now tr) ≡ 1024 ⌝ }
+    requires { ⌜ now w ≡ replicate 3456 0 ⌝ }
+    ensures { λ r. ⌜ Says (now (file .entry)) (optionOf top) (now (room .entry)) (now (room .exit)) r ⌝ }
+{
+    let a = index::load(file, ix);
+    match a {
+        records::Answer::Refused { number, place } => refusal(number, place),
+        records::Answer::Accepted(c) => {
+            let n = c.clauses;
+            let d = graph::build(file, ix, n, g, tr, w);
+            explain_built(file, ix, g, w, d, top, room)
+        }
+    }
+}
