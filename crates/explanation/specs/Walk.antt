@@ -113,6 +113,10 @@ pub record Answered (T : Tables) (p k : List ℕ) (top : Bool) (out left : List 
       (record { number = r .number; place = r .place; bytes = r .bytes; units = r .units; depth = r .depth; text = text })
   pub room : Wrote text out left (r .bytes)
 
+-- the answer from where the walk stands
+abbrev pub answerAt : ℕ → ℕ → Top → Told
+answerAt number place t = record { number = number; place = place; bytes = t .at; units = t .units; depth = t .depth }
+
 -- where the walk begins
 abbrev pub first : ℕ → ℕ → Top
 first a b = record { r = a; re = b; k = 0; ke = 0; d = 0; at = 0; units = 0; depth = 0 }
@@ -270,8 +274,8 @@ module _ (T : Tables) (p k : List ℕ) (top : Bool) (fr seen : List ℕ) (t : To
   came-back : left ≡ rest out (t .at) → Wrote (textOf so) out₀ (back out (t .at) left) (t .at)
   came-back e = part-back left (s .wrote) e
 
-  pub walk-done : st ≡ Done → Answered T p k top out₀ (back out (t .at) left) (record { number = 0; place = 0; bytes = t .at; units = t .units; depth = t .depth })
-  walk-done e =
+  done-at : st ≡ Done → Answered T p k top out₀ (back out (t .at) left) (answerAt 0 0 t)
+  done-at e =
       let d : TurnedDone k t fr (rest out (t .at)) left = rw e at q in
       record {
         text = textOf so;
@@ -280,9 +284,11 @@ module _ (T : Tables) (p k : List ℕ) (top : Bool) (fr seen : List ℕ) (t : To
         room = came-back (d .same);
       }
 
-  pub walk-loops : (n m y : ℕ) → st ≡ Loops n → m ≡ y → y ≡ solvableIn p n
-      → Answered T p k top out₀ (back out (t .at) left) (record { number = 11; place = m; bytes = t .at; units = t .units; depth = t .depth })
-  walk-loops n m y e xi mi =
+  pub walk-done : (a : Told) → st ≡ Done → a ≡ answerAt 0 0 t → Answered T p k top out₀ (back out (t .at) left) a
+  walk-done a e ai = rw ai (done-at e)
+
+  loops-at : (n m y : ℕ) → st ≡ Loops n → m ≡ y → y ≡ solvableIn p n → Answered T p k top out₀ (back out (t .at) left) (answerAt 11 m t)
+  loops-at n m y e xi mi =
       let d : TurnedLoops p k t fr (rest out (t .at)) n left = rw e at q in
       rw (xi, mi) (record {
         text = textOf so;
@@ -291,40 +297,45 @@ module _ (T : Tables) (p k : List ℕ) (top : Bool) (fr seen : List ℕ) (t : To
         room = came-back (d .same);
       })
 
+  pub walk-loops : (a : Told) (n m y : ℕ) → st ≡ Loops n → a ≡ answerAt 11 m t → m ≡ y → y ≡ solvableIn p n → Answered T p k top out₀ (back out (t .at) left) a
+  walk-loops a n m y e ai xi mi = rw ai (loops-at n m y e xi mi)
+
   r : Ready T p k
   r = x .ready
 
-  module _ where
-    pub walk-full : st ≡ Full → Answered T p k top out₀ (back out (t .at) left) (record { number = 10; place = u .units; bytes = u .at; units = u .units; depth = u .depth })
-    unfolding startIn
-    walk-full e =
-        let f : TurnedFull T p k h t fr seen (rest out (t .at)) u left = rw e at q in
-        let is : lines (f .entry) ≡ f .first ++ (f .line ∷ f .rest) = sym (ap (λ (b : Bool). linesIn T p k b (f .entry)) ht) ∙ f .is in
-        let us : List TextUnit = linesAs P (f .entry) (f .first) in
-        let y : Tally (soFar P lines (s .es) (f .entry) (f .first)) (u .at) (u .units) (u .depth) =
-        tally-added so us (t .at) (t .units) (t .depth) (u .at) (u .units) (u .depth) (s .tally) (f .added) in
-        let w : Wrote (textOf (soFar P lines (s .es) (f .entry) (f .first))) out₀ (back out (t .at) left) (u .at) =
-        rw (text-append so us) (wrote-at (f .at) (behind (s .wrote) (f .wrote))) in
-        record {
-          text = textOf (soFar P lines (s .es) (f .entry) (f .first));
-          is = end-full P lines (solvableIn p) (startIn p) (state (stackIn k t fr) (s .rep)) (s .es) (s .turns) (length out₀) (u .at) (u .units) (u .depth)
-              (textOf (soFar P lines (s .es) (f .entry) (f .first)))
-              (halts P (r .G) (r .U) (r .counted) (runsIn p 0)) (f .entry) (f .goes) (f .shown (s .rep) (s .flags)) (f .first) (f .line) (f .rest) is
-              y refl (let a = w .count in let b = w .fits in omega arith)
-              (let a = f .over in let b = f .at in let c = rest-length out (t .at) (let x = same-length in let z = in-room in omega arith) in let d = same-length in omega arith);
-          room = w;
-        }
+  full-at : st ≡ Full → Answered T p k top out₀ (back out (t .at) left) (answerAt 10 (u .units) u)
+  unfolding startIn
+  full-at e =
+      let f : TurnedFull T p k h t fr seen (rest out (t .at)) u left = rw e at q in
+      let is : lines (f .entry) ≡ f .first ++ (f .line ∷ f .rest) = sym (ap (λ (b : Bool). linesIn T p k b (f .entry)) ht) ∙ f .is in
+      let us : List TextUnit = linesAs P (f .entry) (f .first) in
+      let y : Tally (soFar P lines (s .es) (f .entry) (f .first)) (u .at) (u .units) (u .depth) =
+      tally-added so us (t .at) (t .units) (t .depth) (u .at) (u .units) (u .depth) (s .tally) (f .added) in
+      let w : Wrote (textOf (soFar P lines (s .es) (f .entry) (f .first))) out₀ (back out (t .at) left) (u .at) =
+      rw (text-append so us) (wrote-at (f .at) (behind (s .wrote) (f .wrote))) in
+      record {
+        text = textOf (soFar P lines (s .es) (f .entry) (f .first));
+        is = end-full P lines (solvableIn p) (startIn p) (state (stackIn k t fr) (s .rep)) (s .es) (s .turns) (length out₀) (u .at) (u .units) (u .depth)
+            (textOf (soFar P lines (s .es) (f .entry) (f .first)))
+            (halts P (r .G) (r .U) (r .counted) (runsIn p 0)) (f .entry) (f .goes) (f .shown (s .rep) (s .flags)) (f .first) (f .line) (f .rest) is
+            y refl (let a = w .count in let b = w .fits in omega arith)
+            (let a = f .over in let b = f .at in let c = rest-length out (t .at) (let x = same-length in let z = in-room in omega arith) in let d = same-length in omega arith);
+        room = w;
+      }
 
-    -- B1: no package is shown so deep
-    pub walk-deep : (a : Told) → st ≡ Deep → Answered T p k top out₀ (back out (t .at) left) a
-    unfolding startIn
-    walk-deep a e =
-        let d : TurnedDeep p k t fr seen = rw e at q in
-        let fit = rw (d .is) at
-        (turns-fit P (r .G) (r .U) (r .counted) (startIn p) (state (stackIn k t fr) (s .rep)) (s .es) (s .turns) (fits-start P (r .G) (r .U) (runsIn p 0))) in
-        let came = rw (d .is) at
-        (came-turns P (λ n. Unit {0}) (λ x n i. tt) (startIn p) (state (stackIn k t fr) (s .rep)) (s .es) (s .turns) (came-start P (λ n. Unit {0}) (runsIn p 0))) in
-        let b = kid-within P (r .G) (r .U) (d .node) (kidMarks (runsAt k t fr) (kidsAt k t fr) (framesAt k t fr)) (branchOf (framesAt k t fr)) (s .rep)
-        (fit .0) (came .0 .0) (d .kept (s .rep) (s .flags)) (d .again) in
-        let z : ⊥ = (let l = branch-length (framesAt k t fr) in let m = frames-length k fr (t .d) in let f = d .far in let g = r .small in omega arith) in
-        absurd z
+  pub walk-full : (a : Told) → st ≡ Full → a ≡ answerAt 10 (u .units) u → Answered T p k top out₀ (back out (t .at) left) a
+  walk-full a e ai = rw ai (full-at e)
+
+  -- B1: no package is shown so deep
+  pub walk-deep : (a : Told) → st ≡ Deep → Answered T p k top out₀ (back out (t .at) left) a
+  unfolding startIn
+  walk-deep a e =
+      let d : TurnedDeep p k t fr seen = rw e at q in
+      let fit = rw (d .is) at
+      (turns-fit P (r .G) (r .U) (r .counted) (startIn p) (state (stackIn k t fr) (s .rep)) (s .es) (s .turns) (fits-start P (r .G) (r .U) (runsIn p 0))) in
+      let came = rw (d .is) at
+      (came-turns P (λ n. Unit {0}) (λ x n i. tt) (startIn p) (state (stackIn k t fr) (s .rep)) (s .es) (s .turns) (came-start P (λ n. Unit {0}) (runsIn p 0))) in
+      let b = kid-within P (r .G) (r .U) (d .node) (kidMarks (runsAt k t fr) (kidsAt k t fr) (framesAt k t fr)) (branchOf (framesAt k t fr)) (s .rep)
+      (fit .0) (came .0 .0) (d .kept (s .rep) (s .flags)) (d .again) in
+      let z : ⊥ = (let l = branch-length (framesAt k t fr) in let m = frames-length k fr (t .d) in let f = d .far in let g = r .small in omega arith) in
+      absurd z

@@ -10,7 +10,7 @@ ghost use lib.ListN.{length};
 ghost use Rattle.records.specs.Read.{tablesOf};
 ghost use Rattle.index.specs.Index.{Loaded};
 ghost use Rattle.explanation.specs.Judge.{Flags};
-ghost use Rattle.explanation.specs.Walk.{Ready, Answered};
+ghost use Rattle.explanation.specs.Walk.{Ready, Answered, answerAt};
 
 // "An answer holds number, place, bytes, units, depth".
 pub struct Told {
@@ -19,6 +19,19 @@ pub struct Told {
     pub bytes: usize,
     pub units: usize,
     pub depth: usize,
+}
+
+// The answer from where the walk stands.
+pub fn answer(number: u64, place: usize, t: Top) -> Told
+    ensures { λ r. ⌜ r ≡ answerAt number place t ⌝ }
+{
+    Told {
+        number,
+        place,
+        bytes: t.at,
+        units: t.units,
+        depth: t.depth,
+    }
 }
 
 // The explanation of a packed plan: its text at the start of the room, and the answer.
@@ -61,42 +74,18 @@ pub fn explain_plan(
                 g = h;
             }
             Step::Done => {
-                return Told {
-                    number: 0,
-                    place: 0,
-                    bytes: t.at,
-                    units: t.units,
-                    depth: t.depth,
-                };
+                return answer(0, 0, t);
             }
             Step::Loops(n) => {
                 let place = basis::wide16(plan::solvable(p, n));
-                return Told {
-                    number: 11,
-                    place,
-                    bytes: t.at,
-                    units: t.units,
-                    depth: t.depth,
-                };
+                return answer(11, place, t);
             }
             Step::Full => {
                 let u = m.top;
-                return Told {
-                    number: 10,
-                    place: u.units,
-                    bytes: u.at,
-                    units: u.units,
-                    depth: u.depth,
-                };
+                return answer(10, u.units, u);
             }
             Step::Deep => {
-                return Told {
-                    number: 10,
-                    place: 0,
-                    bytes: 0,
-                    units: 0,
-                    depth: 0,
-                };
+                return answer(10, 0, t);
             }
         }
     }

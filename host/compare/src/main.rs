@@ -33,21 +33,21 @@ fn main() -> ExitCode {
         println!("compare: skipped: conflict.rs was not there when this was built");
         return ExitCode::from(77);
     }
-    let found = if words[0] == "bytes" { bytes() } else { files(n, seed, words[0] == "check") };
+    let found = if words[0] == "bytes" { bytes() } else { files(n, seed, words[0]) };
     if found { ExitCode::from(1) } else { ExitCode::SUCCESS }
 }
 
 const CHECK: Trial = Trial { call: Call::Check, option: 0, room: 0, fill: 0 };
 
 /// True if a difference was found.
-fn files(n: u64, seed: u64, check_only: bool) -> bool {
+fn files(n: u64, seed: u64, only: &str) -> bool {
     let mut answers = 0u64;
     let mut numbers = [0u64; 13];
     for index in 0..n {
         let (shape, shape_seed) = generate::pick(index, seed);
         let Some(file) = generate::file(shape, shape_seed) else { continue };
         let mut rng = Rng::new(shape_seed ^ index.rotate_left(32));
-        let trials = if check_only { vec![CHECK] } else { calls::trials(&file, &mut rng) };
+        let trials = if only == "check" { vec![CHECK] } else { calls::trials(&file, &mut rng) };
         for trial in trials {
             answers += 1;
             match trial.run(&file) {
