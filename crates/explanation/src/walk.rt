@@ -63,15 +63,14 @@ pub fn explain_plan(
         depth: 0,
     };
     loop {
-        let h = level(g, t);
+        g = level(g, t);
         let at = t.at;
-        let m = turn(file, ix, p, k, fr, seen, &mut out[at..], h, t);
+        let m = turn(file, ix, p, k, fr, seen, &mut out[at..], g, t);
         let s = m.step;
         match s {
             Step::On => {
                 let u = m.top;
                 t = u;
-                g = h;
             }
             Step::Done => {
                 return answer(0, 0, t);
