@@ -19,6 +19,9 @@ fn main() -> ExitCode {
     ExitCode::SUCCESS
 }
 
+/// What the arrays that `urzulempa_explain` owns take together (docs/DECISIONS.md lists them).
+const OWNED: usize = 75_008;
+
 /// The least time of one call: each round repeats it for at least this long.
 const ROUND: Duration = Duration::from_millis(40);
 const ROUNDS: usize = 5;
@@ -86,7 +89,12 @@ fn graphs() {
     for (name, file) in &loads {
         let mut theirs = vec![oracle::Node { kind: 0, number: 0, group: 0, installable: 0, missing: 0 }; 128];
         let mut ours = [urzulempa::Node::default(); 128];
-        row(&format!("file to labelled graph, {name}"), file.len(), both(|| keep(black_box(oracle::nodes(black_box(file), &mut theirs))), || keep(black_box(urzulempa::nodes(black_box(file), &mut ours)))));
+        let labelled = both(|| keep(black_box(oracle::nodes(black_box(file), &mut theirs))), || keep(black_box(urzulempa::nodes(black_box(file), &mut ours))));
+        row(&format!("file to labelled graph, {name}"), file.len(), labelled);
+        if *name == "largest load" {
+            let graph = both(|| keep(black_box(oracle::check(black_box(file)))), || keep(black_box(urzulempa::check(black_box(file)))));
+            row(&format!("the groups and labels of it alone, {name}"), file.len(), (labelled.0 - graph.0, labelled.1 - graph.1));
+        }
     }
 }
 
@@ -95,40 +103,73 @@ fn texts() {
     let file = p7();
     let (mut a, mut b) = (vec![0; 4096], vec![0; 4096]);
     row("explanation of P7, a call", file.len(), both(|| keep(black_box(oracle::explain(black_box(&file), 0, &mut a))), || keep(black_box(urzulempa::explain(black_box(&file), 0, &mut b)))));
+    let mut arrays = vec![0u8; OWNED];
+    let clearing = (0..ROUNDS).map(|_| once(&mut || black_box(&mut arrays[..]).fill(0))).fold(f64::MAX, f64::min);
+    println!("| of that, clearing the {OWNED} bytes of arrays that a call owns | | | {} | |", time(clearing));
     row("graph text of P7, a call", file.len(), both(|| keep(black_box(oracle::graphviz(black_box(&file), 1, &mut a))), || keep(black_box(urzulempa::graphviz(black_box(&file), 1, &mut b)))));
-    for (name, file, size) in [("exploding DAG, room of 64 MiB", made("dag-exploding-limit", 1), 64 << 20), ("depth 2,079, in full", made("depth-largest", 1), 32 << 20)] {
+    for (name, file, size) in [("exploding DAG, room of 64 MiB", largest("dag-exploding-limit"), 64 << 20), ("depth 2,079, in full", made("depth-largest", 1), 32 << 20)] {
         let (mut a, mut b) = (vec![0; size], vec![0; size]);
         let times = both(|| keep(black_box(oracle::explain(black_box(&file), 0, &mut a))), || keep(black_box(urzulempa::explain(black_box(&file), 0, &mut b))));
-        let bytes = urzulempa::explain(&file, 0, &mut b).bytes as f64;
-        row(&format!("{name}: {:.0} and {:.0} MB/s", bytes / times.0 / 1e6, bytes / times.1 / 1e6), file.len(), times);
+        let answer = urzulempa::explain(&file, 0, &mut b);
+        let same = oracle::explain(&file, 0, &mut a).bytes == answer.bytes && a == b;
+        let bytes = answer.bytes as f64;
+        let said = format!("{name}: answer {}, depth {}, {:.0} and {:.0} MB/s, rooms {}", answer.number, answer.depth, bytes / times.0 / 1e6, bytes / times.1 / 1e6, if same { "equal" } else { "DIFFER" });
+        row(&said, file.len(), times);
     }
     let file = largest("nodes-and-edges");
     let (mut a, mut b) = (vec![0; 1 << 20], vec![0; 1 << 20]);
     row("graph text, largest load", file.len(), both(|| keep(black_box(oracle::graphviz(black_box(&file), 1, &mut a))), || keep(black_box(urzulempa::graphviz(black_box(&file), 1, &mut b)))));
 }
 
-/// How the time grows with the file: the port's time for a record, a node, an edge and a line must not grow with the size.
+/// How the time grows with the size of the load, in one thing at a time: what one more of it costs must not grow.
 fn growth() {
     println!();
-    println!("| port, by size | records | nodes | edges | time | time a record |");
+    println!("| port, file to labelled graph | records | nodes | edges | time | time a record and edge |");
     println!("|---|---|---|---|---|---|");
-    for edges in [64, 128, 256, 512, 1024] {
-        let file = generate::limits::edges(edges);
+    let sized = |what: &str, file: Vec<u8>| {
         let model = oracle::Problem::read(&file).ok().and_then(|p| p.model().ok().map(|m| (m.nodes().len(), m.edge_count())));
-        let Some((nodes, edges)) = model else { continue };
+        let Some((nodes, edges)) = model else { return };
         let mut list = [urzulempa::Node::default(); 128];
         let best = (0..ROUNDS).map(|_| once(&mut || keep(black_box(urzulempa::nodes(black_box(&file), &mut list))))).fold(f64::MAX, f64::min);
         let records = file.len() / 32;
-        println!("| file to labelled graph | {records} | {nodes} | {edges} | {} | {:.0} ns |", time(best), best / records as f64 * 1e9);
+        println!("| {what} | {records} | {nodes} | {edges} | {} | {:.0} ns |", time(best), best / (records + edges) as f64 * 1e9);
+    };
+    for records in [128, 256, 512, 1024, 2048] {
+        sized("by records, the graph the same", padded(records));
+    }
+    for nodes in [8, 16, 32, 64, 128] {
+        sized("by nodes", generate::limits::nodes(nodes));
+    }
+    for edges in [64, 128, 256, 512, 1024] {
+        sized("by edges", generate::limits::edges(edges));
     }
     println!();
     println!("| port, text by room | lines | bytes | time | time a line |");
     println!("|---|---|---|---|---|");
-    let file = made("dag-exploding-limit", 1);
+    let file = largest("dag-exploding-limit");
     for size in [1 << 16, 1 << 18, 1 << 20, 1 << 22, 1 << 24] {
         let mut room = vec![0; size];
         let best = (0..ROUNDS).map(|_| once(&mut || keep(black_box(urzulempa::explain(black_box(&file), 0, &mut room))))).fold(f64::MAX, f64::min);
         let answer = urzulempa::explain(&file, 0, &mut room);
         println!("| exploding DAG | {} | {} | {} | {:.0} ns |", answer.units, answer.bytes, time(best), best / answer.units.max(1) as f64 * 1e9);
     }
+}
+
+/// P7 with further clauses outside the core, up to so many records.
+fn padded(records: usize) -> Vec<u8> {
+    let mut file = p7();
+    let mut outside = [0; 32];
+    outside[0] = 18;
+    let (mut variable, mut number) = ([0; 32], file.chunks(32).filter(|r| r[0] == 7).count() as u16);
+    (variable[0], variable[4]) = (7, 5);
+    while file.len() < 32 * records {
+        if file.len() / 32 % 2 == 0 {
+            file.extend(outside);
+        } else {
+            variable[2..4].copy_from_slice(&number.to_le_bytes());
+            number += 1;
+            file.extend(variable);
+        }
+    }
+    file
 }

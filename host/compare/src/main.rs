@@ -9,8 +9,9 @@ use oracle::generate;
 use oracle::rng::Rng;
 use std::process::ExitCode;
 
-const USAGE: &str = "usage: compare files N SEED   N generated files over all shapes, all calls, all rooms
+const USAGE: &str = "usage: compare files N SEED   the hand-made files, then N generated ones over all shapes; all calls, all rooms
        compare check N SEED   the same with the call `check` alone
+       compare nodes N SEED   the same with the node list alone
        compare bytes          a small file with every kind of record, each byte set to each value
 Status: 0 no difference, 1 a difference, 64 wrong usage, 77 without conflict.rs.";
 
@@ -18,7 +19,7 @@ fn main() -> ExitCode {
     let words: Vec<String> = std::env::args().skip(1).collect();
     let words: Vec<&str> = words.iter().map(String::as_str).collect();
     let job = match words[..] {
-        ["files" | "check", n, seed] => match (n.parse(), seed.parse()) {
+        ["files" | "check" | "nodes", n, seed] => match (n.parse(), seed.parse()) {
             (Ok(n), Ok(seed)) => Some((n, seed)),
             _ => None,
         },
@@ -39,29 +40,60 @@ fn main() -> ExitCode {
 
 const CHECK: Trial = Trial { call: Call::Check, option: 0, room: 0, fill: 0 };
 
+/// Files made by hand: the samples, and a group whose members differ in their labels.
+fn hand_made() -> Vec<(String, Vec<u8>)> {
+    let cycle = ("unequal labels".to_string(), oracle::samples::unequal_labels());
+    oracle::samples::all().into_iter().map(|(name, file)| (name.to_string(), file)).chain([cycle]).collect()
+}
+
 /// True if a difference was found.
 fn files(n: u64, seed: u64, only: &str) -> bool {
-    let mut answers = 0u64;
-    let mut numbers = [0u64; 13];
+    let mut tally = Tally::default();
+    for (name, file) in hand_made() {
+        if tally.differs(only, &name, &file, &mut Rng::new(seed)) {
+            return true;
+        }
+    }
     for index in 0..n {
         let (shape, shape_seed) = generate::pick(index, seed);
         let Some(file) = generate::file(shape, shape_seed) else { continue };
         let mut rng = Rng::new(shape_seed ^ index.rotate_left(32));
-        let trials = if only == "check" { vec![CHECK] } else { calls::trials(&file, &mut rng) };
+        if tally.differs(only, &format!("shape {shape} seed {shape_seed}"), &file, &mut rng) {
+            return true;
+        }
+    }
+    let seen: Vec<String> = tally.numbers.iter().enumerate().filter(|(_, c)| **c > 0).map(|(k, c)| format!("{k}: {c}")).collect();
+    println!("compare: {n} generated files and {} made by hand, {} answers compared, 0 differences; answers by number: {}", hand_made().len(), tally.answers, seen.join(", "));
+    false
+}
+
+#[derive(Default)]
+struct Tally {
+    answers: u64,
+    numbers: [u64; 13],
+}
+
+impl Tally {
+    /// All trials of a file, or those of one call; a difference is reported.
+    fn differs(&mut self, only: &str, whence: &str, file: &[u8], rng: &mut Rng) -> bool {
+        let mut trials = calls::trials(file, rng);
+        match only {
+            "check" => trials.retain(|t| t.call == Call::Check),
+            "nodes" => trials.retain(|t| t.call == Call::Nodes),
+            _ => {}
+        }
         for trial in trials {
-            answers += 1;
-            match trial.run(&file) {
-                Ok(number) => numbers[usize::try_from(number).unwrap_or(12).min(12)] += 1,
+            self.answers += 1;
+            match trial.run(file) {
+                Ok(number) => self.numbers[usize::try_from(number).unwrap_or(12).min(12)] += 1,
                 Err(_) => {
-                    report(&format!("shape {shape} seed {shape_seed}"), &file, &trial);
+                    report(whence, file, &trial);
                     return true;
                 }
             }
         }
+        false
     }
-    let seen: Vec<String> = numbers.iter().enumerate().filter(|(_, c)| **c > 0).map(|(k, c)| format!("{k}: {c}")).collect();
-    println!("compare: {n} files, {answers} answers compared, 0 differences; answers by number: {}", seen.join(", "));
-    false
 }
 
 /// Every byte of a small file that has all kinds, set to each of the 256 values.

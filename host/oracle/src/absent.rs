@@ -21,6 +21,10 @@ impl<'a> Problem<'a> {
     pub fn model(&self) -> Result<Model<'_, 'a>, Refusal> {
         absent()
     }
+
+    pub fn check(&self) -> Result<(), Refusal> {
+        absent()
+    }
 }
 
 impl Model<'_, '_> {
@@ -66,5 +70,13 @@ pub fn nodes(_: &[u8], _: &mut [Node]) -> Answer {
 }
 
 pub fn rules(_: &[u8], _: bool, _: &mut [u8], _: u64) -> Result<Rules, Refusal> {
+    absent()
+}
+
+pub fn written() -> Vec<u8> {
+    absent()
+}
+
+pub fn rewritten(_: &[u8]) -> Option<Vec<u8>> {
     absent()
 }

@@ -1,6 +1,6 @@
 //! The calls of document 01 on the oracle.
 
-use crate::conflict::view::View;
+use crate::conflict::view::{self, View};
 use crate::provider::{solver_of, FileSolver};
 use crate::reader;
 use crate::rooms::Room;
@@ -27,6 +27,11 @@ impl<'a> Problem<'a> {
     pub fn model(&self) -> Result<Model<'_, 'a>, Refusal> {
         let view = View::build(&self.solver, &self.core)?;
         Ok(Model { view })
+    }
+
+    /// Refusals 7 to 9, without groups and labels.
+    pub fn check(&self) -> Result<(), Refusal> {
+        view::drawn(&self.solver, &self.core).map(drop)
     }
 }
 
@@ -108,7 +113,7 @@ pub fn graphviz(file: &[u8], option: u64, room: &mut [u8]) -> Answer {
 /// Refusals 1 to 9, and no text.
 pub fn check(file: &[u8]) -> Answer {
     answered(|| {
-        Problem::read(file)?.model()?;
+        Problem::read(file)?.check()?;
         Ok(Answer::default())
     })
 }
@@ -134,4 +139,14 @@ pub fn nodes(file: &[u8], list: &mut [Node]) -> Answer {
 /// The rules of `fmt_graph` without refusal 11, for at most `lines` lines of `room`.
 pub fn rules(file: &[u8], indent: bool, room: &mut [u8], lines: u64) -> Result<Rules, Refusal> {
     Ok(Problem::read(file)?.model()?.rules(indent, room, lines))
+}
+
+/// samples/replay.rec, as a solver would write it.
+pub fn written() -> Vec<u8> {
+    crate::writer::replay()
+}
+
+/// A file read and written again, table by table.
+pub fn rewritten(file: &[u8]) -> Option<Vec<u8>> {
+    crate::writer::again(file)
 }

@@ -29,13 +29,15 @@ mod rooms;
 mod standins;
 #[cfg(has_conflict_rs)]
 mod watch;
+#[cfg(has_conflict_rs)]
+mod writer;
 
 #[cfg(not(has_conflict_rs))]
 #[path = "absent.rs"]
 mod calls;
 
 pub use answer::{Answer, Node, Refusal, Rules};
-pub use calls::{check, explain, graphviz, nodes, rules, Model, Problem};
+pub use calls::{check, explain, graphviz, nodes, rewritten, rules, written, Model, Problem};
 
 /// Whether conflict.rs was there when this crate was built.
 pub const AVAILABLE: bool = cfg!(has_conflict_rs);

@@ -6,7 +6,7 @@ use std::fmt::{self, Display};
 use crate::limits::Progress;
 use crate::reader::{self, kind, origin, Tables};
 use crate::standins::internal::id::ClauseId;
-use crate::standins::runtime::Now;
+use crate::standins::runtime::AtOnce;
 use crate::standins::solver::clause::{Clause, Literal};
 use crate::standins::solver::variable_map::{VariableMap, VariableOrigin};
 use crate::standins::solver::{Cache, Clauses, DecisionTracker, Solver, State};
@@ -107,7 +107,7 @@ impl Display for Merged<'_, '_> {
     }
 }
 
-pub type FileSolver<'a> = Solver<Provider<'a>, Now>;
+pub type FileSolver<'a> = Solver<Provider<'a>, AtOnce>;
 
 /// The solver as it would stand at a conflict, from an accepted file; and the core, in file order.
 pub fn solver_of(tables: Tables<'_>) -> (FileSolver<'_>, Vec<ClauseId>) {
@@ -144,7 +144,7 @@ pub fn solver_of(tables: Tables<'_>) -> (FileSolver<'_>, Vec<ClauseId>) {
         provider,
         state,
         cache: Cache { candidates },
-        async_runtime: Now,
+        async_runtime: AtOnce,
     };
     (solver, core)
 }

@@ -102,6 +102,22 @@ pub fn rack() -> Vec<u8> {
     d.file()
 }
 
+/// A cycle in which two members of a group differ in their labels: deck 1 and deck 2 require x, x requires either of them and a
+/// codec that nobody has.
+pub fn unequal_labels() -> Vec<u8> {
+    let mut d = Draft::new();
+    let name = d.name("deck");
+    let (one, two) = (d.solvable(name, "1"), d.solvable(name, "2"));
+    let x = d.package("x", "1");
+    d.root_needs("deck *", &[one, two]);
+    let wish = d.needs(one, "x *", &[x]);
+    let second = d.of(two);
+    d.requires(second, wish);
+    d.needs(x, "deck 2", &[one, two]);
+    d.needs(x, "codec 9", &[]);
+    d.file()
+}
+
 /// The sample files by name.
 pub fn all() -> Vec<(&'static str, Vec<u8>)> {
     vec![

@@ -134,9 +134,9 @@ pub mod runtime {
         }
     }
 
-    pub struct Now;
+    pub struct AtOnce;
 
-    impl AsyncRuntime for Now {}
+    impl AsyncRuntime for AtOnce {}
 }
 
 pub mod solver {

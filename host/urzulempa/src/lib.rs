@@ -15,6 +15,15 @@
 //! let answer = explain(&[7; 33], 0, &mut room);
 //! assert_eq!(answer.refusal(), Some(Refusal::Length));
 //! assert_eq!(room, [0; 64]);
+//!
+//! // A load that has no solution, with a room that grows until the text fits.
+//! let file = include_bytes!("../../../samples/replay.rec");
+//! let (answer, text) = urzulempa::grown(1 << 20, |room| urzulempa::explain_plain(file, room));
+//! match answer.refusal() {
+//!     None => print!("{}", String::from_utf8_lossy(&text)),
+//!     Some(refusal) => eprintln!("refused {}: {refusal}", answer.number),
+//! }
+//! assert!(text.ends_with(b"codec 9, for which no candidates were found.\n"));
 //! ```
 
 mod ffi;

@@ -4,7 +4,7 @@ use std::fmt::{self, Write as _};
 
 use petgraph::graph::NodeIndex;
 
-use super::{Conflict, ConflictNode, DisplayUnsat};
+use super::{Conflict, ConflictGraph, ConflictNode, DisplayUnsat};
 use crate::limits;
 use crate::provider::{FileSolver, Provider};
 use crate::rooms::{Lines, Pieces, Room};
@@ -24,16 +24,20 @@ pub struct Told {
     pub ended: bool,
 }
 
+/// Refusals 7 to 9, or the graph alone.
+pub fn drawn(solver: &FileSolver<'_>, core: &[ClauseId]) -> Result<ConflictGraph, Refusal> {
+    let mut conflict = Conflict::default();
+    for &clause in core {
+        conflict.add_clause(clause);
+    }
+    limits::caught(&solver.state.limits, || conflict.graph(solver))
+}
+
 impl<'p, 'a> View<'p, 'a> {
-    /// Refusals 7 to 9, or the graph.
+    /// Refusals 7 to 9, or the graph with its groups and labels.
     pub fn build(solver: &'p FileSolver<'a>, core: &[ClauseId]) -> Result<Self, Refusal> {
-        let mut conflict = Conflict::default();
-        for &clause in core {
-            conflict.add_clause(clause);
-        }
-        let graph = limits::caught(&solver.state.limits, || conflict.graph(solver))?;
         Ok(View {
-            unsat: DisplayUnsat::new(graph, solver.provider()),
+            unsat: DisplayUnsat::new(drawn(solver, core)?, solver.provider()),
         })
     }
 
