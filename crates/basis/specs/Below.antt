@@ -22,9 +22,6 @@ pub below-step : (p : ℕ → Bool) (i : ℕ) → allBelow p i ≡ true → p i 
 unfolding allBelow
 below-step p i h e = rw (add-one, h, e)
 
-pub below-more : (p : ℕ → Bool) (i : ℕ) (t : Bool) → allBelow p i ≡ true → t ≡ p i → not t ≡ false → allBelow p (i + 1) ≡ true
-below-more p i t h e f = below-step p i h (sym e ∙ not-false t f)
-
 stop : (p : ℕ → Bool) (i n : ℕ) → i < n → p i ≡ false → allBelow p n ≡ false
 unfolding allBelow
 stop p i zero h e = absurd (not-suc-le-zero h)
@@ -37,9 +34,6 @@ stop p i (suc n) h e =
 pub below-fails : (p : ℕ → Bool) (i n : ℕ) → i < n → p i ≡ false → false ≡ allBelow p n
 below-fails p i n h e = sym (stop p i n h e)
 
-pub below-stop : (p : ℕ → Bool) (i n : ℕ) (t : Bool) → i < n → t ≡ p i → not t ≡ true → allBelow p n ≡ false
-below-stop p i n t h e f = stop p i n h (sym e ∙ not-true t f)
-
 -- the loop is over
 pub below-whole : (p : ℕ → Bool) (i n : ℕ) → i ≤ n → n ≤ i → allBelow p i ≡ true → true ≡ allBelow p n
 below-whole p i n h l e = let z : i ≡ n = omega arith in sym (rw z at e)
@@ -51,10 +45,3 @@ below-at p n e i h = go (p i) refl
     go : (b : Bool) → p i ≡ b → p i ≡ true
     go true q = q
     go false q = let z : _≡_ {A = Bool} true false = sym e ∙ stop p i n h q in q ∙ sym z
-
--- f, what a call gave, is tested against n, and f is a
-pub eq-is : (f a n : ℕ) → f ≡ a → f ≡ n → eqb a n ≡ true
-eq-is f a n e h = eq-eqb a n (sym e ∙ h)
-
-pub eq-isnt : (f a n : ℕ) → f ≡ a → (f ≡ n → ⊥) → eqb a n ≡ false
-eq-isnt f a n e h = ne-eqb a n (λ q. h (e ∙ q))

@@ -200,12 +200,6 @@ pub chain-none : (L : Layout) (key : ℕ → ℕ) (ls : List ℕ) → Fits L →
 unfolding newest
 chain-none L key ls F w z = record { fits = F; wide = w; most = omega arith; head = z; link = λ e l k. absurd (not-suc-le-zero l) }
 
--- a table of zeros, as `[0; N]` makes it
-pub chain-zeros : (L : Layout) (key : ℕ → ℕ) → Fits L → Chained L key (replicate (L .size) 0) 0
-chain-zeros L key F =
-    chain-none L key (replicate (L .size) 0) F (length-replicate (L .size) 0)
-    (λ n h. getD-replicate (L .size) (slot (L .heads) n) 0 0 (head-in L F n h))
-
 chain-in : (L : Layout) (key : ℕ → ℕ) (ls : List ℕ) (i n : ℕ) → Chained L key ls i → n ≡ key i → n < L .keys → i < L .items → Chained L key (linked L ls i n) (suc i)
 chain-in L key ls i n C q f s = record { fits = C .fits; wide = linked-wide L (C .fits) ls (C .wide) i n s f; most = s; head = heads; link = links }
   where
@@ -230,23 +224,6 @@ chain-link L key ls l i n C e q f s = rw e (rw (← add-one i) at (chain-in L ke
 pub chain-next : (L : Layout) (key : ℕ → ℕ) (ls l : List ℕ) (i n m : ℕ) → Chained L key ls i → l ≡ linked L ls i n → n ≡ key i → n < L .keys → i < m → m ≤ L .items → Chained L key l (i + 1)
 chain-next L key ls l i n m C e q f im mm = chain-link L key ls l i n C e q f (omega arith)
 
--- item i is in no chain
-pub chain-skip : (L : Layout) (key : ℕ → ℕ) (ls : List ℕ) (i n m : ℕ) → Chained L key ls i → n ≡ key i → L .keys ≤ n → i < m → m ≤ L .items → Chained L key ls (i + 1)
-chain-skip L key ls i n m C q f im mm = rw (add-one i) (record { fits = C .fits; wide = C .wide; most = omega arith; head = heads; link = links })
-  where
-    heads : (k : ℕ) → k < L .keys → getD ls (slot (L .heads) k) 0 ≡ newest key (suc i) k
-    heads k l = C .head k l ∙ sym (newest-miss key i k (ne-eqb (key i) k (λ e. omega arith)))
-
-    links : (e : ℕ) → e < suc i → key e < L .keys → getD ls (slot (L .links) e) 0 ≡ newest key e (key e)
-    links e l k = C .link e (later e l k) k
-      where
-        later : (e : ℕ) → e < suc i → key e < L .keys → e < i
-        later e l k = split (eqb e i) (λ t. let z : e ≡ i = eqb-true e i t in let y : key e ≡ key i = ap key z in omega arith) (λ t. omega (arith, eqb-false e i t))
-
--- every item was put in
-pub chain-all : (L : Layout) (key : ℕ → ℕ) (ls : List ℕ) (i m : ℕ) → Chained L key ls i → i ≤ m → m ≤ i → Chained L key ls m
-chain-all L key ls i m C a b = let z : m ≡ i = omega arith in rw z C
-
 -- ---- building, oldest first
 
 pub rise-none : (L : Layout) (key : ℕ → ℕ) (ls : List ℕ) (m : ℕ) → Fits L → length ls ≡ L .size → m ≤ L .items → ((n : ℕ) → n < L .keys → getD ls (slot (L .heads) n) 0 ≡ 0) → Risen L key ls m m
@@ -255,11 +232,6 @@ rise-none L key ls m F w mm z =
   where
     never : (e : ℕ) → m ≤ e → e < m → ⊥
     never e a b = omega arith
-
-pub rise-zeros : (L : Layout) (key : ℕ → ℕ) (m : ℕ) → Fits L → m ≤ L .items → Risen L key (replicate (L .size) 0) m m
-rise-zeros L key m F mm =
-    rise-none L key (replicate (L .size) 0) m F (length-replicate (L .size) 0) mm
-    (λ n h. getD-replicate (L .size) (slot (L .heads) n) 0 0 (head-in L F n h))
 
 rise-in : (L : Layout) (key : ℕ → ℕ) (ls : List ℕ) (m i n : ℕ) → Risen L key ls m (suc i) → n ≡ key i → n < L .keys → i < m → Risen L key (linked L ls i n) m i
 rise-in L key ls m i n R q f im = record { fits = R .fits; wide = linked-wide L (R .fits) ls (R .wide) i n s f; most = R .most; head = heads; link = links }
@@ -286,34 +258,6 @@ rise-next L key ls l m j n R e q f p jm =
     let z : j ≡ suc (j - 1) = omega arith in
     rw e (rise-in L key ls m (j - 1) n (rw z at R) q f (omega arith))
 
--- item j - 1 is in no chain
-pub rise-skip : (L : Layout) (key : ℕ → ℕ) (ls : List ℕ) (m j n : ℕ) → Risen L key ls m j → n ≡ key (j - 1) → L .keys ≤ n → 0 < j → j ≤ m → Risen L key ls m (j - 1)
-rise-skip L key ls m zero n R q f p jm = absurd (not-suc-le-zero p)
-rise-skip L key ls m (suc i) n R q₀ f p jm = rw (sub-one (suc i)) (record { fits = R .fits; wide = R .wide; most = R .most; head = heads; link = links })
-  where
-    q : n ≡ key i
-    q = rw (sub-one (suc i)) at q₀
-
-    heads : (k : ℕ) → k < L .keys → getD ls (slot (L .heads) k) 0 ≡ oldest key i m k
-    heads k l = R .head k l ∙ sym (oldest-miss key i m k (omega arith) (ne-eqb (key i) k (λ e. omega (arith, q))))
-
-    links : (e : ℕ) → i ≤ e → e < m → key e < L .keys → getD ls (slot (L .links) e) 0 ≡ oldest key (suc e) m (key e)
-    links e a b k =
-        split (eqb e i)
-        (λ t. let z : e ≡ i = eqb-true e i t in let y : key e ≡ key i = ap key z in absurd (never y))
-        (λ t. R .link e (omega (arith, eqb-false e i t)) b k)
-      where
-        never : key e ≡ key i → ⊥
-        never y = omega (arith, q)
-
-pub rise-all : (L : Layout) (key : ℕ → ℕ) (ls : List ℕ) (m j : ℕ) → Risen L key ls m j → j ≤ 0 → Risen L key ls m 0
-rise-all L key ls m j R a = let z : 0 ≡ j = omega arith in rw z R
-
--- a loop that puts the items in
-pub ruleset builds-chained = (chain-next, chain-skip, chain-all)
-
-pub ruleset builds-risen = (rise-next, rise-skip, rise-all)
-
 -- ---- what is written elsewhere, and keys that agree
 
 -- place a belongs to neither part
@@ -331,16 +275,6 @@ pub same-put : (L : Layout) (ls l : List ℕ) (a v : ℕ) → l ≡ set ls a v �
 same-put L ls l a v q o =
     rw q (record { long = length-set ls a v; same-link = λ e h. getD-set-other ls a (slot (L .links) e) v 0 (λ z. o .off-links e h (sym (slot-is (L .links) e) ∙ z)); same-head = λ n h. getD-set-other ls a (slot (L .heads) n) v 0 (λ z. o .off-heads n h (sym (slot-is (L .heads) n) ∙ z)) })
 
-pub same-twice : (L : Layout) (ls l k : List ℕ) → Same L ls l → Same L l k → Same L ls k
-same-twice L ls l k S T =
-    record { long = T .long ∙ S .long; same-link = λ e h. T .same-link e h ∙ S .same-link e h; same-head = λ n h. T .same-head n h ∙ S .same-head n h }
-
--- an item was put into chains that stand beside
-pub same-linked : (L M : Layout) (ls l : List ℕ) (i n : ℕ) → l ≡ linked M ls i n → Outside L (slot (M .links) i) → Outside L (slot (M .heads) n) → Same L ls l
-same-linked L M ls l i n q a b =
-    let k : List ℕ = set ls (slot (M .links) i) (getD ls (slot (M .heads) n) 0) in
-    same-twice L ls k l (same-put L ls k (slot (M .links) i) (getD ls (slot (M .heads) n) 0) refl a) (same-put L k l (slot (M .heads) n) (i + 1) q b)
-
 pub chain-same : (L : Layout) (key : ℕ → ℕ) (ls l : List ℕ) (m : ℕ) → Chained L key ls m → Same L ls l → Chained L key l m
 chain-same L key ls l m C S =
     record { fits = C .fits; wide = S .long ∙ C .wide; most = C .most; head = λ n h. S .same-head n h ∙ C .head n h; link = λ e h k. S .same-link e (omega (arith, C .most)) ∙ C .link e h k }
@@ -353,50 +287,14 @@ rise-same L key ls l m j R S =
 pub chain-put : (L : Layout) (key : ℕ → ℕ) (ls l : List ℕ) (m a v : ℕ) → Chained L key ls m → Outside L a → l ≡ set ls a v → Chained L key l m
 chain-put L key ls l m a v C o q = chain-same L key ls l m C (same-put L ls l a v q o)
 
-pub rise-put : (L : Layout) (key : ℕ → ℕ) (ls l : List ℕ) (m j a v : ℕ) → Risen L key ls m j → Outside L a → l ≡ set ls a v → Risen L key l m j
-rise-put L key ls l m j a v R o q = rise-same L key ls l m j R (same-put L ls l a v q o)
-
 -- the places of M's chains belong to neither part of L: both may stand in one table
 pub record Beside (L M : Layout) : Type 0 where
   pub links-off : (e : ℕ) → e < M .items → Outside L (M .links + e)
   pub heads-off : (n : ℕ) → n < M .keys → Outside L (M .heads + n)
 
--- L below t and M from t on, and the other way round
-pub beside-low : (L M : Layout) (t : ℕ) → L .links + L .items ≤ t → L .heads + L .keys ≤ t → t ≤ M .links → t ≤ M .heads → Beside L M
-beside-low L M t a b c d =
-    record { links-off = λ e h. record { off-links = λ i l q. omega arith; off-heads = λ i l q. omega arith }; heads-off = λ n h. record { off-links = λ i l q. omega arith; off-heads = λ i l q. omega arith } }
-
 pub beside-high : (L M : Layout) (t : ℕ) → L .links + L .items ≤ t → L .heads + L .keys ≤ t → t ≤ M .links → t ≤ M .heads → Beside M L
 beside-high L M t a b c d =
     record { links-off = λ e h. record { off-links = λ i l q. omega arith; off-heads = λ i l q. omega arith }; heads-off = λ n h. record { off-links = λ i l q. omega arith; off-heads = λ i l q. omega arith } }
-
-same-beside : (L M : Layout) (ls l : List ℕ) (i n : ℕ) → Beside L M → l ≡ linked M ls i n → n < M .keys → i < M .items → Same L ls l
-same-beside L M ls l i n B q f s =
-    same-linked L M ls l i n q (rw (slot-is (M .links) i) (B .links-off i s)) (rw (slot-is (M .heads) n) (B .heads-off n f))
-
-pub chain-beside : (L M : Layout) (key : ℕ → ℕ) (ls l : List ℕ) (a i n m : ℕ) → Chained L key ls a → l ≡ linked M ls i n → Beside L M → n < M .keys → i < m → m ≤ M .items → Chained L key l a
-chain-beside L M key ls l a i n m C q B f im mm = chain-same L key ls l a C (same-beside L M ls l i n B q f (omega arith))
-
-pub rise-beside : (L M : Layout) (key : ℕ → ℕ) (ls l : List ℕ) (a b j n m : ℕ) → Risen L key ls a b → l ≡ linked M ls (j - 1) n → Beside L M → n < M .keys → 0 < j → j ≤ m → m ≤ M .items → Risen L key l a b
-rise-beside L M key ls l a b j n m R q B f p jm mm = rise-same L key ls l a b R (same-beside L M ls l (j - 1) n B q f (omega arith))
-
--- two chains built by one loop: its body, a function of its own upwards, puts the item first into one, then into the other
-module _ (L M : Layout) (key : ℕ → ℕ) (ls l k : List ℕ) where
-  pub chain-first : (i n o : ℕ) → Chained L key ls i → l ≡ linked L ls i n → k ≡ linked M l i o → Beside L M → n ≡ key i → n < L .keys → o < M .keys → i < L .items → i < M .items → Chained L key k (i + 1)
-  chain-first i n o C q r B e f g s t =
-      chain-same L key l k (i + 1) (chain-link L key ls l i n C q e f s) (same-beside L M l k i o B r g t)
-
-  pub chain-second : (i n o : ℕ) → Chained L key ls i → l ≡ linked M ls i o → k ≡ linked L l i n → Beside L M → n ≡ key i → n < L .keys → o < M .keys → i < L .items → i < M .items → Chained L key k (i + 1)
-  chain-second i n o C q r B e f g s t =
-      chain-link L key l k i n (chain-same L key ls l i C (same-beside L M ls l i o B q g t)) r e f s
-
-  pub rise-first : (m j n o : ℕ) → Risen L key ls m j → l ≡ linked L ls (j - 1) n → k ≡ linked M l (j - 1) o → Beside L M → n ≡ key (j - 1) → n < L .keys → o < M .keys → 0 < j → j ≤ m → m ≤ M .items → Risen L key k m (j - 1)
-  rise-first m j n o R q r B e f g p jm mm =
-      rise-beside L M key l k m (j - 1) j o m (rise-next L key ls l m j n R q e f p jm) r B g p jm mm
-
-  pub rise-second : (m j n o : ℕ) → Risen L key ls m j → l ≡ linked M ls (j - 1) o → k ≡ linked L l (j - 1) n → Beside L M → n ≡ key (j - 1) → n < L .keys → o < M .keys → 0 < j → j ≤ m → m ≤ M .items → Risen L key k m (j - 1)
-  rise-second m j n o R q r B e f g p jm mm =
-      rise-next L key l k m j n (rise-beside L M key ls l m j j o m R q B g p jm mm) r e f p jm
 
 -- l differs from ls in L's parts only: what a builder leaves of the table besides its chains
 pub record Only (L : Layout) (ls l : List ℕ) : Type 0 where
@@ -442,15 +340,9 @@ only-same L M ls l S B =
 pub chain-only : (L M : Layout) (key : ℕ → ℕ) (ls l : List ℕ) (m : ℕ) → Only M ls l → Beside M L → Chained L key ls m → Chained L key l m
 chain-only L M key ls l m S B C = chain-same L key ls l m C (only-same L M ls l S B)
 
-pub rise-only : (L M : Layout) (key : ℕ → ℕ) (ls l : List ℕ) (m j : ℕ) → Only M ls l → Beside M L → Risen L key ls m j → Risen L key l m j
-rise-only L M key ls l m j S B R = rise-same L key ls l m j R (only-same L M ls l S B)
-
 -- the same past two builders
 pub chain-only-two : (L M N : Layout) (key : ℕ → ℕ) (ls l k : List ℕ) (m : ℕ) → Only N l k → Beside N L → Only M ls l → Beside M L → Chained L key ls m → Chained L key k m
 chain-only-two L M N key ls l k m T D S B C = chain-only L N key l k m T D (chain-only L M key ls l m S B C)
-
-pub rise-only-two : (L M N : Layout) (key : ℕ → ℕ) (ls l k : List ℕ) (m j : ℕ) → Only N l k → Beside N L → Only M ls l → Beside M L → Risen L key ls m j → Risen L key k m j
-rise-only-two L M N key ls l k m j T D S B R = rise-only L N key l k m j T D (rise-only L M key ls l m j S B R)
 
 -- ---- a table of any contents: its heads are cleared first
 
@@ -472,14 +364,6 @@ clear-next L ls l k C q f = rw q (record { fits = C .fits; wide = length-set ls 
         (λ t. rw (eqb-true n k t) (getD-set-same ls (slot (L .heads) k) 0 0 (omega (arith, C .wide, head-in L (C .fits) k f))))
         (λ t. let d : n ≡ k → ⊥ = eqb-false n k t in
         getD-set-other ls (slot (L .heads) k) (slot (L .heads) n) 0 0 (λ z. d (slot-own (L .heads) n k z)) ∙ C .zeros n (omega (arith, d)))
-
-pub clear-all : (L : Layout) (ls : List ℕ) (k n : ℕ) → Cleared L ls k → n ≤ k → Cleared L ls n
-clear-all L ls k n C h = record { fits = C .fits; wide = C .wide; zeros = λ i l. C .zeros i (omega arith) }
-
-pub clear-only : (L M : Layout) (ls l : List ℕ) (k : ℕ) → Only M ls l → Beside M L → Cleared L ls k → k ≤ L .keys → Cleared L l k
-clear-only L M ls l k S B C h =
-    let T : Same L ls l = only-same L M ls l S B in
-    record { fits = C .fits; wide = S .long ∙ C .wide; zeros = λ n p. T .same-head n (omega arith) ∙ C .zeros n p }
 
 -- all are: chains can be built
 pub chain-clear : (L : Layout) (key : ℕ → ℕ) (ls : List ℕ) → Cleared L ls (L .keys) → Chained L key ls 0
@@ -531,12 +415,6 @@ module _ (f g : ℕ → ℕ) where
       (λ t. ups-hit f e m n h t ∙ ap (λ (l : List ℕ). e ∷ l) r ∙ sym (ups-hit g e m n h (rw q at t)))
       (λ t. ups-miss f e m n h t ∙ r ∙ sym (ups-miss g e m n h (rw q at t)))
 
-  pub downs-agree : (m n : ℕ) → Agree f g m → downs f m n ≡ downs g m n
-  downs-agree m n A = downs-same m n (A .agree)
-
-  pub ups-agree : (e m n : ℕ) → Agree f g m → ups f e m n ≡ ups g e m n
-  ups-agree e m n A = ups-same (m - e) e m n refl (A .agree)
-
 -- the items' words changed, and no key below m did
 pub chain-agree : (L : Layout) (f g : ℕ → ℕ) (ls : List ℕ) (m : ℕ) → Chained L f ls m → Agree f g m → Chained L g ls m
 chain-agree L f g ls m C A = record { fits = C .fits; wide = C .wide; most = C .most; head = heads; link = links }
@@ -548,17 +426,6 @@ chain-agree L f g ls m C A = record { fits = C .fits; wide = C .wide; most = C .
     links e h k =
         let q : f e ≡ g e = A .agree e h in
         C .link e h (rw q k) ∙ rw q (newest-agree f g e (g e) (λ d l. A .agree d (omega arith)))
-
-pub rise-agree : (L : Layout) (f g : ℕ → ℕ) (ls : List ℕ) (m j : ℕ) → Risen L f ls m j → Agree f g m → Risen L g ls m j
-rise-agree L f g ls m j R A = record { fits = R .fits; wide = R .wide; most = R .most; head = heads; link = links }
-  where
-    heads : (n : ℕ) → n < L .keys → getD ls (slot (L .heads) n) 0 ≡ oldest g j m n
-    heads n h = R .head n h ∙ oldest-agree f g (m - j) j m n refl (A .agree)
-
-    links : (e : ℕ) → j ≤ e → e < m → g e < L .keys → getD ls (slot (L .links) e) 0 ≡ oldest g (suc e) m (g e)
-    links e a h k =
-        let q : f e ≡ g e = A .agree e h in
-        R .link e a h (rw q k) ∙ rw q (oldest-agree f g (m - suc e) (suc e) m (g e) refl (A .agree))
 
 -- ---- keys by the words of a table, to which words are appended while their chains are in use
 

@@ -44,11 +44,6 @@ module _ {A : Type 0} where
   isNil [] = true
   isNil (x ∷ xs) = false
 
-  -- none or one, as a list
-  abbrev pub toList : Option A → List A
-  toList none = []
-  toList (some a) = a ∷ []
-
   -- xs, or ys where xs is empty
   abbrev pub orElse : List A → List A → List A
   orElse [] ys = ys

@@ -110,9 +110,6 @@ module _ {A : Type 0} where
   any-in p x (y ∷ ys) q (inl e) = rw ((ap p (sym e) ∙ q), any)
   any-in p x (y ∷ ys) q (inr i) = split (p y) (λ k. rw (k, any)) (λ k. rw (k, any) (any-in p x ys q i))
 
-  pub any-out : (p : A → Bool) (x : A) (l : List A) → any p l ≡ false → In x l → p x ≡ false
-  any-out p x l e i = split (p x) (λ q. no-both (any p l) (any-in p x l q i) e) (λ q. q)
-
   pub any-some : (p : A → Bool) (l : List A) → any p l ≡ true → (x : A) × In x l × (p x ≡ true)
   any-some p [] e = absurd (false≢true e)
   any-some p (y ∷ ys) e =

@@ -11,10 +11,6 @@ get-out t at h = sym (List·getD-eq-default t 0 h)
 pub put-out : (t : List ℕ) (at v : ℕ) → length t ≤ at → t ≡ set t at v
 put-out t at v h = sym (set-out t at v h)
 
--- what a call gave, as a value in the next call's answer
-pub get-via : (t : List ℕ) (r i j : ℕ) → i ≡ j → r ≡ getD t i 0 → r ≡ getD t j 0
-get-via t r i j e q = rw e at q
-
 -- what a call gave, and what a pattern found it to be
 pub meet : {A : Type 0} (r x y : A) → r ≡ x → r ≡ y → x ≡ y
 meet r x y p q = rw p at q

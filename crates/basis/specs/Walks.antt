@@ -87,10 +87,6 @@ module _ (L : Layout) (key : ℕ → ℕ) (ls : List ℕ) (m n : ℕ) where
       (downs-hit key j n (newest-key key j n (D .own))
       ∙ ap (λ (l : List ℕ). j ∷ l) (sym (down-jump key j n) ∙ ap (λ (z : ℕ). downs key z n) (sym (follow j r D (rw (sub-one (suc j)) at q)))))
 
-  -- the loop wrote elsewhere in the table
-  pub down-same : (l : List ℕ) (e : ℕ) → Down L key ls m n e → Same L ls l → Down L key l m n e
-  down-same l e D S = record { chain = chain-same L key ls l m (D .chain) S; known = D .known; low = D .low; own = D .own }
-
 pub down-end : (key : ℕ → ℕ) (n e : ℕ) → e ≤ 0 → downs key e n ≡ []
 down-end key n zero h = downs-zero key n
 down-end key n (suc e) h = absurd (not-suc-le-zero h)
@@ -200,8 +196,6 @@ up-end key m n (suc e) h = absurd (not-suc-le-zero h)
 -- the walk itself: it starts, goes on, and its measure e falls
 pub ruleset walks-down = (down-start, down-next, down-less)
 
-pub ruleset walks-up = (up-start, up-next, up-less)
-
 -- ---- what a loop computes over the items, whatever the way it walks
 
 -- some item passes
@@ -231,14 +225,6 @@ module _ (p : ℕ → Bool) (xs l : List ℕ) (i : ℕ) (c : xs ≡ i ∷ l) (t 
   unfolding someOf
   some-miss h = rw c (rw ((sym q ∙ h), any))
 
-  every-miss : t ≡ false → everyOf p xs ≡ false
-  unfolding everyOf
-  every-miss h = rw c (rw ((sym q ∙ h), all))
-
-  every-hit : t ≡ true → everyOf p xs ≡ everyOf p l
-  unfolding everyOf
-  every-hit h = rw c (rw ((sym q ∙ h), all))
-
   first-hit : t ≡ true → firstOf p xs ≡ suc i
   unfolding firstOf
   first-hit h = rw c (rw ((sym q ∙ h), firstOf))
@@ -247,15 +233,8 @@ module _ (p : ℕ → Bool) (xs l : List ℕ) (i : ℕ) (c : xs ≡ i ∷ l) (t 
   unfolding firstOf
   first-miss h = rw c (rw ((sym q ∙ h), firstOf))
 
-fold-on : {A : Type 0} (f : A → ℕ → A) (a b : A) (xs l : List ℕ) (i : ℕ) → xs ≡ i ∷ l → b ≡ f a i → foldOf f a xs ≡ foldOf f b l
-unfolding foldOf
-fold-on f a b xs l i c q = rw (c, q)
-
 -- ---- the same for each way, as code leaves it: W is the whole, which the loop's invariant equates with what is left.
 -- Test t of item e - 1 is a call's answer; `first` gives the stored value e itself.
-
-suc-pred : (e : ℕ) → 0 < e → e ≡ suc (e - 1)
-suc-pred e h = omega arith
 
 module _ (L : Layout) (key : ℕ → ℕ) (ls : List ℕ) (m n : ℕ) where
   down-rest : (e : ℕ) → Down L key ls m n e → 0 < e → downs key e n ≡ (e - 1) ∷ downs key (getD ls (slot (L .links) (e - 1)) 0) n
@@ -270,115 +249,15 @@ module _ (L : Layout) (key : ℕ → ℕ) (ls : List ℕ) (m n : ℕ) where
   pub some-down-next : (p : ℕ → Bool) (e r : ℕ) (t : Bool) (W : Bool) → someOf p (downs key e n) ≡ W → Down L key ls m n e → 0 < e → t ≡ p (e - 1) → t ≡ false → r ≡ getD ls (slot (L .links) (e - 1)) 0 → someOf p (downs key r n) ≡ W
   some-down-next p e r t W i D h q b z = sym (some-miss p (downs key e n) (downs key r n) (e - 1) (down-cons L key ls m n e r D h z) t q b) ∙ i
 
-  pub every-down : (p : ℕ → Bool) (r : ℕ) → Chained L key ls m → n < L .keys → r ≡ getD ls (slot (L .heads) n) 0 → everyOf p (downs key r n) ≡ everyOf p (downs key m n)
-  every-down p r C k q = ap (everyOf p) (down-all L key ls m n r C k q)
-
-  pub every-down-hit : (p : ℕ → Bool) (e : ℕ) (t : Bool) (W : Bool) → everyOf p (downs key e n) ≡ W → Down L key ls m n e → 0 < e → t ≡ p (e - 1) → not t ≡ true → false ≡ W
-  every-down-hit p e t W i D h q b = sym (every-miss p (downs key e n) (downs key (getD ls (slot (L .links) (e - 1)) 0) n) (e - 1) (down-rest e D h) t q (not-true t b)) ∙ i
-
-  pub every-down-next : (p : ℕ → Bool) (e r : ℕ) (t : Bool) (W : Bool) → everyOf p (downs key e n) ≡ W → Down L key ls m n e → 0 < e → t ≡ p (e - 1) → not t ≡ false → r ≡ getD ls (slot (L .links) (e - 1)) 0 → everyOf p (downs key r n) ≡ W
-  every-down-next p e r t W i D h q b z = sym (every-hit p (downs key e n) (downs key r n) (e - 1) (down-cons L key ls m n e r D h z) t q (not-false t b)) ∙ i
-
   pub first-down : (p : ℕ → Bool) (r : ℕ) → Chained L key ls m → n < L .keys → r ≡ getD ls (slot (L .heads) n) 0 → firstOf p (downs key r n) ≡ firstOf p (downs key m n)
   first-down p r C k q = ap (firstOf p) (down-all L key ls m n r C k q)
-
-  pub first-down-hit : (p : ℕ → Bool) (e : ℕ) (t : Bool) (W : ℕ) → firstOf p (downs key e n) ≡ W → Down L key ls m n e → 0 < e → t ≡ p (e - 1) → t ≡ true → e ≡ W
-  first-down-hit p e t W i D h q b = (suc-pred e h) ∙ sym (first-hit p (downs key e n) (downs key (getD ls (slot (L .links) (e - 1)) 0) n) (e - 1) (down-rest e D h) t q b) ∙ i
-
-  pub first-down-next : (p : ℕ → Bool) (e r : ℕ) (t : Bool) (W : ℕ) → firstOf p (downs key e n) ≡ W → Down L key ls m n e → 0 < e → t ≡ p (e - 1) → t ≡ false → r ≡ getD ls (slot (L .links) (e - 1)) 0 → firstOf p (downs key r n) ≡ W
-  first-down-next p e r t W i D h q b z = sym (first-miss p (downs key e n) (downs key r n) (e - 1) (down-cons L key ls m n e r D h z) t q b) ∙ i
-
-  pub fold-down : {A : Type 0} (f : A → ℕ → A) (a : A) (r : ℕ) → Chained L key ls m → n < L .keys → r ≡ getD ls (slot (L .heads) n) 0 → foldOf f a (downs key r n) ≡ foldOf f a (downs key m n)
-  fold-down f a r C k q = ap (foldOf f a) (down-all L key ls m n r C k q)
-
-  pub fold-down-next : {A : Type 0} (f : A → ℕ → A) (e r : ℕ) (a b W : A) → foldOf f a (downs key e n) ≡ W → Down L key ls m n e → 0 < e → b ≡ f a (e - 1) → r ≡ getD ls (slot (L .links) (e - 1)) 0 → foldOf f b (downs key r n) ≡ W
-  fold-down-next f e r a b W i D h q z = sym (fold-on f a b (downs key e n) (downs key r n) (e - 1) (down-cons L key ls m n e r D h z) q) ∙ i
 
 pub some-down-end : (p : ℕ → Bool) (key : ℕ → ℕ) (n e : ℕ) (W : Bool) → someOf p (downs key e n) ≡ W → e ≤ 0 → false ≡ W
 unfolding someOf
 some-down-end p key n e W i h = ap (someOf p) (sym (down-end key n e h)) ∙ i
 
-pub every-down-end : (p : ℕ → Bool) (key : ℕ → ℕ) (n e : ℕ) (W : Bool) → everyOf p (downs key e n) ≡ W → e ≤ 0 → true ≡ W
-unfolding everyOf
-every-down-end p key n e W i h = ap (everyOf p) (sym (down-end key n e h)) ∙ i
-
-pub first-down-end : (p : ℕ → Bool) (key : ℕ → ℕ) (n e : ℕ) (W : ℕ) → firstOf p (downs key e n) ≡ W → e ≤ 0 → 0 ≡ W
-unfolding firstOf
-first-down-end p key n e W i h = ap (firstOf p) (sym (down-end key n e h)) ∙ i
-
-pub fold-down-end : {A : Type 0} (f : A → ℕ → A) (key : ℕ → ℕ) (n e : ℕ) (a W : A) → foldOf f a (downs key e n) ≡ W → e ≤ 0 → a ≡ W
-unfolding foldOf
-fold-down-end f key n e a W i h = ap (foldOf f a) (sym (down-end key n e h)) ∙ i
-
 -- a walk and what it computes
 pub ruleset somes-down = (walks-down, some-down, some-down-hit, some-down-next, some-down-end)
-
-pub ruleset everys-down = (walks-down, every-down, every-down-hit, every-down-next, every-down-end)
-
-pub ruleset firsts-down = (walks-down, first-down, first-down-hit, first-down-next, first-down-end)
-
-pub ruleset folds-down = (walks-down, fold-down, fold-down-next, fold-down-end)
-
-module _ (L : Layout) (key : ℕ → ℕ) (ls : List ℕ) (m n : ℕ) where
-  up-rest : (e : ℕ) → Up L key ls m n e → 0 < e → upFrom key m n e ≡ (e - 1) ∷ upFrom key m n (getD ls (slot (L .links) (e - 1)) 0)
-  up-rest e D h = up-cons L key ls m n e (getD ls (slot (L .links) (e - 1)) 0) D h refl
-
-  pub some-up : (p : ℕ → Bool) (r : ℕ) → Risen L key ls m 0 → n < L .keys → r ≡ getD ls (slot (L .heads) n) 0 → someOf p (upFrom key m n r) ≡ someOf p (ups key 0 m n)
-  some-up p r C k q = ap (someOf p) (up-all L key ls m n r C k q)
-
-  pub some-up-hit : (p : ℕ → Bool) (e : ℕ) (t : Bool) (W : Bool) → someOf p (upFrom key m n e) ≡ W → Up L key ls m n e → 0 < e → t ≡ p (e - 1) → t ≡ true → true ≡ W
-  some-up-hit p e t W i D h q b = sym (some-hit p (upFrom key m n e) (upFrom key m n (getD ls (slot (L .links) (e - 1)) 0)) (e - 1) (up-rest e D h) t q b) ∙ i
-
-  pub some-up-next : (p : ℕ → Bool) (e r : ℕ) (t : Bool) (W : Bool) → someOf p (upFrom key m n e) ≡ W → Up L key ls m n e → 0 < e → t ≡ p (e - 1) → t ≡ false → r ≡ getD ls (slot (L .links) (e - 1)) 0 → someOf p (upFrom key m n r) ≡ W
-  some-up-next p e r t W i D h q b z = sym (some-miss p (upFrom key m n e) (upFrom key m n r) (e - 1) (up-cons L key ls m n e r D h z) t q b) ∙ i
-
-  pub every-up : (p : ℕ → Bool) (r : ℕ) → Risen L key ls m 0 → n < L .keys → r ≡ getD ls (slot (L .heads) n) 0 → everyOf p (upFrom key m n r) ≡ everyOf p (ups key 0 m n)
-  every-up p r C k q = ap (everyOf p) (up-all L key ls m n r C k q)
-
-  pub every-up-hit : (p : ℕ → Bool) (e : ℕ) (t : Bool) (W : Bool) → everyOf p (upFrom key m n e) ≡ W → Up L key ls m n e → 0 < e → t ≡ p (e - 1) → not t ≡ true → false ≡ W
-  every-up-hit p e t W i D h q b = sym (every-miss p (upFrom key m n e) (upFrom key m n (getD ls (slot (L .links) (e - 1)) 0)) (e - 1) (up-rest e D h) t q (not-true t b)) ∙ i
-
-  pub every-up-next : (p : ℕ → Bool) (e r : ℕ) (t : Bool) (W : Bool) → everyOf p (upFrom key m n e) ≡ W → Up L key ls m n e → 0 < e → t ≡ p (e - 1) → not t ≡ false → r ≡ getD ls (slot (L .links) (e - 1)) 0 → everyOf p (upFrom key m n r) ≡ W
-  every-up-next p e r t W i D h q b z = sym (every-hit p (upFrom key m n e) (upFrom key m n r) (e - 1) (up-cons L key ls m n e r D h z) t q (not-false t b)) ∙ i
-
-  pub first-up : (p : ℕ → Bool) (r : ℕ) → Risen L key ls m 0 → n < L .keys → r ≡ getD ls (slot (L .heads) n) 0 → firstOf p (upFrom key m n r) ≡ firstOf p (ups key 0 m n)
-  first-up p r C k q = ap (firstOf p) (up-all L key ls m n r C k q)
-
-  pub first-up-hit : (p : ℕ → Bool) (e : ℕ) (t : Bool) (W : ℕ) → firstOf p (upFrom key m n e) ≡ W → Up L key ls m n e → 0 < e → t ≡ p (e - 1) → t ≡ true → e ≡ W
-  first-up-hit p e t W i D h q b = (suc-pred e h) ∙ sym (first-hit p (upFrom key m n e) (upFrom key m n (getD ls (slot (L .links) (e - 1)) 0)) (e - 1) (up-rest e D h) t q b) ∙ i
-
-  pub first-up-next : (p : ℕ → Bool) (e r : ℕ) (t : Bool) (W : ℕ) → firstOf p (upFrom key m n e) ≡ W → Up L key ls m n e → 0 < e → t ≡ p (e - 1) → t ≡ false → r ≡ getD ls (slot (L .links) (e - 1)) 0 → firstOf p (upFrom key m n r) ≡ W
-  first-up-next p e r t W i D h q b z = sym (first-miss p (upFrom key m n e) (upFrom key m n r) (e - 1) (up-cons L key ls m n e r D h z) t q b) ∙ i
-
-  pub fold-up : {A : Type 0} (f : A → ℕ → A) (a : A) (r : ℕ) → Risen L key ls m 0 → n < L .keys → r ≡ getD ls (slot (L .heads) n) 0 → foldOf f a (upFrom key m n r) ≡ foldOf f a (ups key 0 m n)
-  fold-up f a r C k q = ap (foldOf f a) (up-all L key ls m n r C k q)
-
-  pub fold-up-next : {A : Type 0} (f : A → ℕ → A) (e r : ℕ) (a b W : A) → foldOf f a (upFrom key m n e) ≡ W → Up L key ls m n e → 0 < e → b ≡ f a (e - 1) → r ≡ getD ls (slot (L .links) (e - 1)) 0 → foldOf f b (upFrom key m n r) ≡ W
-  fold-up-next f e r a b W i D h q z = sym (fold-on f a b (upFrom key m n e) (upFrom key m n r) (e - 1) (up-cons L key ls m n e r D h z) q) ∙ i
-
-pub some-up-end : (p : ℕ → Bool) (key : ℕ → ℕ) (m n e : ℕ) (W : Bool) → someOf p (upFrom key m n e) ≡ W → e ≤ 0 → false ≡ W
-unfolding someOf
-some-up-end p key m n e W i h = ap (someOf p) (sym (up-end key m n e h)) ∙ i
-
-pub every-up-end : (p : ℕ → Bool) (key : ℕ → ℕ) (m n e : ℕ) (W : Bool) → everyOf p (upFrom key m n e) ≡ W → e ≤ 0 → true ≡ W
-unfolding everyOf
-every-up-end p key m n e W i h = ap (everyOf p) (sym (up-end key m n e h)) ∙ i
-
-pub first-up-end : (p : ℕ → Bool) (key : ℕ → ℕ) (m n e : ℕ) (W : ℕ) → firstOf p (upFrom key m n e) ≡ W → e ≤ 0 → 0 ≡ W
-unfolding firstOf
-first-up-end p key m n e W i h = ap (firstOf p) (sym (up-end key m n e h)) ∙ i
-
-pub fold-up-end : {A : Type 0} (f : A → ℕ → A) (key : ℕ → ℕ) (m n e : ℕ) (a W : A) → foldOf f a (upFrom key m n e) ≡ W → e ≤ 0 → a ≡ W
-unfolding foldOf
-fold-up-end f key m n e a W i h = ap (foldOf f a) (sym (up-end key m n e h)) ∙ i
-
-pub ruleset somes-up = (walks-up, some-up, some-up-hit, some-up-next, some-up-end)
-
-pub ruleset everys-up = (walks-up, every-up, every-up-hit, every-up-next, every-up-end)
-
-pub ruleset firsts-up = (walks-up, first-up, first-up-hit, first-up-next, first-up-end)
-
-pub ruleset folds-up = (walks-up, fold-up, fold-up-next, fold-up-end)
 
 -- ---- the items of a chain as elements of a list: key e is the key of element e
 
@@ -415,9 +294,6 @@ module _ {X : Type 0} (k : X → ℕ) (xs : List X) (d : X) (key : ℕ → ℕ) 
 
 -- the same of a whole list
 module _ {X : Type 0} (k : X → ℕ) (xs : List X) (d : X) (n : ℕ) where
-  pub downs-list : map (λ (e : ℕ). getD xs e d) (downs (λ e. k (getD xs e d)) (length xs) n) ≡ filter (λ (x : X). eqb (k x) n) (reverse xs)
-  downs-list = downs-take k xs d (λ e. k (getD xs e d)) n (length xs) (omega arith) (record { agree = λ e h. refl }) ∙ rw take-length
-
   pub ups-list : map (λ (e : ℕ). getD xs e d) (ups (λ e. k (getD xs e d)) 0 (length xs) n) ≡ filter (λ (x : X). eqb (k x) n) xs
   ups-list = ups-take k xs d (λ e. k (getD xs e d)) n (length xs) (omega arith) (record { agree = λ e h. refl }) ∙ rw take-length
 
@@ -511,9 +387,6 @@ module _ (hash : ℕ → ℕ) (ws : List ℕ) (key : ℕ → ℕ) (w m : ℕ) (f
       rw (downs-take hash ws 0 key (hash w) m fits A)
       (any-filter (eqb w) (λ (x : ℕ). eqb (hash x) (hash w)) own-chain (reverse (take m ws)) ∙ any-reverse (eqb w) (take m ws))
 
-  pub has-up : any (eqb w) (map (λ (e : ℕ). getD ws e 0) (ups key 0 m (hash w))) ≡ any (eqb w) (take m ws)
-  has-up = rw (ups-take hash ws 0 key (hash w) m fits A) (any-filter (eqb w) (λ (x : ℕ). eqb (hash x) (hash w)) own-chain (take m ws))
-
   -- as a loop over the chain computes it
   pub some-has : someOf (λ i. eqb w (getD ws i 0)) (downs key m (hash w)) ≡ any (eqb w) (take m ws)
   some-has = some-map (eqb w) (λ e. getD ws e 0) (downs key m (hash w)) ∙ has-down
@@ -593,10 +466,6 @@ module _ (ws : List ℕ) (m w r : ℕ) (q : r ≡ placeOf ws m w) where
   pub place-below : r ≤ m
   unfolding placeOf
   place-below = newest-below (λ e. getD ws e 0) w m r q
-
-  pub place-has : 0 < r → m ≤ length ws → any (eqb w) (take m ws) ≡ true
-  unfolding placeOf
-  place-has h l = any-newest ws m w l ∙ rw (← q) (lt-ltb 0 r h)
 
   pub place-none : r ≤ 0 → m ≤ length ws → any (eqb w) (take m ws) ≡ false
   unfolding placeOf

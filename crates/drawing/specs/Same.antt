@@ -116,14 +116,6 @@ pub given-leading : (t : Bool) (T : Tables) (G : Graph) (leads : List ℕ) → G
 unfolding Given
 given-leading t T G leads x e = rw e at x
 
-pub given-from : (T : Tables) (G : Graph) (leads : List ℕ) → Leading T G leads → Given true T G leads
-unfolding Given
-given-from T G leads x = x
-
-pub given-none : (T : Tables) (G : Graph) (leads : List ℕ) → Given false T G leads
-unfolding Given
-given-none T G leads = tt
-
 -- "option 1 simplifies"
 abbrev pub optionOf : Bool → ℕ
 optionOf t = cond t 1 0

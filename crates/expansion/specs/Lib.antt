@@ -1,3 +1,4 @@
 pub mod Expand
 pub mod Pairing
 pub mod Forbidding
+pub mod Exact

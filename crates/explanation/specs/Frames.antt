@@ -13,61 +13,88 @@ use borrow.Author.Tests.{eq-eqb, ne-eqb, leb-true, leb-false}
 use Rattle.basis.specs.Lists.{any, has, isNil, takeWhile}
 use Rattle.basis.specs.Members.{split}
 use Rattle.machine.specs.Frames.{Frame, branchOf}
-use Rattle.plan.specs.Fields.{mergedIn, runsFrom, runs-none, runs-more, kidsFrom, kids-none, kids-more}
+use Rattle.plan.specs.Fields.{mergedIn, runEnd, kidEnd, runsFrom, runs-none, runs-more, kidsFrom, kids-none, kids-more}
 use Rattle.explanation.specs.declared.frames.Top.{Top}
 
--- ---- a frame: package (8 bits), first and end of its runs, first and end of its kids (11 bits each)
+-- ---- a frame: package (8 bits), first of the runs and first of the kids that wait beside it (11 bits each)
 
-pub record Packed (w n r re k ke : ℕ) : Type 0 where
+-- The ends follow from the plan: the runs are those of the package opened before, and kids that wait are the kids of the run before
+-- the first one that waits.
+
+pub record Packed (w n r k : ℕ) : Type 0 where
   pub node : w % 256 ≡ n
   pub runs : w / 256 % 2048 ≡ r
-  pub rune : w / 524288 % 2048 ≡ re
-  pub kids : w / 1073741824 % 2048 ≡ k
-  pub kide : w / 2199023255552 % 2048 ≡ ke
+  pub kids : w / 524288 % 2048 ≡ k
 
-pub packed : (n r re k ke : ℕ) → n < 256 → r < 2048 → re < 2048 → k < 2048 → ke < 2048
-    → Packed (n + 256 * r + 524288 * re + 1073741824 * k + 2199023255552 * ke) n r re k ke
-packed n r re k ke hn hr hre hk hke = record { node = omega arith; runs = omega arith; rune = omega arith; kids = omega arith; kide = omega arith }
+-- the package opened last of the first d, or the root
+unfoldable pub ownerIn : List ℕ → ℕ → ℕ
+ownerIn fr zero = 0
+ownerIn fr (suc d) = getD fr d 0 % 256
 
-unfoldable pub frameIn : List ℕ → ℕ → Frame ℕ
-frameIn k w =
-    record { node = w % 256; runs = runsFrom (w / 256 % 2048) (w / 524288 % 2048); kids = kidsFrom k (w / 1073741824 % 2048) (w / 2199023255552 % 2048) }
+unfoldable pub frameIn : List ℕ → List ℕ → List ℕ → ℕ → Frame ℕ
+frameIn p k fr d =
+    record {
+      node = getD fr d 0 % 256;
+      runs = runsFrom (getD fr d 0 / 256 % 2048) (runEnd p (ownerIn fr d));
+      kids = kidsFrom k (getD fr d 0 / 524288 % 2048) (kidEnd p (getD fr d 0 / 256 % 2048 - 1));
+    }
 
 -- those below d, the latest first
-unfoldable pub framesIn : List ℕ → List ℕ → ℕ → List (Frame ℕ)
-framesIn k fr zero = []
-framesIn k fr (suc d) = frameIn k (getD fr d 0) ∷ framesIn k fr d
+unfoldable pub framesIn : List ℕ → List ℕ → List ℕ → ℕ → List (Frame ℕ)
+framesIn p k fr zero = []
+framesIn p k fr (suc d) = frameIn p k fr d ∷ framesIn p k fr d
 
 -- the packages alone
 unfoldable pub branchIn : List ℕ → ℕ → List ℕ
 branchIn fr zero = []
 branchIn fr (suc d) = getD fr d 0 % 256 ∷ branchIn fr d
 
-pub frames-length : (k fr : List ℕ) (d : ℕ) → length (framesIn k fr d) ≡ d
+pub frames-length : (p k fr : List ℕ) (d : ℕ) → length (framesIn p k fr d) ≡ d
 unfolding framesIn
-frames-length k fr zero = refl
-frames-length k fr (suc d) = ap suc (frames-length k fr d)
+frames-length p k fr zero = refl
+frames-length p k fr (suc d) = ap suc (frames-length p k fr d)
 
-pub frames-branch : (k fr : List ℕ) (d : ℕ) → branchOf (framesIn k fr d) ≡ branchIn fr d
+pub frames-branch : (p k fr : List ℕ) (d : ℕ) → branchOf (framesIn p k fr d) ≡ branchIn fr d
 unfolding framesIn branchIn frameIn
-frames-branch k fr zero = refl
-frames-branch k fr (suc d) = ap (λ (b : List ℕ). getD fr d 0 % 256 ∷ b) (frames-branch k fr d)
+frames-branch p k fr zero = refl
+frames-branch p k fr (suc d) = ap (λ (b : List ℕ). getD fr d 0 % 256 ∷ b) (frames-branch p k fr d)
 
-frames-above : (k fr : List ℕ) (d i w : ℕ) → d ≤ i → framesIn k (set fr i w) d ≡ framesIn k fr d
-unfolding framesIn
-frames-above k fr zero i w h = refl
-frames-above k fr (suc d) i w h = rw (getD-set-other fr i d w 0 (λ q. omega arith), frames-above k fr d i w (omega arith))
+owner-above : (fr : List ℕ) (d i w : ℕ) → d ≤ i → ownerIn (set fr i w) d ≡ ownerIn fr d
+unfolding ownerIn
+owner-above fr zero i w h = refl
+owner-above fr (suc d) i w h = rw (getD-set-other fr i d w 0 (λ q. omega arith))
 
-pub frames-push : (k fr : List ℕ) (d w n r re a e : ℕ) → d < length fr → Packed w n r re a e
-    → framesIn k (set fr d w) (d + 1) ≡ record { node = n; runs = runsFrom r re; kids = kidsFrom k a e } ∷ framesIn k fr d
+frames-above : (p k fr : List ℕ) (d i w : ℕ) → d ≤ i → framesIn p k (set fr i w) d ≡ framesIn p k fr d
 unfolding framesIn frameIn
-frames-push k fr d w n r re a e h q =
-    rw (add-one, getD-set-same fr d w 0 h, frames-above k fr d d w (omega arith), q .node, q .runs, q .rune, q .kids, q .kide)
+frames-above p k fr zero i w h = refl
+frames-above p k fr (suc d) i w h =
+    rw (getD-set-other fr i d w 0 (λ q. omega arith), owner-above fr d i w (omega arith), frames-above p k fr d i w (omega arith))
 
-pub frames-pop : (k fr : List ℕ) (d : ℕ) → 0 < d → framesIn k fr d ≡ frameIn k (getD fr (d - 1) 0) ∷ framesIn k fr (d - 1)
+pub frames-push : (p k fr : List ℕ) (d w n r a : ℕ) → d < length fr → Packed w n r a
+    → framesIn p k (set fr d w) (d + 1) ≡ record { node = n; runs = runsFrom r (runEnd p (ownerIn fr d)); kids = kidsFrom k a (kidEnd p (r - 1)) } ∷ framesIn p k fr d
+unfolding framesIn frameIn
+frames-push p k fr d w n r a h q =
+    rw (add-one, getD-set-same fr d w 0 h, owner-above fr d d w (omega arith), frames-above p k fr d d w (omega arith), q .node, q .runs, q .kids)
+
+pub owner-push : (fr : List ℕ) (d w n r a : ℕ) → d < length fr → Packed w n r a → ownerIn (set fr d w) (d + 1) ≡ n
+unfolding ownerIn
+owner-push fr d w n r a h q = rw (add-one, getD-set-same fr d w 0 h, q .node)
+
+pub frames-pop : (p k fr : List ℕ) (d : ℕ) → 0 < d → framesIn p k fr d ≡ frameIn p k fr (d - 1) ∷ framesIn p k fr (d - 1)
 unfolding framesIn
-frames-pop k fr zero h = absurd (not-suc-le-zero h)
-frames-pop k fr (suc d) h = rw sub-one
+frames-pop p k fr zero h = absurd (not-suc-le-zero h)
+frames-pop p k fr (suc d) h = rw sub-one
+
+-- as code finds it
+pub owner-some : (fr : List ℕ) (d : ℕ) → 0 < d → getD fr (d - 1) 0 % 256 ≡ ownerIn fr d
+unfolding ownerIn
+owner-some fr zero h = absurd (not-suc-le-zero h)
+owner-some fr (suc d) h = rw sub-one
+
+pub owner-none : (fr : List ℕ) (d : ℕ) → d ≤ 0 → 0 ≡ ownerIn fr d
+unfolding ownerIn
+owner-none fr zero h = refl
+owner-none fr (suc d) h = absurd (not-suc-le-zero h)
 
 branch-pop : (fr : List ℕ) (d : ℕ) → 0 < d → branchIn fr d ≡ (getD fr (d - 1) 0 % 256) ∷ branchIn fr (d - 1)
 unfolding branchIn
@@ -75,15 +102,30 @@ branch-pop fr zero h = absurd (not-suc-le-zero h)
 branch-pop fr (suc d) h = rw sub-one
 
 -- the frame that is popped
-pub record Popped (fr : List ℕ) (t u : Top) : Type 0 where
+pub record Popped (p fr : List ℕ) (t u : Top) : Type 0 where
   pub r : u .r ≡ getD fr (t .d - 1) 0 / 256 % 2048
-  pub re : u .re ≡ getD fr (t .d - 1) 0 / 524288 % 2048
-  pub k : u .k ≡ getD fr (t .d - 1) 0 / 1073741824 % 2048
-  pub ke : u .ke ≡ getD fr (t .d - 1) 0 / 2199023255552 % 2048
+  pub re : u .re ≡ runEnd p (ownerIn fr (t .d - 1))
+  pub k : u .k ≡ getD fr (t .d - 1) 0 / 524288 % 2048
+  pub ke : u .ke ≡ kidEnd p (getD fr (t .d - 1) 0 / 256 % 2048 - 1)
+  pub rend : u .re < 2048
+  pub kend : u .ke < 2048
   pub d : u .d ≡ t .d - 1
   pub at : u .at ≡ t .at
   pub units : u .units ≡ t .units
   pub depth : u .depth ≡ t .depth
+
+pub popped : (p fr : List ℕ) (t : Top) (m re x ke : ℕ) → m ≡ ownerIn fr (t .d - 1) → re ≡ runEnd p m → re < 2048 → x ≡ getD fr (t .d - 1) 0 / 256 % 2048 - 1 → ke ≡ kidEnd p x → ke < 2048
+    → Popped p fr t (record {
+      r = getD fr (t .d - 1) 0 / 256 % 2048;
+      re = re;
+      k = getD fr (t .d - 1) 0 / 524288 % 2048;
+      ke = ke;
+      d = t .d - 1;
+      at = t .at;
+      units = t .units;
+      depth = t .depth;
+    })
+popped p fr t m re x ke mi ri rl xi ki kl = record { r = refl; re = rw (← mi) ri; k = refl; ke = rw (← xi) ki; rend = rl; kend = kl; d = refl; at = refl; units = refl; depth = refl }
 
 -- ---- what waits: none, or not
 

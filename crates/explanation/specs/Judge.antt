@@ -4,12 +4,14 @@ use mathlib.Core.Bool.{Bool, true, false, cond, not}
 use mathlib.Core.List.{List, [], _∷_}
 use Prim.Native.Nat.{ℕ, _+_, _≤_, _<_}
 use native.Mathlib.Omega.{arith}
-use lib.ListN.{length, getD, set, length-set}
+use native.Mathlib.Decide.{decLt}
+use lib.ListN.{length, getD, set, length-set, replicate, length-replicate, getD-replicate}
 use lib.Seq.{getD-set-same, getD-set-other}
 use lib.Dec.{eqb}
 use borrow.Author.Tests.{eq-eqb, ne-eqb, eqb-true, eqb-false, not-true, not-false}
 use Rattle.basis.specs.Lists.{any, has}
 use Rattle.basis.specs.Members.{split}
+use Rattle.basis.specs.Store.{get-out}
 use Rattle.machine.specs.Machine.{Plan, skipped, report, repeats, below}
 use Rattle.plan.specs.Fields.{mergedIn, opensIn, leadIn, planIn}
 use Rattle.explanation.specs.Frames.{belowIn, branchIn}
@@ -19,6 +21,14 @@ use Rattle.explanation.specs.declared.frames.Verdict.the-variants.{Skip,
 -- the leads reported, as flags
 pub record Flags (seen rep : List ℕ) : Type 0 where
   pub is : (n : ℕ) → has n rep ≡ eqb (getD seen n 0) 1
+
+-- at the start there are none
+pub flags-fresh : Flags (replicate 128 0) []
+flags-fresh = record { is = λ n. ap (λ (x : ℕ). eqb x 1) (sym (at n (decLt n 128))) }
+  where
+    at : (n : ℕ) → Dec (n < 128) → getD (replicate {A = ℕ} 128 0) n 0 ≡ 0
+    at n (yes l) = getD-replicate {A = ℕ} 128 n 0 0 l
+    at n (no l) = sym (get-out (replicate {A = ℕ} 128 0) n (let e = length-replicate {A = ℕ} 128 0 in omega arith))
 
 flags-report : (seen rep : List ℕ) (l : ℕ) → l < length seen → Flags seen rep → Flags (set seen l 1) (l ∷ rep)
 flags-report seen rep l h f =

@@ -28,7 +28,7 @@ use Rattle.lines.specs.PackageLaws as L
 use Rattle.lines.specs.RunLaws as N
 use Rattle.explanation.specs.Frames.{frameIn, framesIn, frames-length, frames-branch, frames-pop, branchIn, Popped, nil-runs}
 use Rattle.explanation.specs.Judge.{Flags, Skipped, Repeated, Showing, Judged}
-use Rattle.explanation.specs.Stand.{nextKid, nextRun, runsAt, kidsAt, framesAt, stackIn, Small, measure, Held, Level, Entered, held-beside, held-run, held-pop}
+use Rattle.explanation.specs.Stand.{nextKid, nextRun, runsAt, kidsAt, framesAt, stackIn, Small, measure, Held, Level, Entered, small-next, held-beside, held-run, held-pop}
 use Rattle.explanation.specs.declared.frames.Top.{Top}
 use Rattle.explanation.specs.declared.frames.Verdict.{Verdict}
 use Rattle.explanation.specs.declared.frames.Verdict.the-variants.{Skip, Repeat, Show}
@@ -41,7 +41,7 @@ use Rattle.explanation.specs.declared.turns.Step.the-variants.{On, Done,
 pub record Went (T : Tables) (p k : List ℕ) (top : Bool) (s : State ℕ) (t : Top) (room : List ℕ) (u : Top) (fr seen left : List ℕ) : Type 0 where
   pub es : List (Entry ℕ)
   pub rep : List ℕ
-  pub turns : Turns (planIn p k) s es (state (stackIn k u fr) rep)
+  pub turns : Turns (planIn p k) s es (state (stackIn p k u fr) rep)
   pub flags : Flags seen rep
   pub added : Added (unitsFor (planIn p k) (linesIn T p k top) es) (t .at) (t .units) (t .depth) (u .at) (u .units) (u .depth)
   pub bytes : ℕ
@@ -49,27 +49,27 @@ pub record Went (T : Tables) (p k : List ℕ) (top : Bool) (s : State ℕ) (t : 
   pub at : u .at ≡ t .at + bytes
 
 pub record TurnedOn (T : Tables) (p k : List ℕ) (g : Indenter) (t : Top) (fr seen room : List ℕ) (u : Top) (fr′ seen′ left : List ℕ) : Type 0 where
-  pub went : (rep : List ℕ) → Flags seen rep → Went T p k (g .top) (state (stackIn k t fr) rep) t room u fr′ seen′ left
-  pub small : Small u
+  pub went : (rep : List ℕ) → Flags seen rep → Went T p k (g .top) (state (stackIn p k t fr) rep) t room u fr′ seen′ left
+  pub small : Small p fr′ u
   pub less : measure (t .at + length room) u < measure (t .at + length room) t
   pub within : u .at ≤ t .at + length room
   pub frames : length fr′ ≡ length fr
   pub flags : length seen′ ≡ length seen
-  pub held : Held k fr′ u g
+  pub held : Held p k fr′ u g
 
-pub record TurnedDone (k : List ℕ) (t : Top) (fr room left : List ℕ) : Type 0 where
+pub record TurnedDone (p k : List ℕ) (t : Top) (fr room left : List ℕ) : Type 0 where
   pub same : left ≡ room
-  pub empty : stackIn k t fr ≡ []
+  pub empty : stackIn p k t fr ≡ []
 
 pub record TurnedLoops (p k : List ℕ) (t : Top) (fr room : List ℕ) (n : ℕ) (left : List ℕ) : Type 0 where
   pub same : left ≡ room
-  pub stops : stopOf (planIn p k) (stackIn k t fr) ≡ loops n
+  pub stops : stopOf (planIn p k) (stackIn p k t fr) ≡ loops n
 
 -- of the next entry the first lines are written, and `line` has no room
 pub record TurnedFull (T : Tables) (p k : List ℕ) (g : Indenter) (t : Top) (fr seen room : List ℕ) (u : Top) (left : List ℕ) : Type 0 where
   pub entry : Entry ℕ
-  pub goes : stopOf (planIn p k) (stackIn k t fr) ≡ going
-  pub shown : (rep : List ℕ) → Flags seen rep → says (planIn p k) (state (stackIn k t fr) rep) ≡ entry ∷ []
+  pub goes : stopOf (planIn p k) (stackIn p k t fr) ≡ going
+  pub shown : (rep : List ℕ) → Flags seen rep → says (planIn p k) (state (stackIn p k t fr) rep) ≡ entry ∷ []
   pub first : List (List ℕ)
   pub line : List ℕ
   pub rest : List (List ℕ)
@@ -83,14 +83,14 @@ pub record TurnedFull (T : Tables) (p k : List ℕ) (g : Indenter) (t : Top) (fr
 -- the next package is shown, and all frames but one are in use
 pub record TurnedDeep (p k : List ℕ) (t : Top) (fr seen : List ℕ) : Type 0 where
   pub node : ℕ
-  pub is : stackIn k t fr ≡ stackAt (runsAt k t fr) (node ∷ kidsAt k t fr) (framesAt k t fr)
-  pub again : repeats (planIn p k) (branchOf (framesAt k t fr)) node ≡ false
+  pub is : stackIn p k t fr ≡ stackAt (runsAt p k t fr) (node ∷ kidsAt p k t fr) (framesAt p k t fr)
+  pub again : repeats (planIn p k) (branchOf (framesAt p k t fr)) node ≡ false
   pub kept : (rep : List ℕ) → Flags seen rep → skipped (planIn p k) rep node ≡ false
   pub far : 2079 ≤ t .d
 
-abbrev pub Turned : Tables → List ℕ → List ℕ → Indenter → Top → List ℕ → List ℕ → List ℕ → Top → Step → List ℕ → List ℕ → List ℕ → Type 0
+unfoldable pub Turned : Tables → List ℕ → List ℕ → Indenter → Top → List ℕ → List ℕ → List ℕ → Top → Step → List ℕ → List ℕ → List ℕ → Type 0
 Turned T p k g t fr seen room u On fr′ seen′ left = TurnedOn T p k g t fr seen room u fr′ seen′ left
-Turned T p k g t fr seen room u Done fr′ seen′ left = TurnedDone k t fr room left
+Turned T p k g t fr seen room u Done fr′ seen′ left = TurnedDone p k t fr room left
 Turned T p k g t fr seen room u (Loops n) fr′ seen′ left = TurnedLoops p k t fr room n left
 Turned T p k g t fr seen room u Full fr′ seen′ left = TurnedFull T p k g t fr seen room u left
 Turned T p k g t fr seen room u Deep fr′ seen′ left = TurnedDeep p k t fr seen
@@ -214,9 +214,9 @@ broken-depth T p k top rs ks fs n d first line rest e h =
     let b = depth-most (planIn p k) (kidEntry n rs ks fs) first in
     omega arith)
 
-stack-next : (k fr : List ℕ) (t : Top) (n : ℕ) → n ≡ kidAt k (t .k) → t .k < t .ke → stackIn k t fr ≡ stackAt (runsAt k t fr) (n ∷ kidsAt k t fr) (framesAt k t fr)
+stack-next : (p k fr : List ℕ) (t : Top) (n : ℕ) → n ≡ kidAt k (t .k) → t .k < t .ke → stackIn p k t fr ≡ stackAt (runsAt p k t fr) (n ∷ kidsAt p k t fr) (framesAt p k t fr)
 unfolding stackIn
-stack-next k fr t n is lt = rw (is, kids-more k (t .k) (t .ke) lt)
+stack-next p k fr t n is lt = rw (is, kids-more k (t .k) (t .ke) lt)
 
 pub kid-repeat : (p fr : List ℕ) (t : Top) (n : ℕ) (seen seen′ : List ℕ) (v : Verdict) → Judged p fr (t .d) n seen seen′ v → v ≡ Repeat → (k room : List ℕ) → n ≡ kidAt k (t .k) → t .k < t .ke
     → TurnedLoops p k t fr room n room
@@ -224,20 +224,20 @@ kid-repeat p fr t n seen seen′ v j q k room is lt =
     let s : Repeated p fr (t .d) n seen seen′ = rw q at j in
     record {
       same = refl;
-      stops = rw (stack-next k fr t n is lt) (kid-loops (planIn p k) (runsAt k t fr) (framesAt k t fr) n (kidsAt k t fr) (rw (frames-branch k fr (t .d)) (s .again k)));
+      stops = rw (stack-next p k fr t n is lt) (kid-loops (planIn p k) (runsAt p k t fr) (framesAt p k t fr) n (kidsAt p k t fr) (rw (frames-branch p k fr (t .d)) (s .again k)));
     }
 
 module _ (T : Tables) (p k : List ℕ) (g : Indenter) (t : Top) (n : ℕ) (fr seen room : List ℕ) (is : n ≡ kidAt k (t .k)) (lt : t .k < t .ke)
-    (gc : g .count ≤ 4160) (gm : M.marksOf g ≡ kidMarks (runsAt k t fr) (kidsAt k t fr) (framesAt k t fr)) (sm : Small t) where
+    (gc : g .count ≤ 4160) (gm : M.marksOf g ≡ kidMarks (runsAt p k t fr) (kidsAt p k t fr) (framesAt p k t fr)) (sm : Small p fr t) where
   abbrev kid : Entry ℕ
-  kid = kidEntry n (runsAt k t fr) (kidsAt k t fr) (framesAt k t fr)
+  kid = kidEntry n (runsAt p k t fr) (kidsAt p k t fr) (framesAt p k t fr)
 
-  stack-kid : stackIn k t fr ≡ stackAt (runsAt k t fr) (n ∷ kidsAt k t fr) (framesAt k t fr)
+  stack-kid : stackIn p k t fr ≡ stackAt (runsAt p k t fr) (n ∷ kidsAt p k t fr) (framesAt p k t fr)
   unfolding stackIn
   stack-kid = rw (is, kids-more k (t .k) (t .ke) lt)
 
-  branch-is : branchOf (framesAt k t fr) ≡ branchIn fr (t .d)
-  branch-is = frames-branch k fr (t .d)
+  branch-is : branchOf (framesAt p k t fr) ≡ branchIn fr (t .d)
+  branch-is = frames-branch p k fr (t .d)
 
   skip : Skipped p fr (t .d) n seen seen → TurnedOn T p k g t fr seen room (nextKid t) fr seen room
   unfolding stackIn
@@ -247,19 +247,19 @@ module _ (T : Tables) (p k : List ℕ) (g : Indenter) (t : Top) (n : ℕ) (fr se
             record {
               es = [];
               rep = rep;
-              turns = rw (kids-more k (t .k) (t .ke) lt, ← is) (turn-skip (planIn p k) (runsAt k t fr) (framesAt k t fr) rep n (kidsAt k t fr) (rw branch-is (s .again k)) (s .skip k rep f));
+              turns = rw (kids-more k (t .k) (t .ke) lt, ← is) (turn-skip (planIn p k) (runsAt p k t fr) (framesAt p k t fr) rep n (kidsAt p k t fr) (rw branch-is (s .again k)) (s .skip k rep f));
               flags = f;
               added = added-none (t .at) (t .units) (t .depth);
               bytes = 0;
               wrote = wrote-none;
               at = omega arith;
             };
-        small = record { r = sm .r; re = sm .re; k = let a = sm .ke in omega arith; ke = sm .ke; d = sm .d; deep = sm .deep; units = sm .units };
+        small = small-next p fr t sm lt;
         less = omega arith;
         within = omega arith;
         frames = refl;
         flags = refl;
-        held = held-beside k fr t (nextKid t) g gc gm refl refl refl;
+        held = held-beside p k fr t (nextKid t) g gc gm refl refl refl;
       }
 
   pub kid-skip : (v : Verdict) (u : Top) (seen′ : List ℕ) → Judged p fr (t .d) n seen seen′ v → v ≡ Skip → u ≡ nextKid t → TurnedOn T p k g t fr seen room u fr seen′ room
@@ -268,7 +268,7 @@ module _ (T : Tables) (p k : List ℕ) (g : Indenter) (t : Top) (n : ℕ) (fr se
       rw (e, s .same) (skip (rw (s .same) at s))
 
   module _ (seen′ : List ℕ) (s : Showing p fr (t .d) n seen seen′) where
-    again : repeats (planIn p k) (branchOf (framesAt k t fr)) n ≡ false
+    again : repeats (planIn p k) (branchOf (framesAt p k t fr)) n ≡ false
     again = rw branch-is (s .again k)
 
     lines-kid : packageAll T p k (g .top) (M.marksOf g) n ≡ linesIn T p k (g .top) kid
@@ -290,7 +290,7 @@ module _ (T : Tables) (p k : List ℕ) (g : Indenter) (t : Top) (n : ℕ) (fr se
               record {
                 es = kid ∷ [];
                 rep = report (planIn p k) n rep;
-                turns = rw (stack-kid, e .left) (turn-kid (planIn p k) (runsAt k t fr) (framesAt k t fr) rep n (kidsAt k t fr) again (s .kept k rep f));
+                turns = rw (stack-kid, e .left) (turn-kid (planIn p k) (runsAt p k t fr) (framesAt p k t fr) rep n (kidsAt p k t fr) again (s .kept k rep f));
                 flags = s .then k rep f;
                 added = rw (units-kid, e .at, e .units, e .depth)
                     (added-all (planIn p k) kid (packageSaid T p (g .top) (M.marksOf g) n) (cond (eqb (tagIn p n) 3) (setsSaid T (g .top) (M.marksOf g) (setsIn p k n)) [])
@@ -311,12 +311,12 @@ module _ (T : Tables) (p k : List ℕ) (g : Indenter) (t : Top) (n : ℕ) (fr se
     full u left x =
         let l = x .lines in
         let d : depthOf (linesAs (planIn p k) kid (l .first)) ≤ t .depth =
-        broken-depth T p k (g .top) (runsAt k t fr) (kidsAt k t fr) (framesAt k t fr) n (t .depth) (l .first) (l .line) (l .rest) (rw gm at (l .is))
-        (let a = frames-length k fr (t .d) in let b = sm .deep in omega arith) in
+        broken-depth T p k (g .top) (runsAt p k t fr) (kidsAt p k t fr) (framesAt p k t fr) n (t .depth) (l .first) (l .line) (l .rest) (rw gm at (l .is))
+        (let a = frames-length p k fr (t .d) in let b = sm .deep in omega arith) in
         record {
           entry = kid;
-          goes = rw stack-kid (kid-goes (planIn p k) (runsAt k t fr) (framesAt k t fr) n (kidsAt k t fr) again);
-          shown = λ rep f. rw stack-kid (kid-says (planIn p k) (runsAt k t fr) (framesAt k t fr) rep n (kidsAt k t fr) (s .kept k rep f));
+          goes = rw stack-kid (kid-goes (planIn p k) (runsAt p k t fr) (framesAt p k t fr) n (kidsAt p k t fr) again);
+          shown = λ rep f. rw stack-kid (kid-says (planIn p k) (runsAt p k t fr) (framesAt p k t fr) rep n (kidsAt p k t fr) (s .kept k rep f));
           first = l .first;
           line = l .line;
           rest = l .rest;
@@ -329,6 +329,7 @@ module _ (T : Tables) (p k : List ℕ) (g : Indenter) (t : Top) (n : ℕ) (fr se
         }
 
     shows : (u : Top) (st : Step) (fr′ left : List ℕ) → Shown T p k g t n fr room u st fr′ left → Turned T p k g t fr seen room u st fr′ seen′ left
+    unfolding Turned
     shows u On fr′ left x = on u fr′ left x
     shows u Done fr′ left x = absurd x
     shows u (Loops m) fr′ left x = absurd x
@@ -343,14 +344,14 @@ module _ (T : Tables) (p k : List ℕ) (g : Indenter) (t : Top) (n : ℕ) (fr se
 
 module _ (T : Tables) (p k : List ℕ) (g : Indenter) (t : Top) (fr seen room left : List ℕ) (b w q : ℕ) (tr : Tried (runSaid T (g .top) (M.marksOf g) w q) room left b)
     (wi : w ≡ wordingIn p (t .r)) (qi : q ≡ requirementIn p (t .r)) (no : t .ke ≤ t .k) (lt : t .r < t .re)
-    (gm : M.marksOf g ≡ isNil (runsFrom (t .r + 1) (t .re)) ∷ marksOf (framesAt k t fr)) (gc : g .count ≤ 4160) (sm : Small t) where
+    (gm : M.marksOf g ≡ isNil (runsFrom (t .r + 1) (t .re)) ∷ marksOf (framesAt p k t fr)) (gc : g .count ≤ 4160) (sm : Small p fr t) where
   abbrev later : List ℕ
   later = runsFrom (t .r + 1) (t .re)
 
   abbrev run : Entry ℕ
-  run = runEntry (t .r) later (framesAt k t fr)
+  run = runEntry (t .r) later (framesAt p k t fr)
 
-  stack-run : stackIn k t fr ≡ stackAt (t .r ∷ later) [] (framesAt k t fr)
+  stack-run : stackIn p k t fr ≡ stackAt (t .r ∷ later) [] (framesAt p k t fr)
   unfolding stackIn
   stack-run = rw (kids-none k (t .k) (t .ke) no, runs-more (t .r) (t .re) lt)
 
@@ -363,8 +364,8 @@ module _ (T : Tables) (p k : List ℕ) (g : Indenter) (t : Top) (fr seen room le
       let f = tr .full (omega arith) in
       record {
         entry = run;
-        goes = rw stack-run (run-goes (planIn p k) later (framesAt k t fr) (t .r));
-        shown = λ rep h. rw stack-run (run-says (planIn p k) later (framesAt k t fr) rep (t .r));
+        goes = rw stack-run (run-goes (planIn p k) later (framesAt p k t fr) (t .r));
+        shown = λ rep h. rw stack-run (run-says (planIn p k) later (framesAt p k t fr) rep (t .r));
         first = [];
         line = runSaid T (g .top) (M.marksOf g) w q;
         rest = [];
@@ -381,8 +382,8 @@ module _ (T : Tables) (p k : List ℕ) (g : Indenter) (t : Top) (fr seen room le
     unfolding stackIn planIn kidsIn
     on-run =
         let v = tr .wrote z in
-        let o = openings-run (planIn p k) (t .r) later (framesAt k t fr) in
-        let fl = frames-length k fr (t .d) in
+        let o = openings-run (planIn p k) (t .r) later (framesAt p k t fr) in
+        let fl = frames-length p k fr (t .d) in
         let de = sm .deep in
         let u : unitsFor (planIn p k) (linesIn T p k (g .top)) (run ∷ []) ≡ linesAs (planIn p k) run (runSaid T (g .top) (M.marksOf g) w q ∷ []) =
         units-one (planIn p k) (linesIn T p k (g .top)) run ∙ rw line-run in
@@ -392,19 +393,30 @@ module _ (T : Tables) (p k : List ℕ) (g : Indenter) (t : Top) (fr seen room le
               record {
                 es = run ∷ [];
                 rep = rep;
-                turns = rw (kids-none k (t .k) (t .ke) no, runs-more (t .r) (t .re) lt) (turn-run (planIn p k) later (framesAt k t fr) rep (t .r));
+                turns = rw (kids-none k (t .k) (t .ke) no, runs-more (t .r) (t .re) lt) (turn-run (planIn p k) later (framesAt p k t fr) rep (t .r));
                 flags = f;
                 added = rw u (rw m at (added-all (planIn p k) run (runSaid T (g .top) (M.marksOf g) w q) [] (t .at) (t .units) (t .depth) b 1 (rw append-nil (v .count)) refl));
                 bytes = b;
                 wrote = rw (u, append-nil) v;
                 at = refl;
               };
-          small = record { r = let a = sm .re in omega arith; re = sm .re; k = kb; ke = lb; d = sm .d; deep = sm .deep; units = let a = sm .units in omega arith };
+          small =
+              record {
+                r = let a = sm .re in omega arith;
+                re = sm .re;
+                k = kb;
+                ke = lb;
+                d = sm .d;
+                rune = sm .rune;
+                kide = λ h. let y : t .r + 1 - 1 ≡ t .r = omega arith in rw y;
+                deep = sm .deep;
+                units = let a = sm .units in omega arith;
+              };
           less = let i = tr .within in let d = sm .d in omega arith;
           within = let i = tr .within in omega arith;
           frames = refl;
           flags = refl;
-          held = held-run k fr t (nextRun p t b) g gc gm refl;
+          held = held-run p k fr t (nextRun p t b) g gc gm refl;
         }
 
   pub run-on : (u : Top) → 0 < b → u ≡ nextRun p t b → u .k < 2048 → u .ke < 2048 → TurnedOn T p k g t fr seen room u fr seen left
@@ -412,15 +424,15 @@ module _ (T : Tables) (p k : List ℕ) (g : Indenter) (t : Top) (fr seen room le
 
 -- ---- nothing waits at hand
 
-module _ (T : Tables) (p k : List ℕ) (g : Indenter) (t : Top) (fr seen room : List ℕ) (no : t .ke ≤ t .k) (none : t .re ≤ t .r) (lv : Level k fr t g) where
-  pub pop-on : (u : Top) → Popped fr t u → 0 < t .d → Small t → TurnedOn T p k g t fr seen room u fr seen room
+module _ (T : Tables) (p k : List ℕ) (g : Indenter) (t : Top) (fr seen room : List ℕ) (no : t .ke ≤ t .k) (none : t .re ≤ t .r) (lv : Level p k fr t g) where
+  pub pop-on : (u : Top) → Popped p fr t u → 0 < t .d → Small p fr t → TurnedOn T p k g t fr seen room u fr seen room
   unfolding stackIn frameIn
   pop-on u q h sm =
-      let a : stackIn k t fr ≡ stackIn k u fr =
-      rw (kids-none k (t .k) (t .ke) no, runs-none (t .r) (t .re) none, frames-pop k fr (t .d) h, q .r, q .re, q .k, q .ke, q .d) in
+      let a : stackIn p k t fr ≡ stackIn p k u fr =
+      rw (kids-none k (t .k) (t .ke) no, runs-none (t .r) (t .re) none, frames-pop p k fr (t .d) h, q .r, q .re, q .k, q .ke, q .d) in
       let qd = q .d in
       let qt = q .at in
-      let qk = q .ke in
+      let qe = q .kend in
       record {
         went = λ rep f.
             record {
@@ -436,10 +448,12 @@ module _ (T : Tables) (p k : List ℕ) (g : Indenter) (t : Top) (fr seen room : 
         small =
             record {
               r = let x = q .r in omega arith;
-              re = let x = q .re in omega arith;
+              re = q .rend;
               k = let x = q .k in omega arith;
-              ke = omega arith;
+              ke = q .kend;
               d = let x = sm .d in omega arith;
+              rune = rw (q .d) (q .re);
+              kide = λ z. rw (q .r) (q .ke);
               deep = let x = sm .deep in let y = q .depth in omega arith;
               units = let x = sm .units in let y = q .units in omega arith;
             };
@@ -447,12 +461,12 @@ module _ (T : Tables) (p k : List ℕ) (g : Indenter) (t : Top) (fr seen room : 
         within = omega arith;
         frames = refl;
         flags = refl;
-        held = held-pop k fr t u g (lv .none no none) q h;
+        held = held-pop p k fr t u g (lv .none no none) q h;
       }
 
-pub pop-done : (k fr : List ℕ) (t : Top) (room : List ℕ) → t .ke ≤ t .k → t .re ≤ t .r → t .d ≤ 0 → TurnedDone k t fr room room
+pub pop-done : (p k fr : List ℕ) (t : Top) (room : List ℕ) → t .ke ≤ t .k → t .re ≤ t .r → t .d ≤ 0 → TurnedDone p k t fr room room
 unfolding stackIn framesIn
-pop-done k fr t room x y h =
+pop-done p k fr t room x y h =
     let z : t .d ≡ 0 = omega arith in
     record { same = refl; empty = rw (kids-none k (t .k) (t .ke) x, runs-none (t .r) (t .re) y, z) }
 

@@ -19,18 +19,18 @@ use Rattle.machine.specs.Halts.{Halted, halts}
 use Rattle.machine.specs.Units.{TextUnit, Result, textOf}
 use Rattle.machine.specs.Tally.{Tally, tally-none, tally-added, Added}
 use Rattle.machine.specs.Fit.{text-append}
-use Rattle.machine.specs.Explained.{Explained, linesAs, unitsFor}
+use Rattle.machine.specs.Explained.{Explained, unique, linesAs, unitsFor}
 use Rattle.machine.specs.Turns.{Turns, stay, turn, turns-then, turns-fit}
 use Rattle.machine.specs.Writes.{soFar, units-append, end-done, end-loops, end-full}
 use Rattle.machine.specs.Frames.{Frame, branchOf, branch-length, stackAt, kidMarks, stack-start}
-use Rattle.texts.specs.Wrote.{Wrote, wrote-none, wrote-length, behind}
+use Rattle.texts.specs.Wrote.{Wrote, over, wrote-none, wrote-length, behind}
 use Rattle.texts.specs.Marks as M
 use Rattle.texts.specs.declared.Indenter.{Indenter}
 use Rattle.plan.specs.Fields.{planIn, startIn, opensIn, kidsIn, runsIn, runFirst, runEnd, runsFrom, kidsFrom, kidAt, kids-none, kids-more, solvableIn, textLength}
 use Rattle.lines.specs.Said.{linesIn, packageIn}
 use Rattle.lines.specs.SetLaws.{part-back}
 use Rattle.explanation.specs.Deep.{kid-within}
-use Rattle.explanation.specs.Frames.{framesIn, frames-length}
+use Rattle.explanation.specs.Frames.{ownerIn, framesIn, frames-length}
 use Rattle.explanation.specs.Judge.{Flags}
 use Rattle.explanation.specs.Stand.{stackIn, runsAt, kidsAt, framesAt, Small, measure, Held, Stepped, Level, level-step}
 use Rattle.explanation.specs.Turned.{Went, Turned, TurnedOn, TurnedDone, TurnedLoops, TurnedFull, TurnedDeep, Known}
@@ -86,7 +86,7 @@ module _ (P : Plan ℕ) (N : ℕ → Type 0) where
 pub record SoFar (T : Tables) (p k : List ℕ) (top : Bool) (fr seen : List ℕ) (t : Top) (out₀ out : List ℕ) : Type 0 where
   pub es : List (Entry ℕ)
   pub rep : List ℕ
-  pub turns : Turns (planIn p k) (startIn p) es (state (stackIn k t fr) rep)
+  pub turns : Turns (planIn p k) (startIn p) es (state (stackIn p k t fr) rep)
   pub flags : Flags seen rep
   pub tally : Tally (unitsFor (planIn p k) (linesIn T p k top) es) (t .at) (t .units) (t .depth)
   pub wrote : Wrote (textOf (unitsFor (planIn p k) (linesIn T p k top) es)) out₀ out (t .at)
@@ -95,27 +95,41 @@ pub record SoFar (T : Tables) (p k : List ℕ) (top : Bool) (fr seen : List ℕ)
 pub record Walking (T : Tables) (p k : List ℕ) (top : Bool) (fr seen : List ℕ) (t : Top) (g : Indenter) (out₀ out : List ℕ) : Type 0 where
   pub ready : Ready T p k
   pub so-far : SoFar T p k top fr seen t out₀ out
-  pub small : Small t
+  pub small : Small p fr t
   pub within : t .at ≤ length out
   pub same : length out ≡ length out₀
   pub frames : length fr ≡ 2080
   pub flags : length seen ≡ 128
-  pub held : Held k fr t g
+  pub held : Held p k fr t g
   pub top-is : g .top ≡ top
 
 unfoldable pub toGo : List ℕ → Top → ℕ
 toGo out t = measure (length out) t
 
+-- an answer with the text that it counts
+abbrev pub resultBy : Told → List ℕ → Result
+resultBy r t = record { number = r .number; place = r .place; bytes = r .bytes; units = r .units; depth = r .depth; text = t }
+
 -- the contract: the machine's answer for this room, and every byte of it
 pub record Answered (T : Tables) (p k : List ℕ) (top : Bool) (out left : List ℕ) (r : Told) : Type 0 where
   pub text : List ℕ
-  pub is : Explained (planIn p k) (linesIn T p k top) (solvableIn p) (startIn p) (length out)
-      (record { number = r .number; place = r .place; bytes = r .bytes; units = r .units; depth = r .depth; text = text })
+  pub is : Explained (planIn p k) (linesIn T p k top) (solvableIn p) (startIn p) (length out) (resultBy r text)
   pub room : Wrote text out left (r .bytes)
+
+-- two results that the contract allows are equal
+pub answered-one : (T : Tables) (p k : List ℕ) (top : Bool) (out a b : List ℕ) (r q : Told) → Answered T p k top out a r → Answered T p k top out b q → (r ≡ q) × (a ≡ b)
+answered-one T p k top out a b r q x y =
+    let e = unique (planIn p k) (linesIn T p k top) (solvableIn p) (startIn p) (length out) (resultBy r (x .text)) (resultBy q (y .text)) (x .is) (y .is) in (
+      ap (λ (z : Result). record { number = z .number; place = z .place; bytes = z .bytes; units = z .units; depth = z .depth }) e,
+      x .room .leaves ∙ ap (λ (z : Result). over (z .text) out) e ∙ sym (y .room .leaves),
+    )
 
 -- the answer from where the walk stands
 abbrev pub answerAt : ℕ → ℕ → Top → Told
 answerAt number place t = record { number = number; place = place; bytes = t .at; units = t .units; depth = t .depth }
+
+pub looped : (p : List ℕ) (t : Top) (a : Told) (n m y : ℕ) → a ≡ answerAt 11 m t → m ≡ y → y ≡ solvableIn p n → a ≡ answerAt 11 (solvableIn p n) t
+looped p t a n m y ai mi yi = rw (ai, mi, yi)
 
 -- where the walk begins
 abbrev pub first : ℕ → ℕ → Top
@@ -133,12 +147,24 @@ first-so-far T p k top fr seen out a b ai bi f =
       wrote = wrote-none;
     }
 
-pub first-small : (a b : ℕ) → a < 2048 → b < 2048 → Small (first a b)
-first-small a b h i = record { r = h; re = i; k = omega arith; ke = omega arith; d = omega arith; deep = omega arith; units = omega arith }
+pub first-small : (p fr : List ℕ) (a b : ℕ) → a < 2048 → b < 2048 → b ≡ runEnd p 0 → Small p fr (first a b)
+unfolding ownerIn
+first-small p fr a b h i e =
+    record {
+      r = h;
+      re = i;
+      k = omega arith;
+      ke = omega arith;
+      d = omega arith;
+      rune = e;
+      kide = λ z. let y : ⊥ = omega arith in absurd y;
+      deep = omega arith;
+      units = omega arith;
+    }
 
-pub first-held : (k fr : List ℕ) (a b : ℕ) (g : Indenter) → M.marksOf g ≡ [] → g .count ≡ 0 → Held k fr (first a b) g
+pub first-held : (p k fr : List ℕ) (a b : ℕ) (g : Indenter) → M.marksOf g ≡ [] → g .count ≡ 0 → Held p k fr (first a b) g
 unfolding framesIn M.upper
-first-held k fr a b g m c =
+first-held p k fr a b g m c =
     record {
       count = omega arith;
       levels = omega arith;
@@ -153,12 +179,12 @@ walking-first T p k top fr seen out a b g r ai bi al bl f m c e lf ls =
     record {
       ready = r;
       so-far = first-so-far T p k top fr seen out a b ai bi f;
-      small = first-small a b al bl;
+      small = first-small p fr a b al bl bi;
       within = omega arith;
       same = refl;
       frames = lf;
       flags = ls;
-      held = first-held k fr a b g m c;
+      held = first-held p k fr a b g m c;
       top-is = e;
     }
 
@@ -169,7 +195,7 @@ unfolding stackIn startIn planIn
 so-far-known T p k top fr seen t out₀ out s r =
     record {
       own = λ h.
-          let a = came-turns (planIn p k) (λ n. textLength p n ≡ length (packageIn T p n)) (r .sized) (startIn p) (state (stackIn k t fr) (s .rep)) (s .es) (s .turns)
+          let a = came-turns (planIn p k) (λ n. textLength p n ≡ length (packageIn T p n)) (r .sized) (startIn p) (state (stackIn p k t fr) (s .rep)) (s .es) (s .turns)
           (came-start (planIn p k) (λ n. textLength p n ≡ length (packageIn T p n)) (runsIn p 0)) in
           (rw (kids-more k (t .k) (t .ke) h) at a) .0 .1;
     }
@@ -180,8 +206,8 @@ wrote-at e w = rw e w
 pub walking-known : (T : Tables) (p k : List ℕ) (top : Bool) (fr seen : List ℕ) (t : Top) (g : Indenter) (out₀ out : List ℕ) → Walking T p k top fr seen t g out₀ out → Known T p k t
 walking-known T p k top fr seen t g out₀ out x = so-far-known T p k top fr seen t out₀ out (x .so-far) (x .ready)
 
-pub walking-level : (T : Tables) (p k : List ℕ) (top : Bool) (fr seen : List ℕ) (t : Top) (g h : Indenter) (out₀ out : List ℕ) → Walking T p k top fr seen t g out₀ out → Stepped t g h → Level k fr t h
-walking-level T p k top fr seen t g h out₀ out x sp = level-step k fr t g h (x .held) sp (x .small)
+pub walking-level : (T : Tables) (p k : List ℕ) (top : Bool) (fr seen : List ℕ) (t : Top) (g h : Indenter) (out₀ out : List ℕ) → Walking T p k top fr seen t g out₀ out → Stepped t g h → Level p k fr t h
+walking-level T p k top fr seen t g h out₀ out x sp = level-step p k fr t g h (x .held) sp (x .small)
 
 -- ---- the room: the rest from at on was lent, and comes back as left
 
@@ -194,8 +220,9 @@ back out at left = putMid at (length out - at) out left
 pub rest-length : (out : List ℕ) (at : ℕ) → at ≤ length out → at + length (rest out at) ≡ length out
 rest-length out at h = rw (length-take, length-drop) (omega arith)
 
-pub rest-fits : (out : List ℕ) (at : ℕ) → at ≤ length out → length out < 18446744073709551616 → at + length (rest out at) < 18446744073709551616
-rest-fits out at h l = let e = rest-length out at h in omega arith
+pub rest-fits : (T : Tables) (p k : List ℕ) (top : Bool) (fr seen : List ℕ) (t : Top) (g : Indenter) (out₀ out : List ℕ) → Walking T p k top fr seen t g out₀ out → length out₀ < 18446744073709551616
+    → t .at + length (rest out (t .at)) < 18446744073709551616
+rest-fits T p k top fr seen t g out₀ out x h = let e = rest-length out (t .at) (x .within) in let s = x .same in omega arith
 
 module _ (T : Tables) (p k : List ℕ) (top : Bool) (fr seen : List ℕ) (t : Top) (out₀ out : List ℕ) (g : Indenter) (x : Walking T p k top fr seen t g out₀ out) (h : Indenter) (sp : Stepped t g h)
     (u : Top) (st : Step) (fr′ seen′ left : List ℕ) (q : Turned T p k h t fr seen (rest out (t .at)) u st fr′ seen′ left) where
@@ -218,10 +245,11 @@ module _ (T : Tables) (p k : List ℕ) (top : Bool) (fr seen : List ℕ) (t : To
 
   module _ (e : st ≡ On) where
     on : TurnedOn T p k h t fr seen (rest out (t .at)) u fr′ seen′ left
+    unfolding Turned
     on = rw e at q
 
-    went : Went T p k top (state (stackIn k t fr) (s .rep)) t (rest out (t .at)) u fr′ seen′ left
-    went = subst (λ (b : Bool). Went T p k b (state (stackIn k t fr) (s .rep)) t (rest out (t .at)) u fr′ seen′ left) ht (on .went (s .rep) (s .flags))
+    went : Went T p k top (state (stackIn p k t fr) (s .rep)) t (rest out (t .at)) u fr′ seen′ left
+    went = subst (λ (b : Bool). Went T p k b (state (stackIn p k t fr) (s .rep)) t (rest out (t .at)) u fr′ seen′ left) ht (on .went (s .rep) (s .flags))
 
     on-so-far : SoFar T p k top fr′ seen′ u out₀ (back out (t .at) left)
     on-so-far =
@@ -229,7 +257,7 @@ module _ (T : Tables) (p k : List ℕ) (top : Bool) (fr seen : List ℕ) (t : To
         record {
           es = s .es ++ w .es;
           rep = w .rep;
-          turns = turns-then P (startIn p) (state (stackIn k t fr) (s .rep)) (state (stackIn k u fr′) (w .rep)) (s .es) (w .es) (s .turns) (w .turns);
+          turns = turns-then P (startIn p) (state (stackIn p k t fr) (s .rep)) (state (stackIn p k u fr′) (w .rep)) (s .es) (w .es) (s .turns) (w .turns);
           flags = w .flags;
           tally = rw (units-append P lines (s .es) (w .es))
               (tally-added (unitsFor P lines (s .es)) (unitsFor P lines (w .es)) (t .at) (t .units) (t .depth) (u .at) (u .units) (u .depth) (s .tally) (w .added));
@@ -275,11 +303,12 @@ module _ (T : Tables) (p k : List ℕ) (top : Bool) (fr seen : List ℕ) (t : To
   came-back e = part-back left (s .wrote) e
 
   done-at : st ≡ Done → Answered T p k top out₀ (back out (t .at) left) (answerAt 0 0 t)
+  unfolding Turned
   done-at e =
-      let d : TurnedDone k t fr (rest out (t .at)) left = rw e at q in
+      let d : TurnedDone p k t fr (rest out (t .at)) left = rw e at q in
       record {
         text = textOf so;
-        is = end-done P lines (solvableIn p) (startIn p) (state (stackIn k t fr) (s .rep)) (s .es) (s .turns) (length out₀) (t .at) (t .units) (t .depth) (textOf so)
+        is = end-done P lines (solvableIn p) (startIn p) (state (stackIn p k t fr) (s .rep)) (s .es) (s .turns) (length out₀) (t .at) (t .units) (t .depth) (textOf so)
             (d .empty) (s .tally) refl in-room;
         room = came-back (d .same);
       }
@@ -287,24 +316,25 @@ module _ (T : Tables) (p k : List ℕ) (top : Bool) (fr seen : List ℕ) (t : To
   pub walk-done : (a : Told) → st ≡ Done → a ≡ answerAt 0 0 t → Answered T p k top out₀ (back out (t .at) left) a
   walk-done a e ai = rw ai (done-at e)
 
-  loops-at : (n m y : ℕ) → st ≡ Loops n → m ≡ y → y ≡ solvableIn p n → Answered T p k top out₀ (back out (t .at) left) (answerAt 11 m t)
-  loops-at n m y e xi mi =
+  loops-at : (n : ℕ) → st ≡ Loops n → Answered T p k top out₀ (back out (t .at) left) (answerAt 11 (solvableIn p n) t)
+  unfolding Turned
+  loops-at n e =
       let d : TurnedLoops p k t fr (rest out (t .at)) n left = rw e at q in
-      rw (xi, mi) (record {
+      record {
         text = textOf so;
-        is = end-loops P lines (solvableIn p) (startIn p) (state (stackIn k t fr) (s .rep)) (s .es) (s .turns) (length out₀) (t .at) (t .units) (t .depth) (textOf so)
+        is = end-loops P lines (solvableIn p) (startIn p) (state (stackIn p k t fr) (s .rep)) (s .es) (s .turns) (length out₀) (t .at) (t .units) (t .depth) (textOf so)
             n (d .stops) (s .tally) refl in-room;
         room = came-back (d .same);
-      })
+      }
 
-  pub walk-loops : (a : Told) (n m y : ℕ) → st ≡ Loops n → a ≡ answerAt 11 m t → m ≡ y → y ≡ solvableIn p n → Answered T p k top out₀ (back out (t .at) left) a
-  walk-loops a n m y e ai xi mi = rw ai (loops-at n m y e xi mi)
+  pub walk-loops : (a : Told) (n : ℕ) → st ≡ Loops n → a ≡ answerAt 11 (solvableIn p n) t → Answered T p k top out₀ (back out (t .at) left) a
+  walk-loops a n e ai = rw ai (loops-at n e)
 
   r : Ready T p k
   r = x .ready
 
   full-at : st ≡ Full → Answered T p k top out₀ (back out (t .at) left) (answerAt 10 (u .units) u)
-  unfolding startIn
+  unfolding startIn Turned
   full-at e =
       let f : TurnedFull T p k h t fr seen (rest out (t .at)) u left = rw e at q in
       let is : lines (f .entry) ≡ f .first ++ (f .line ∷ f .rest) = sym (ap (λ (b : Bool). linesIn T p k b (f .entry)) ht) ∙ f .is in
@@ -315,7 +345,7 @@ module _ (T : Tables) (p k : List ℕ) (top : Bool) (fr seen : List ℕ) (t : To
       rw (text-append so us) (wrote-at (f .at) (behind (s .wrote) (f .wrote))) in
       record {
         text = textOf (soFar P lines (s .es) (f .entry) (f .first));
-        is = end-full P lines (solvableIn p) (startIn p) (state (stackIn k t fr) (s .rep)) (s .es) (s .turns) (length out₀) (u .at) (u .units) (u .depth)
+        is = end-full P lines (solvableIn p) (startIn p) (state (stackIn p k t fr) (s .rep)) (s .es) (s .turns) (length out₀) (u .at) (u .units) (u .depth)
             (textOf (soFar P lines (s .es) (f .entry) (f .first)))
             (halts P (r .G) (r .U) (r .counted) (runsIn p 0)) (f .entry) (f .goes) (f .shown (s .rep) (s .flags)) (f .first) (f .line) (f .rest) is
             y refl (let a = w .count in let b = w .fits in omega arith)
@@ -328,14 +358,14 @@ module _ (T : Tables) (p k : List ℕ) (top : Bool) (fr seen : List ℕ) (t : To
 
   -- B1: no package is shown so deep
   pub walk-deep : (a : Told) → st ≡ Deep → Answered T p k top out₀ (back out (t .at) left) a
-  unfolding startIn
+  unfolding startIn Turned
   walk-deep a e =
       let d : TurnedDeep p k t fr seen = rw e at q in
       let fit = rw (d .is) at
-      (turns-fit P (r .G) (r .U) (r .counted) (startIn p) (state (stackIn k t fr) (s .rep)) (s .es) (s .turns) (fits-start P (r .G) (r .U) (runsIn p 0))) in
+      (turns-fit P (r .G) (r .U) (r .counted) (startIn p) (state (stackIn p k t fr) (s .rep)) (s .es) (s .turns) (fits-start P (r .G) (r .U) (runsIn p 0))) in
       let came = rw (d .is) at
-      (came-turns P (λ n. Unit {0}) (λ x n i. tt) (startIn p) (state (stackIn k t fr) (s .rep)) (s .es) (s .turns) (came-start P (λ n. Unit {0}) (runsIn p 0))) in
-      let b = kid-within P (r .G) (r .U) (d .node) (kidMarks (runsAt k t fr) (kidsAt k t fr) (framesAt k t fr)) (branchOf (framesAt k t fr)) (s .rep)
+      (came-turns P (λ n. Unit {0}) (λ x n i. tt) (startIn p) (state (stackIn p k t fr) (s .rep)) (s .es) (s .turns) (came-start P (λ n. Unit {0}) (runsIn p 0))) in
+      let b = kid-within P (r .G) (r .U) (d .node) (kidMarks (runsAt p k t fr) (kidsAt p k t fr) (framesAt p k t fr)) (branchOf (framesAt p k t fr)) (s .rep)
       (fit .0) (came .0 .0) (d .kept (s .rep) (s .flags)) (d .again) in
-      let z : ⊥ = (let l = branch-length (framesAt k t fr) in let m = frames-length k fr (t .d) in let f = d .far in let g = r .small in omega arith) in
+      let z : ⊥ = (let l = branch-length (framesAt p k t fr) in let m = frames-length p k fr (t .d) in let f = d .far in let g = r .small in omega arith) in
       absurd z

@@ -1,9 +1,9 @@
 // Where the walk stands: what waits beside it at hand, and a frame for each opened package above it.
 ghost use mathlib.Core.Path.{_≡_};
 ghost use mathlib.Core.List.{List};
-ghost use Prim.Native.Nat.{ℕ, _+_, _≤_, _<_, max};
+ghost use Prim.Native.Nat.{ℕ, _+_, _-_, _≤_, _<_, max};
 ghost use lib.ListN.{length};
-ghost use Rattle.explanation.specs.Frames.{Packed, belowIn, branchIn, Popped};
+ghost use Rattle.explanation.specs.Frames.{Packed, belowIn, branchIn, ownerIn, Popped};
 ghost use Rattle.explanation.specs.Judge.{Judged};
 ghost use Rattle.explanation.specs.Stand.{Small, Entered};
 
@@ -26,20 +26,30 @@ pub enum Verdict {
     Show,
 }
 
-// A frame: the opened package, and the runs and kids that wait beside it.
-pub fn pack(n: usize, r: usize, re: usize, k: usize, ke: usize) -> u64
-    requires { ⌜ (n < 256) × ((r < 2048) × ((re < 2048) × ((k < 2048) × (ke < 2048)))) ⌝ }
-    ensures { λ w. ⌜ Packed w n r re k ke ⌝ }
+// A frame: the opened package, and the first run and kid that wait beside it. Where they end is a matter of the plan.
+fn pack(n: usize, r: usize, k: usize) -> u32
+    requires { ⌜ (n < 256) × ((r < 2048) × (k < 2048)) ⌝ }
+    ensures { λ w. ⌜ Packed w n r k ⌝ }
 {
-    n as u64
-        + 256 * r as u64
-        + 524288 * re as u64
-        + 1073741824 * k as u64
-        + 2199023255552 * ke as u64
+    n as u32 + 256 * r as u32 + 524288 * k as u32
+}
+
+// The package opened last, or the root.
+fn owner(fr: &[u32; 2080], d: usize) -> usize
+    requires { ⌜ d ≤ 2080 ⌝ }
+    ensures { λ r. ⌜ r ≡ ownerIn (now (fr .entry)) d ⌝ }
+{
+    if 0 < d { (fr[d - 1] % 256) as usize } else { 0 }
+}
+
+fn before(r: usize) -> usize
+    ensures { λ x. ⌜ x ≡ r - 1 ⌝ }
+{
+    if 0 < r { r - 1 } else { 0 }
 }
 
 // Package n is opened above, with only unmerged ones between.
-pub fn below(p: &[u64; 1280], fr: &[u64; 2080], d: usize, n: usize) -> bool
+fn below(p: &[u64; 1280], fr: &[u32; 2080], d: usize, n: usize) -> bool
     requires { ⌜ d ≤ 2080 ⌝ }
     ensures { λ r. ⌜ r ≡ belowIn (now (p .entry)) (branchIn (now (fr .entry)) d) n ⌝ }
 {
@@ -58,7 +68,7 @@ pub fn below(p: &[u64; 1280], fr: &[u64; 2080], d: usize, n: usize) -> bool
 }
 
 // A later package of a reported group is skipped, and one that would be opened below itself ends the walk (lines 1066 to 1077).
-pub fn judge(p: &[u64; 1280], fr: &[u64; 2080], seen: &mut [u8; 128], d: usize, n: usize) -> Verdict
+pub fn judge(p: &[u64; 1280], fr: &[u32; 2080], seen: &mut [u8; 128], d: usize, n: usize) -> Verdict
     requires { ⌜ d ≤ 2080 ⌝ }
     requires { ⌜ length (now seen) ≡ 128 ⌝ }
     ensures { λ r. ⌜ Judged (now (p .entry)) (now (fr .entry)) d n (now (seen .entry)) (now (seen .exit)) r ⌝ }
@@ -80,15 +90,15 @@ pub fn judge(p: &[u64; 1280], fr: &[u64; 2080], seen: &mut [u8; 128], d: usize, 
     Verdict::Show
 }
 
-pub fn larger(a: usize, b: usize) -> usize
+fn larger(a: usize, b: usize) -> usize
     ensures { λ r. ⌜ r ≡ max a b ⌝ }
 {
     if a < b { b } else { a }
 }
 
 // Behind the line of package n: it is opened, or the next kid comes up.
-pub fn enter(p: &[u64; 1280], fr: &mut [u64; 2080], t: Top, n: usize) -> Top
-    requires { ⌜ Small t ⌝ }
+pub fn enter(p: &[u64; 1280], fr: &mut [u32; 2080], t: Top, n: usize) -> Top
+    requires { ⌜ Small (now p) (now fr) t ⌝ }
     requires { ⌜ length (now fr) ≡ 2080 ⌝ }
     requires { ⌜ (t .k < t .ke) × ((n < 128) × (t .d < 2079)) ⌝ }
     ensures { λ u. ⌜ ((k : List ℕ) → Entered (now (p .entry)) k t n (now (fr .entry)) u (now (fr .exit))) ⌝ }
@@ -96,7 +106,7 @@ pub fn enter(p: &[u64; 1280], fr: &mut [u64; 2080], t: Top, n: usize) -> Top
     let d = t.d;
     let k = t.k + 1;
     if plan::opens(p, n) {
-        fr[d] = pack(n, t.r, t.re, k, t.ke);
+        fr[d] = pack(n, t.r, k);
         let r = plan::run_first(p, n);
         let re = plan::run_end(p, n);
         let depth = larger(t.depth, d + 1);
@@ -124,17 +134,22 @@ pub fn enter(p: &[u64; 1280], fr: &mut [u64; 2080], t: Top, n: usize) -> Top
 }
 
 // The package opened last has nothing pending.
-pub fn pop(fr: &[u64; 2080], t: Top) -> Top
+pub fn pop(p: &[u64; 1280], fr: &[u32; 2080], t: Top) -> Top
     requires { ⌜ (0 < t .d) × (t .d ≤ 2079) ⌝ }
-    ensures { λ u. ⌜ Popped (now (fr .entry)) t u ⌝ }
+    ensures { λ u. ⌜ Popped (now (p .entry)) (now (fr .entry)) t u ⌝ }
 {
     let d = t.d - 1;
+    let m = owner(fr, d);
+    let re = plan::run_end(p, m);
     let w = fr[d];
+    let r = (w / 256 % 2048) as usize;
+    let x = before(r);
+    let ke = plan::kid_end(p, x);
     Top {
-        r: (w / 256 % 2048) as usize,
-        re: (w / 524288 % 2048) as usize,
-        k: (w / 1073741824 % 2048) as usize,
-        ke: (w / 2199023255552 % 2048) as usize,
+        r,
+        re,
+        k: (w / 524288 % 2048) as usize,
+        ke,
         d,
         at: t.at,
         units: t.units,

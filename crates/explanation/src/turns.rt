@@ -18,7 +18,7 @@ ghost use Rattle.machine.specs.Frames.{kidMarks};
 ghost use Rattle.texts.specs.Marks.{marksOf};
 ghost use Rattle.plan.specs.Fields.{textLength, runsFrom};
 ghost use Rattle.lines.specs.Said.{packageIn};
-ghost use Rattle.explanation.specs.Stand.{nextKid, nextRun, Small, Level, Stepped, runsAt, kidsAt, framesAt};
+ghost use Rattle.explanation.specs.Stand.{indenterAt, nextKid, nextRun, Small, Level, Stepped, runsAt, kidsAt, framesAt};
 ghost use Rattle.explanation.specs.Turned.{Settled, Shown, Known, Turned};
 
 // How a turn ends: the walk goes on, it is done, this package would be opened below itself (11), the next line does not fit (10), or
@@ -37,8 +37,8 @@ pub struct Move {
 }
 
 // Behind the lines of package n, as far as they came.
-pub fn settled(p: &[u64; 1280], fr: &mut [u64; 2080], t: Top, n: usize, s: Part) -> Move
-    requires { ⌜ Small t ⌝ }
+fn settled(p: &[u64; 1280], fr: &mut [u32; 2080], t: Top, n: usize, s: Part) -> Move
+    requires { ⌜ Small (now p) (now fr) t ⌝ }
     requires { ⌜ length (now fr) ≡ 2080 ⌝ }
     requires { ⌜ (t .k < t .ke) × ((n < 128) × (t .d < 2079)) ⌝ }
     requires { ⌜ (t .at + s .bytes < 18446744073709551616) × (s .units ≤ s .bytes) ⌝ }
@@ -68,25 +68,27 @@ pub fn settled(p: &[u64; 1280], fr: &mut [u64; 2080], t: Top, n: usize, s: Part)
 }
 
 // Package n, the next kid, is shown, and opened if it opens.
-pub fn show(
+fn show(
     file: &[u8],
     ix: &[u16; 10432],
     p: &[u64; 1280],
     k: &[u16; 1024],
-    fr: &mut [u64; 2080],
+    fr: &mut [u32; 2080],
     out: &mut [u8],
-    g: Indenter,
+    levels: &[u64; 65],
+    count: usize,
+    top: bool,
     t: Top,
     n: usize,
 ) -> Move
     requires { ⌜ Loaded (now file) (now ix) ⌝ }
-    requires { ⌜ Small t ⌝ }
+    requires { ⌜ Small (now p) (now fr) t ⌝ }
     requires { ⌜ length (now fr) ≡ 2080 ⌝ }
     requires { ⌜ (t .k < t .ke) × (n < 128) ⌝ }
     requires { ⌜ t .at + length (now out) < 18446744073709551616 ⌝ }
-    requires { ⌜ (g .count ≤ 4160) × (marksOf g ≡ kidMarks (runsAt (now k) t (now fr)) (kidsAt (now k) t (now fr)) (framesAt (now k) t (now fr))) ⌝ }
+    requires { ⌜ (count ≤ 4160) × (marksOf (indenterAt (now levels) count top) ≡ kidMarks (runsAt (now p) (now k) t (now fr)) (kidsAt (now p) (now k) t (now fr)) (framesAt (now p) (now k) t (now fr))) ⌝ }
     requires { ⌜ textLength (now p) n ≡ length (packageIn (tablesOf (now file)) (now p) n) ⌝ }
-    ensures { λ r. ⌜ Shown (tablesOf (now (file .entry))) (now (p .entry)) (now (k .entry)) g t n (now (fr .entry)) (now (out .entry)) (r .top) (r .step) (now (fr .exit)) (now (out .exit)) ⌝ }
+    ensures { λ r. ⌜ Shown (tablesOf (now (file .entry))) (now (p .entry)) (now (k .entry)) (indenterAt (now (levels .entry)) count top) t n (now (fr .entry)) (now (out .entry)) (r .top) (r .step) (now (fr .exit)) (now (out .exit)) ⌝ }
 {
     if 2079 <= t.d {
         return Move {
@@ -94,12 +96,12 @@ pub fn show(
             step: Step::Deep,
         };
     }
-    let s = lines::sets::package_lines(file, ix, p, k, out, g, n);
+    let s = lines::sets::package_lines(file, ix, p, k, out, levels, count, top, n);
     settled(p, fr, t, n, s)
 }
 
 // The next kid is passed over.
-pub fn next_kid(t: Top) -> Top
+fn next_kid(t: Top) -> Top
     requires { ⌜ t .k < 2048 ⌝ }
     ensures { λ u. ⌜ u ≡ nextKid t ⌝ }
 {
@@ -116,25 +118,27 @@ pub fn next_kid(t: Top) -> Top
 }
 
 // The next kid's turn (lines 1063 to 1180).
-pub fn kid_turn(
+fn kid_turn(
     file: &[u8],
     ix: &[u16; 10432],
     p: &[u64; 1280],
     k: &[u16; 1024],
-    fr: &mut [u64; 2080],
+    fr: &mut [u32; 2080],
     seen: &mut [u8; 128],
     out: &mut [u8],
-    g: Indenter,
+    levels: &[u64; 65],
+    count: usize,
+    top: bool,
     t: Top,
 ) -> Move
     requires { ⌜ Loaded (now file) (now ix) ⌝ }
-    requires { ⌜ Small t ⌝ }
+    requires { ⌜ Small (now p) (now fr) t ⌝ }
     requires { ⌜ (length (now fr) ≡ 2080) × (length (now seen) ≡ 128) ⌝ }
     requires { ⌜ t .k < t .ke ⌝ }
     requires { ⌜ t .at + length (now out) < 18446744073709551616 ⌝ }
-    requires { ⌜ (g .count ≤ 4160) × (marksOf g ≡ kidMarks (runsAt (now k) t (now fr)) (kidsAt (now k) t (now fr)) (framesAt (now k) t (now fr))) ⌝ }
+    requires { ⌜ (count ≤ 4160) × (marksOf (indenterAt (now levels) count top) ≡ kidMarks (runsAt (now p) (now k) t (now fr)) (kidsAt (now p) (now k) t (now fr)) (framesAt (now p) (now k) t (now fr))) ⌝ }
     requires { ⌜ Known (tablesOf (now file)) (now p) (now k) t ⌝ }
-    ensures { λ r. ⌜ Turned (tablesOf (now (file .entry))) (now (p .entry)) (now (k .entry)) g t (now (fr .entry)) (now (seen .entry)) (now (out .entry)) (r .top) (r .step) (now (fr .exit)) (now (seen .exit)) (now (out .exit)) ⌝ }
+    ensures { λ r. ⌜ Turned (tablesOf (now (file .entry))) (now (p .entry)) (now (k .entry)) (indenterAt (now (levels .entry)) count top) t (now (fr .entry)) (now (seen .entry)) (now (out .entry)) (r .top) (r .step) (now (fr .exit)) (now (seen .exit)) (now (out .exit)) ⌝ }
 {
     let n = plan::kid_at(k, t.k);
     let v = judge(p, fr, seen, t.d, n);
@@ -153,14 +157,14 @@ pub fn kid_turn(
             };
         }
         Verdict::Show => {
-            return show(file, ix, p, k, fr, out, g, t, n);
+            return show(file, ix, p, k, fr, out, levels, count, top, t, n);
         }
     }
 }
 
 // Behind a run's line of b bytes its kids come up.
-pub fn next_run(p: &[u64; 1280], t: Top, b: usize) -> Top
-    requires { ⌜ Small t ⌝ }
+fn next_run(p: &[u64; 1280], t: Top, b: usize) -> Top
+    requires { ⌜ (t .r < 2048) × (t .units ≤ t .at) ⌝ }
     requires { ⌜ (0 < b) × (t .at + b < 18446744073709551616) ⌝ }
     ensures { λ u. ⌜ (u ≡ nextRun (now (p .entry)) t b) × (u .k < 2048) × (u .ke < 2048) ⌝ }
 {
@@ -180,27 +184,29 @@ pub fn next_run(p: &[u64; 1280], t: Top, b: usize) -> Top
 }
 
 // The next run's turn (lines 929 to 1062); `k` and `fr` are where the walk stands.
-pub fn run_turn(
+fn run_turn(
     file: &[u8],
     ix: &[u16; 10432],
     p: &[u64; 1280],
     k: &[u16; 1024],
-    fr: &[u64; 2080],
+    fr: &[u32; 2080],
     out: &mut [u8],
-    g: Indenter,
+    levels: &[u64; 65],
+    count: usize,
+    top: bool,
     t: Top,
 ) -> Move
     requires { ⌜ Loaded (now file) (now ix) ⌝ }
-    requires { ⌜ Small t ⌝ }
+    requires { ⌜ Small (now p) (now fr) t ⌝ }
     requires { ⌜ (t .ke ≤ t .k) × (t .r < t .re) ⌝ }
     requires { ⌜ t .at + length (now out) < 18446744073709551616 ⌝ }
-    requires { ⌜ (g .count ≤ 4160) × (marksOf g ≡ isNil (runsFrom (t .r + 1) (t .re)) ∷ F.marksOf (framesAt (now k) t (now fr))) ⌝ }
-    ensures { λ r. ⌜ ((seen : List ℕ) → Turned (tablesOf (now (file .entry))) (now (p .entry)) (now (k .entry)) g t (now (fr .entry)) seen (now (out .entry)) (r .top) (r .step) (now (fr .entry)) seen (now (out .exit))) ⌝ }
+    requires { ⌜ (count ≤ 4160) × (marksOf (indenterAt (now levels) count top) ≡ isNil (runsFrom (t .r + 1) (t .re)) ∷ F.marksOf (framesAt (now p) (now k) t (now fr))) ⌝ }
+    ensures { λ r. ⌜ ((seen : List ℕ) → Turned (tablesOf (now (file .entry))) (now (p .entry)) (now (k .entry)) (indenterAt (now (levels .entry)) count top) t (now (fr .entry)) seen (now (out .entry)) (r .top) (r .step) (now (fr .entry)) seen (now (out .exit))) ⌝ }
 {
     let x = t.r;
     let w = plan::wording(p, x);
     let q = plan::requirement(p, x);
-    let b = lines::run::run_line(file, ix, out, g, w, q);
+    let b = lines::run::run_line(file, ix, out, levels, count, top, w, q);
     if 0 < b {
         let u = next_run(p, t, b);
         return Move {
@@ -220,28 +226,30 @@ pub fn turn(
     ix: &[u16; 10432],
     p: &[u64; 1280],
     k: &[u16; 1024],
-    fr: &mut [u64; 2080],
+    fr: &mut [u32; 2080],
     seen: &mut [u8; 128],
     out: &mut [u8],
-    g: Indenter,
+    levels: &[u64; 65],
+    count: usize,
+    top: bool,
     t: Top,
 ) -> Move
     requires { ⌜ Loaded (now file) (now ix) ⌝ }
-    requires { ⌜ Small t ⌝ }
+    requires { ⌜ Small (now p) (now fr) t ⌝ }
     requires { ⌜ (length (now fr) ≡ 2080) × (length (now seen) ≡ 128) ⌝ }
     requires { ⌜ t .at + length (now out) < 18446744073709551616 ⌝ }
-    requires { ⌜ Level (now k) (now fr) t g ⌝ }
+    requires { ⌜ Level (now p) (now k) (now fr) t (indenterAt (now levels) count top) ⌝ }
     requires { ⌜ Known (tablesOf (now file)) (now p) (now k) t ⌝ }
-    ensures { λ r. ⌜ Turned (tablesOf (now (file .entry))) (now (p .entry)) (now (k .entry)) g t (now (fr .entry)) (now (seen .entry)) (now (out .entry)) (r .top) (r .step) (now (fr .exit)) (now (seen .exit)) (now (out .exit)) ⌝ }
+    ensures { λ r. ⌜ Turned (tablesOf (now (file .entry))) (now (p .entry)) (now (k .entry)) (indenterAt (now (levels .entry)) count top) t (now (fr .entry)) (now (seen .entry)) (now (out .entry)) (r .top) (r .step) (now (fr .exit)) (now (seen .exit)) (now (out .exit)) ⌝ }
 {
     if t.k < t.ke {
-        return kid_turn(file, ix, p, k, fr, seen, out, g, t);
+        return kid_turn(file, ix, p, k, fr, seen, out, levels, count, top, t);
     }
     if t.r < t.re {
-        return run_turn(file, ix, p, k, fr, out, g, t);
+        return run_turn(file, ix, p, k, fr, out, levels, count, top, t);
     }
     if 0 < t.d {
-        let u = pop(fr, t);
+        let u = pop(p, fr, t);
         return Move {
             top: u,
             step: Step::On,

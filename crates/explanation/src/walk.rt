@@ -9,6 +9,7 @@ ghost use mathlib.Core.List.{[]};
 ghost use lib.ListN.{length};
 ghost use Rattle.records.specs.Read.{tablesOf};
 ghost use Rattle.index.specs.Index.{Loaded};
+ghost use Rattle.plan.specs.Fields.{solvableIn};
 ghost use Rattle.explanation.specs.Judge.{Flags};
 ghost use Rattle.explanation.specs.Walk.{Ready, Answered, answerAt};
 
@@ -22,7 +23,7 @@ pub struct Told {
 }
 
 // The answer from where the walk stands.
-pub fn answer(number: u64, place: usize, t: Top) -> Told
+fn answer(number: u64, place: usize, t: Top) -> Told
     ensures { λ r. ⌜ r ≡ answerAt number place t ⌝ }
 {
     Told {
@@ -34,13 +35,21 @@ pub fn answer(number: u64, place: usize, t: Top) -> Told
     }
 }
 
-// The explanation of a packed plan: its text at the start of the room, and the answer.
-pub fn explain_plan(
+// Package n would be opened below itself.
+fn looped(p: &[u64; 1280], n: usize, t: Top) -> Told
+    ensures { λ r. ⌜ r ≡ answerAt 11 (solvableIn (now (p .entry)) n) t ⌝ }
+{
+    let place = basis::wide16(plan::solvable(p, n));
+    answer(11, place, t)
+}
+
+// The walk over lent frames and flags.
+fn walk_plan(
     file: &[u8],
     ix: &[u16; 10432],
     p: &[u64; 1280],
     k: &[u16; 1024],
-    fr: &mut [u64; 2080],
+    fr: &mut [u32; 2080],
     seen: &mut [u8; 128],
     out: &mut [u8],
     top: bool,
@@ -65,7 +74,19 @@ pub fn explain_plan(
     loop {
         g = level(g, t);
         let at = t.at;
-        let m = turn(file, ix, p, k, fr, seen, &mut out[at..], g, t);
+        let m = turn(
+            file,
+            ix,
+            p,
+            k,
+            fr,
+            seen,
+            &mut out[at..],
+            &g.levels,
+            g.count,
+            g.top,
+            t,
+        );
         let s = m.step;
         match s {
             Step::On => {
@@ -76,8 +97,7 @@ pub fn explain_plan(
                 return answer(0, 0, t);
             }
             Step::Loops(n) => {
-                let place = basis::wide16(plan::solvable(p, n));
-                return answer(11, place, t);
+                return looped(p, n, t);
             }
             Step::Full => {
                 let u = m.top;
@@ -88,4 +108,22 @@ pub fn explain_plan(
             }
         }
     }
+}
+
+// The explanation of a packed plan: its text at the start of the room, and the answer.
+pub fn explain_plan(
+    file: &[u8],
+    ix: &[u16; 10432],
+    p: &[u64; 1280],
+    k: &[u16; 1024],
+    out: &mut [u8],
+    top: bool,
+) -> Told
+    requires { ⌜ Loaded (now file) (now ix) ⌝ }
+    requires { ⌜ Ready (tablesOf (now file)) (now p) (now k) ⌝ }
+    ensures { λ r. ⌜ Answered (tablesOf (now (file .entry))) (now (p .entry)) (now (k .entry)) top (now (out .entry)) (now (out .exit)) r ⌝ }
+{
+    let mut fr = [0u32; 2080];
+    let mut seen = [0u8; 128];
+    walk_plan(file, ix, p, k, &mut fr, &mut seen, out, top)
 }

@@ -176,7 +176,7 @@ pub ruleset ends = (end-drawn, end-unreached)
 -- ---- the whole
 
 -- the tables as building starts: s is what `start` gave
-pub start-holds : (g tr w : List ℕ) (s : Size) → Growing g s → length tr ≡ 1024 → w ≡ replicate 3456 0 → Holds g tr w (record { size = s; triples = 0 })
+pub start-holds : (g tr w : List ℕ) (s : Size) → Growing g s → length tr ≡ 1280 → w ≡ replicate 3456 0 → Holds g tr w (record { size = s; triples = 0 })
 start-holds g tr w s P h e =
     record { growing = P; triples = triples-none tr w (rw e clear-fresh) h; few = omega arith }
 

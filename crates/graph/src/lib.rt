@@ -62,7 +62,7 @@ fn core_turn(
     file: &[u8],
     ix: &[u16; 10432],
     g: &mut [u64; 1152],
-    tr: &mut [u64; 1024],
+    tr: &mut [u64; 1280],
     w: &mut [u16; 3456],
     k: Work,
     c: Clause,
@@ -87,7 +87,7 @@ fn turn_at(
     file: &[u8],
     ix: &[u16; 10432],
     g: &mut [u64; 1152],
-    tr: &mut [u64; 1024],
+    tr: &mut [u64; 1280],
     w: &mut [u16; 3456],
     k: Work,
     i: usize,
@@ -109,7 +109,7 @@ fn build_core(
     ix: &[u16; 10432],
     n: usize,
     g: &mut [u64; 1152],
-    tr: &mut [u64; 1024],
+    tr: &mut [u64; 1280],
     w: &mut [u16; 3456],
     k: Work,
 ) -> Core
@@ -157,13 +157,13 @@ pub fn build(
     ix: &[u16; 10432],
     n: usize,
     g: &mut [u64; 1152],
-    tr: &mut [u64; 1024],
+    tr: &mut [u64; 1280],
     w: &mut [u16; 3456],
 ) -> Drawing
     requires { ⌜ Loaded (now file) (now ix) ⌝ }
     requires { ⌜ n ≡ length (tablesOf (now file) .clauses) ⌝ }
     requires { ⌜ now g ≡ replicate 1152 0 ⌝ }
-    requires { ⌜ length (now tr) ≡ 1024 ⌝ }
+    requires { ⌜ length (now tr) ≡ 1280 ⌝ }
     requires { ⌜ now w ≡ replicate 3456 0 ⌝ }
     ensures { λ r. ⌜ Drew (graphOf (tablesOf (now (file .entry)))) (leftOf (tablesOf (now (file .entry)))) (now (g .exit)) (now (w .exit)) r ⌝ }
 {

@@ -62,5 +62,6 @@ load-counts file r c e q = taken file r c e q .counts
 pub load-loaded : (file ix iy : List ℕ) (r : Answer) (c : Counts) → Held r file ix iy → r ≡ Accepted c → Loaded file iy
 load-loaded file ix iy r c h q = rw q at h
 
-pub load-kept : (file ix iy : List ℕ) (r : Answer) (k i : ℕ) → Held r file ix iy → r ≡ Refused k i → iy ≡ ix
-load-kept file ix iy r k i h q = rw q at h
+-- the number of clauses that the reader counted
+pub clauses-counted : (file : List ℕ) (r : Answer) (c : Counts) → r ≡ Accepted c → r ≡ answerOf (readOf file) → c .clauses ≡ length (tablesOf file .clauses)
+clauses-counted file r c q e = ap (λ (d : Counts). d .clauses) (load-counts file r c e q)

@@ -1,3 +1,4 @@
 pub mod Marks
 pub mod Sets
 pub mod Line
+pub mod Exact

@@ -11,7 +11,7 @@ use Rattle.basis.specs.Members.{split}
 use Rattle.store.specs.declared.Edge.{Edge}
 use Rattle.store.specs.Table.{edgeIn}
 use Rattle.links.specs.Walk.{outLeft, nextOut, out-end}
-use Rattle.plan.specs.Plan.{Kind, isForbid, setsOf, bySets, byReasons}
+use Rattle.plan.specs.Plan.{Kind, excluded, bare, conflicting, constraining, requiring, isForbid, setsOf, bySets, byReasons}
 use Rattle.plan.specs.Fields.{kindBy, setsFrom, sets-none, sets-more, setAt}
 use Rattle.runs.specs.Along.{Way, way-cons, Only, only-none}
 use Rattle.kinds.specs.Marks.{markOf, reasonsIn, forbidsIn}
@@ -22,8 +22,33 @@ unfoldable pub kindFor : List ℕ → List Edge → Kind
 unfolding reasonsIn
 kindFor g es = byReasons es (reasonsIn g es)
 
+-- what a package's words say of its line: the number of its kind, its reason, its version sets
+abbrev pub kindTag : Kind → ℕ
+kindTag (excluded r) = 0
+kindTag bare = 1
+kindTag conflicting = 2
+kindTag (constraining vs) = 3
+kindTag requiring = 4
+
+abbrev pub kindReason : Kind → ℕ
+kindReason (excluded r) = r
+kindReason bare = 0
+kindReason conflicting = 0
+kindReason (constraining vs) = 0
+kindReason requiring = 0
+
+abbrev pub kindSets : Kind → List ℕ
+kindSets (excluded r) = []
+kindSets bare = []
+kindSets conflicting = []
+kindSets (constraining vs) = vs
+kindSets requiring = []
+
 pub record Lined (g : List ℕ) (es : List Edge) (k : List ℕ) (kc : ℕ) (u : List ℕ) (kind reason kid : ℕ) : Type 0 where
   pub is : kindBy kind reason (setsFrom u kid kc) ≡ kindFor g es
+  pub kind-is : kind ≡ kindTag (kindFor g es)
+  pub reason-is : reason ≡ kindReason (kindFor g es)
+  pub sets-are : setsFrom u kid kc ≡ kindSets (kindFor g es)
   pub only : Only k u kid kc
   pub under : kid ≤ kc
   pub few : kc ≤ kid + length (setsAll es)
@@ -50,8 +75,12 @@ module _ (g ls k : List ℕ) (n e kc : ℕ) (z : SetsReady g ls k n e kc) (m : �
   pub line-excluded : m ≤ 65536 → 0 < m → Lined g (outLeft g n e) k kc k 0 (m - 1) kc
   unfolding kindFor
   line-excluded l h =
+      let y : kindBy 0 (m - 1) [] ≡ kindFor g (outLeft g n e) = some-reason (reasonsIn g (outLeft g n e)) m is h (outLeft g n e) in
       record {
-        is = some-reason (reasonsIn g (outLeft g n e)) m is h (outLeft g n e);
+        is = y;
+        kind-is = ap kindTag y;
+        reason-is = ap kindReason y;
+        sets-are = sets-none k kc kc (omega arith) ∙ ap kindSets y;
         only = only-none k kc;
         under = omega arith;
         few = omega arith;
@@ -66,8 +95,12 @@ module _ (g ls k : List ℕ) (n e kc : ℕ) (z : SetsReady g ls k n e kc) (m : �
 
     pub line-bare : e ≡ 0 → Lined g (outLeft g n e) k kc k 1 0 kc
     line-bare q =
+        let y : kindBy 1 0 [] ≡ kindFor g (outLeft g n e) = sym (plain ∙ ap (λ (es : List Edge). byReasons es []) (out-end g n e (omega arith))) in
         record {
-          is = sym (plain ∙ ap (λ (es : List Edge). byReasons es []) (out-end g n e (omega arith)));
+          is = y;
+          kind-is = ap kindTag y;
+          reason-is = ap kindReason y;
+          sets-are = sets-none k kc kc (omega arith) ∙ ap kindSets y;
           only = only-none k kc;
           under = omega arith;
           few = omega arith;
@@ -85,8 +118,12 @@ module _ (g ls k : List ℕ) (n e kc : ℕ) (z : SetsReady g ls k n e kc) (m : �
 
       pub line-forbid : b ≡ true → Lined g (outLeft g n e) k kc k 2 0 kc
       line-forbid t =
+          let y : kindBy 2 0 [] ≡ kindFor g (outLeft g n e) = sym (some-edge ∙ ap (λ (x : Bool). cond x (kindBy 2 0 []) (bySets (setsOf (outLeft g n e)))) t) in
           record {
-            is = sym (some-edge ∙ ap (λ (x : Bool). cond x (kindBy 2 0 []) (bySets (setsOf (outLeft g n e)))) t);
+            is = y;
+            kind-is = ap kindTag y;
+            reason-is = ap kindReason y;
+            sets-are = sets-none k kc kc (omega arith) ∙ ap kindSets y;
             only = only-none k kc;
             under = omega arith;
             few = omega arith;
@@ -100,8 +137,12 @@ module _ (g ls k : List ℕ) (n e kc : ℕ) (z : SetsReady g ls k n e kc) (m : �
 
         pub line-constrains : c < kc → Lined g (outLeft g n e) k kc u 3 0 c
         line-constrains l =
+            let x : kindBy 3 0 (setsFrom u c kc) ≡ kindFor g (outLeft g n e) = sym (last ∙ ap bySets (sets-more u c kc l) ∙ ap (kindBy 3 0) (sym (sets-more u c kc l))) in
             record {
-              is = sym (last ∙ ap bySets (sets-more u c kc l) ∙ ap (kindBy 3 0) (sym (sets-more u c kc l)));
+              is = x;
+              kind-is = ap kindTag x;
+              reason-is = ap kindReason x;
+              sets-are = ap kindSets x;
               only = y .only;
               under = y .under;
               few = y .few;
@@ -111,8 +152,12 @@ module _ (g ls k : List ℕ) (n e kc : ℕ) (z : SetsReady g ls k n e kc) (m : �
 
         pub line-requires : kc ≤ c → Lined g (outLeft g n e) k kc u 4 0 c
         line-requires l =
+            let x : kindBy 4 0 [] ≡ kindFor g (outLeft g n e) = sym (last ∙ ap bySets (sets-none u c kc l)) in
             record {
-              is = sym (last ∙ ap bySets (sets-none u c kc l));
+              is = x;
+              kind-is = ap kindTag x;
+              reason-is = ap kindReason x;
+              sets-are = sets-none u c kc l ∙ ap kindSets x;
               only = y .only;
               under = y .under;
               few = y .few;

@@ -207,9 +207,3 @@ marks-end G s ms q =
 pub marks-at : (G : Graph) (n : ℕ) → n < 128 → getD (marksOf G) n 0 ≡ bitsOf (installable G n) (missing G n)
 unfolding marksOf
 marks-at G n h = upto-at (λ n. bitsOf (installable G n) (missing G n)) 128 0 n h ∙ (let z : 0 + n ≡ n = omega arith in rw z)
-
-pub bits-small : (a b : Bool) → bitsOf a b < 4
-bits-small true true = omega arith
-bits-small true false = omega arith
-bits-small false true = omega arith
-bits-small false false = omega arith

@@ -15,8 +15,6 @@ use Rattle.records.specs.Tables.{Tables}
 use Rattle.records.specs.Views.{nameText, solvableName, versionText, reasonText}
 use Rattle.texts.specs.Wrote.{Wrote, wrote-none, wrote-length, behind}
 use Rattle.texts.specs.Indent.{indent}
-use Rattle.texts.specs.Marks.{marksOf}
-use Rattle.texts.specs.declared.Indenter.{Indenter}
 use Rattle.plan.specs.Fields.{solvableIn, membersIn, leadIn, mateIn, matesFrom, mates-none, mates-more, mates-less, tagIn, reasonIn, textLength}
 use Rattle.lines.specs.Said.{nextVersion, versionsIn, joinedIn, packageIn, packageTail, tailSize, packageSaid}
 use Rattle.lines.specs.Tried.{Tried, tried-wrote, tried-full}
@@ -229,26 +227,26 @@ module _ (T : Tables) (t why : ℕ) where
 
 -- ---- the line; a: the indent's length, x: the package's
 
-module _ (T : Tables) (p : List ℕ) (g : Indenter) (n t why : ℕ) (ti : t ≡ tagIn p n) (wi : why ≡ reasonIn p n) where
-  line-is : packageSaid T p (g .top) (marksOf g) n ≡ indent (g .top) (marksOf g) ++ packageIn T p n ++ packageTail T t why
+module _ (T : Tables) (p : List ℕ) (top : Bool) (ms : List Bool) (n t why : ℕ) (ti : t ≡ tagIn p n) (wi : why ≡ reasonIn p n) where
+  line-is : packageSaid T p top ms n ≡ indent top ms ++ packageIn T p n ++ packageTail T t why
   unfolding packageSaid
   line-is = rw (ti, wi)
 
-  line-size : length (packageSaid T p (g .top) (marksOf g) n) ≡ length (indent (g .top) (marksOf g)) + length (packageIn T p n) + length (packageTail T t why)
+  line-size : length (packageSaid T p top ms n) ≡ length (indent top ms) + length (packageIn T p n) + length (packageTail T t why)
   line-size = rw (line-is, length-append, length-append)
 
-  pub line-wrote : (o d : List ℕ) (r : ℕ) → Wrote (indent (g .top) (marksOf g) ++ packageIn T p n ++ packageTail T t why) o d r → Tried (packageSaid T p (g .top) (marksOf g) n) o d r
+  pub line-wrote : (o d : List ℕ) (r : ℕ) → Wrote (indent top ms ++ packageIn T p n ++ packageTail T t why) o d r → Tried (packageSaid T p top ms n) o d r
   line-wrote o d r h = let l = line-size in let z = tail-some T t why in tried-wrote (rw line-is h) (omega arith)
 
-  module _ (o : List ℕ) (a x : ℕ) (f : Bool) (fi : f ≡ leb (a + x + length (packageTail T t why)) (length o)) (ai : a ≡ length (indent (g .top) (marksOf g)))
+  module _ (o : List ℕ) (a x : ℕ) (f : Bool) (fi : f ≡ leb (a + x + length (packageTail T t why)) (length o)) (ai : a ≡ length (indent top ms))
       (xi : x ≡ textLength p n) (sized : textLength p n ≡ length (packageIn T p n)) where
-    pub line-full : not f ≡ true → Tried (packageSaid T p (g .top) (marksOf g) n) o o 0
+    pub line-full : not f ≡ true → Tried (packageSaid T p top ms n) o o 0
     line-full e =
         let l = line-size in
         let h : length o < a + x + length (packageTail T t why) = leb-false (a + x + length (packageTail T t why)) (length o) (sym fi ∙ not-true f e) in
-        tried-full (packageSaid T p (g .top) (marksOf g) n) o (omega arith)
+        tried-full (packageSaid T p top ms n) o (omega arith)
 
-    pub line-room : not f ≡ false → length (indent (g .top) (marksOf g)) + length (packageIn T p n) + length (packageTail T t why) ≤ length o
+    pub line-room : not f ≡ false → length (indent top ms) + length (packageIn T p n) + length (packageTail T t why) ≤ length o
     line-room e =
         let h : a + x + length (packageTail T t why) ≤ length o = leb-true (a + x + length (packageTail T t why)) (length o) (sym fi ∙ not-false f e) in
         omega arith

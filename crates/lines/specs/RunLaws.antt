@@ -13,8 +13,8 @@ use Rattle.records.specs.Tables.{Tables}
 use Rattle.records.specs.Views.{requirementText}
 use Rattle.texts.specs.Wrote.{Wrote, wrote-none}
 use Rattle.texts.specs.Indent.{indent, atTop}
-use Rattle.texts.specs.Marks.{marksOf}
-use Rattle.texts.specs.declared.Indenter.{Indenter}
+use Rattle.texts.specs.Marks.{marksAt, marksOf}
+use Rattle.texts.specs.Levels.{marks-count}
 use Rattle.lines.specs.Said.{runLead, runTail, runSaid, wordsSize}
 use Rattle.lines.specs.Tried.{Tried, tried-wrote, tried-full}
 
@@ -155,35 +155,35 @@ unfolding runTail
 tail-some true w = split (eqb w 0) (λ q. rw q (omega arith)) (λ q. split (eqb w 1) (λ e. rw (q, e) (omega arith)) (λ e. rw (q, e) (omega arith)))
 tail-some false w = split (eqb w 0) (λ q. rw q (omega arith)) (λ q. split (eqb w 1) (λ e. rw (q, e) (omega arith)) (λ e. rw (q, e) (omega arith)))
 
--- t: at the top level; a: the indent's length, s: that of the wording, text: the requirement's
-module _ (T : Tables) (g : Indenter) (w q : ℕ) (t : Bool) (ti : t ≡ atTop (marksOf g)) (text : List ℕ) (is : text ≡ requirementText T q) where
-  run-is : runSaid T (g .top) (marksOf g) w q ≡ indent (g .top) (marksOf g) ++ runLead t w ++ text ++ runTail t w
-  unfolding runSaid
-  run-is = rw (is, ti)
+-- a: the indent's length, s: that of the wording, text: the requirement's
+module _ (T : Tables) (top : Bool) (ws : List ℕ) (n w q : ℕ) (text : List ℕ) (is : text ≡ requirementText T q) where
+  run-is : runSaid T top (marksAt ws n) w q ≡ indent top (marksAt ws n) ++ runLead (eqb n 1) w ++ text ++ runTail (eqb n 1) w
+  unfolding runSaid marksOf
+  run-is = let c : length (marksAt ws n) ≡ n = marks-count (record { levels = ws; count = n; top = top }) in rw (is, c)
 
-  run-size : length (runSaid T (g .top) (marksOf g) w q) ≡ length (indent (g .top) (marksOf g)) + (length (runLead t w) + length (runTail t w)) + length text
+  run-size : length (runSaid T top (marksAt ws n) w q) ≡ length (indent top (marksAt ws n)) + (length (runLead (eqb n 1) w) + length (runTail (eqb n 1) w)) + length text
   run-size = rw (run-is, length-append, length-append, length-append) (omega arith)
 
-  pub run-wrote : (o d : List ℕ) (r : ℕ) → Wrote (indent (g .top) (marksOf g) ++ runLead t w ++ text ++ runTail t w) o d r → Tried (runSaid T (g .top) (marksOf g) w q) o d r
+  pub run-wrote : (o d : List ℕ) (r : ℕ) → Wrote (indent top (marksAt ws n) ++ runLead (eqb n 1) w ++ text ++ runTail (eqb n 1) w) o d r → Tried (runSaid T top (marksAt ws n) w q) o d r
   run-wrote o d r h =
       let l = run-size in
-      let z = tail-some t w in
+      let z = tail-some (eqb n 1) w in
       tried-wrote (rw run-is h) (omega arith)
 
-  module _ (o : List ℕ) (a s : ℕ) (f : Bool) (fi : f ≡ leb (a + s + length text) (length o)) (ai : a ≡ length (indent (g .top) (marksOf g)))
-      (si : s ≡ wordsSize t w) where
-    s-is : s ≡ length (runLead t w) + length (runTail t w)
+  module _ (o : List ℕ) (a s : ℕ) (f : Bool) (fi : f ≡ leb (a + s + length text) (length o)) (ai : a ≡ length (indent top (marksAt ws n)))
+      (si : s ≡ wordsSize (eqb n 1) w) where
+    s-is : s ≡ length (runLead (eqb n 1) w) + length (runTail (eqb n 1) w)
     unfolding wordsSize
     s-is = si
 
-    pub run-full : not f ≡ true → Tried (runSaid T (g .top) (marksOf g) w q) o o 0
+    pub run-full : not f ≡ true → Tried (runSaid T top (marksAt ws n) w q) o o 0
     run-full e =
         let l = run-size in
         let k = s-is in
         let h : length o < a + s + length text = leb-false (a + s + length text) (length o) (sym fi ∙ not-true f e) in
-        tried-full (runSaid T (g .top) (marksOf g) w q) o (omega arith)
+        tried-full (runSaid T top (marksAt ws n) w q) o (omega arith)
 
-    pub run-room : not f ≡ false → length (indent (g .top) (marksOf g)) + (length (runLead t w) + length (runTail t w)) + length text ≤ length o
+    pub run-room : not f ≡ false → length (indent top (marksAt ws n)) + (length (runLead (eqb n 1) w) + length (runTail (eqb n 1) w)) + length text ≤ length o
     run-room e =
         let k = s-is in
         let h : a + s + length text ≤ length o = leb-true (a + s + length text) (length o) (sym fi ∙ not-false f e) in

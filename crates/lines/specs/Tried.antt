@@ -9,7 +9,8 @@ use lib.Dec.{leb}
 use borrow.Author.Tests.{leb-true, leb-false, not-true, not-false}
 use borrow.Rule.Slice.PartMut.{putMid}
 use Rattle.basis.specs.Lists.{concatMap}
-use Rattle.texts.specs.Wrote.{Wrote, behind, wrote-none, wrote-length}
+use Rattle.basis.specs.Members.{split}
+use Rattle.texts.specs.Wrote.{Wrote, behind, wrote-none, wrote-length, wrote-one}
 
 -- r: the line's length, or 0 where the room is too short for it
 pub record Tried (line room left : List ℕ) (r : ℕ) : Type 0 where
@@ -45,3 +46,85 @@ pub record Broken (ls : List (List ℕ)) (room left : List ℕ) (bytes units : �
 abbrev pub Lined : List (List ℕ) → List ℕ → List ℕ → ℕ → ℕ → Bool → Type 0
 Lined ls o d b u false = Whole ls o d b u
 Lined ls o d b u true = Broken ls o d b u
+
+-- ---- two results that the relations allow are equal
+
+pub tried-one : {line o d e : List ℕ} {n m : ℕ} → Tried line o d n → Tried line o e m → (n ≡ m) × (d ≡ e)
+tried-one {line} {o} {d} {e} {n} {m} x y =
+    split (leb n 0)
+    (λ a. split (leb m 0)
+    (λ b.
+    let i = leb-true n 0 a in
+    let j = leb-true m 0 b in
+    (omega arith, x .full i .0 ∙ sym (y .full j .0)))
+    (λ b.
+    let i = leb-true n 0 a in
+    let j = y .wrote (leb-false m 0 b) in
+    let z : ⊥ = (let f = x .full i .1 in let g = j .fits in omega arith) in
+    absurd z))
+    (λ a. split (leb m 0)
+    (λ b.
+    let i = x .wrote (leb-false n 0 a) in
+    let j = leb-true m 0 b in
+    let z : ⊥ = (let f = i .fits in let g = y .full j .1 in omega arith) in
+    absurd z)
+    (λ b.
+    let w = wrote-one (x .wrote (leb-false n 0 a)) (y .wrote (leb-false m 0 b)) in
+    (w .1, w .0)))
+
+text-length : (l : List ℕ) (ls : List (List ℕ)) → length (textAll (l ∷ ls)) ≡ length l + length (textAll ls)
+text-length l ls = length-append l (textAll ls)
+
+text-least : (ls : List (List ℕ)) (l : List ℕ) (ms : List (List ℕ)) → length (textAll ls) + length l ≤ length (textAll (ls ++ (l ∷ ms)))
+text-least [] l ms = let a = text-length l ms in omega arith
+text-least (x ∷ ls) l ms = let h = text-least ls l ms in let a = text-length x ls in let b = text-length x (ls ++ (l ∷ ms)) in omega arith
+
+same-head : {A : Type 0} {x y : A} {xs ys : List A} → _≡_ {A = List A} (x ∷ xs) (y ∷ ys) → x ≡ y
+same-head e = cc
+
+same-tail : {A : Type 0} {x y : A} {xs ys : List A} → _≡_ {A = List A} (x ∷ xs) (y ∷ ys) → xs ≡ ys
+same-tail e = cc
+
+-- the lines before the first that does not fit
+same-first : (f g : List (List ℕ)) (l m : List ℕ) (fs gs : List (List ℕ)) (room : ℕ) → f ++ (l ∷ fs) ≡ g ++ (m ∷ gs) → length (textAll f) ≤ room → room < length (textAll f) + length l
+    → length (textAll g) ≤ room → room < length (textAll g) + length m → f ≡ g
+same-first [] [] l m fs gs room e a b c d = refl
+same-first [] (y ∷ g) l m fs gs room e a b c d =
+    let q : length l ≡ length y = ap length (same-head e) in
+    let t = text-length y g in
+    let z : ⊥ = omega arith in
+    absurd z
+same-first (x ∷ f) [] l m fs gs room e a b c d =
+    let q : length x ≡ length m = ap length (same-head e) in
+    let t = text-length x f in
+    let z : ⊥ = omega arith in
+    absurd z
+same-first (x ∷ f) (y ∷ g) l m fs gs room e a b c d =
+    let q = same-head e in
+    let i = text-length x f in
+    let j = text-length y g in
+    let n : length x ≡ length y = ap length q in
+    let t = same-first f g l m fs gs (room - length x) (same-tail e) (omega arith) (omega arith) (omega arith) (omega arith) in
+    rw (q, t)
+
+whole-broken : {ls : List (List ℕ)} {o d e : List ℕ} {b c u v : ℕ} → Whole ls o d b u → Broken ls o e c v → ⊥
+whole-broken {ls} {o} {d} {e} {b} {c} {u} {v} x y =
+    let t = text-least (y .first) (y .line) (y .rest) in
+    let q : length (textAll ls) ≡ length (textAll (y .first ++ (y .line ∷ y .rest))) = ap (λ (z : List (List ℕ)). length (textAll z)) (y .is) in
+    let f = x .wrote .fits in
+    let g = y .wrote .count in
+    let h = y .over in
+    omega arith
+
+pub lined-one : (ls : List (List ℕ)) (o d e : List ℕ) (b c u v : ℕ) (f g : Bool) → Lined ls o d b u f → Lined ls o e c v g → (b ≡ c) × (u ≡ v) × (f ≡ g) × (d ≡ e)
+lined-one ls o d e b c u v false false x y =
+    let w = wrote-one (x .wrote) (y .wrote) in (w .1, x .count ∙ sym (y .count), refl, w .0)
+lined-one ls o d e b c u v false true x y = absurd (whole-broken x y)
+lined-one ls o d e b c u v true false x y = absurd (whole-broken y x)
+lined-one ls o d e b c u v true true x y =
+    let p = x .wrote .count in
+    let q = y .wrote .count in
+    let s : x .first ≡ y .first =
+    same-first (x .first) (y .first) (x .line) (y .line) (x .rest) (y .rest) (length o) (sym (x .is) ∙ y .is) (x .wrote .fits) (let h = x .over in omega arith) (y .wrote .fits) (let h = y .over in omega arith) in
+    let w = wrote-one (x .wrote) (rw (← s) at (y .wrote)) in
+    (w .1, x .count ∙ ap length s ∙ sym (y .count), refl, w .0)

@@ -1,5 +1,5 @@
 // The lines of an entry of `fmt_graph`: each is measured, and written whole or not at all.
-pub mod package;
+mod package;
 pub mod run;
 pub mod sets;
 
@@ -8,7 +8,7 @@ ghost use Prim.Native.Nat.{_+_};
 ghost use lib.Dec.{leb};
 
 // Whether so many bytes and so many more are within the room; the sum is not formed where it could be too large.
-pub fn fits(room: usize, fixed: usize, more: usize) -> bool
+fn fits(room: usize, fixed: usize, more: usize) -> bool
     ensures { λ r. ⌜ r ≡ leb (fixed + more) room ⌝ }
 {
     if room < fixed {

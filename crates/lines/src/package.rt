@@ -1,6 +1,7 @@
 // A package's line (conflict.rs, lines 1070 to 1153).
 use super::fits;
-use texts::Indenter;
+use texts::pieces::length_of;
+use texts::pieces::put_indent;
 use texts::wordings;
 use texts::writers::put;
 ghost use mathlib.Core.Path.{_≡_};
@@ -13,14 +14,14 @@ ghost use Rattle.records.specs.Read.{tablesOf};
 ghost use Rattle.records.specs.Views.{versionText};
 ghost use Rattle.index.specs.Index.{Loaded};
 ghost use Rattle.texts.specs.Wrote.{Wrote};
-ghost use Rattle.texts.specs.Marks.{marksOf};
+ghost use Rattle.texts.specs.Marks.{marksAt};
 ghost use Rattle.texts.specs.Indent.{indent};
 ghost use Rattle.plan.specs.Fields.{textLength, tagIn, reasonIn, matesFrom};
 ghost use Rattle.lines.specs.Said.{nextVersion, versionsIn, packageIn, packageTail, packageSaid, tailSize};
 ghost use Rattle.lines.specs.Tried.{Tried};
 
 // A version behind another.
-pub fn put_next(out: &mut [u8], version: &[u8]) -> usize
+fn put_next(out: &mut [u8], version: &[u8]) -> usize
     requires { ⌜ 3 + length (now version) ≤ length (now out) ⌝ }
     ensures { λ r. ⌜ Wrote (utf8 " | " ++ now (version .entry)) (now (out .entry)) (now (out .exit)) r ⌝ }
 {
@@ -29,7 +30,7 @@ pub fn put_next(out: &mut [u8], version: &[u8]) -> usize
 }
 
 // A further version of a group.
-pub fn put_version(file: &[u8], ix: &[u16; 10432], out: &mut [u8], s: u16) -> usize
+fn put_version(file: &[u8], ix: &[u16; 10432], out: &mut [u8], s: u16) -> usize
     requires { ⌜ Loaded (now file) (now ix) ⌝ }
     requires { ⌜ 3 + length (versionText (tablesOf (now file)) s) ≤ length (now out) ⌝ }
     ensures { λ r. ⌜ Wrote (nextVersion (tablesOf (now (file .entry))) s) (now (out .entry)) (now (out .exit)) r ⌝ }
@@ -39,13 +40,7 @@ pub fn put_version(file: &[u8], ix: &[u16; 10432], out: &mut [u8], s: u16) -> us
 }
 
 // The versions from member x - 1 of a group on.
-pub fn put_versions(
-    file: &[u8],
-    ix: &[u16; 10432],
-    p: &[u64; 1280],
-    out: &mut [u8],
-    x: usize,
-) -> usize
+fn put_versions(file: &[u8], ix: &[u16; 10432], p: &[u64; 1280], out: &mut [u8], x: usize) -> usize
     requires { ⌜ Loaded (now file) (now ix) ⌝ }
     requires { ⌜ x < 256 ⌝ }
     requires { ⌜ length (versionsIn (tablesOf (now file)) (now p) (matesFrom (now p) x)) ≤ length (now out) ⌝ }
@@ -63,7 +58,7 @@ pub fn put_versions(
 }
 
 // The name and the first version.
-pub fn put_first(out: &mut [u8], name: &[u8], version: &[u8]) -> usize
+fn put_first(out: &mut [u8], name: &[u8], version: &[u8]) -> usize
     requires { ⌜ length (now name) + 1 + length (now version) ≤ length (now out) ⌝ }
     ensures { λ r. ⌜ r ≡ length (now (name .entry)) + 1 + length (now (version .entry)) ⌝ }
     ensures { λ r. ⌜ Wrote (now (name .entry) ++ utf8 " " ++ now (version .entry)) (now (out .entry)) (now (out .exit)) r ⌝ }
@@ -74,7 +69,7 @@ pub fn put_first(out: &mut [u8], name: &[u8], version: &[u8]) -> usize
 }
 
 // The name and the versions, of which those from member next - 1 on are further ones.
-pub fn put_named(
+fn put_named(
     file: &[u8],
     ix: &[u16; 10432],
     p: &[u64; 1280],
@@ -93,13 +88,7 @@ pub fn put_named(
 }
 
 // "Solvable text: name, space, version; a group: name, space, versions joined".
-pub fn put_package(
-    file: &[u8],
-    ix: &[u16; 10432],
-    p: &[u64; 1280],
-    out: &mut [u8],
-    n: usize,
-) -> usize
+fn put_package(file: &[u8], ix: &[u16; 10432], p: &[u64; 1280], out: &mut [u8], n: usize) -> usize
     requires { ⌜ Loaded (now file) (now ix) ⌝ }
     requires { ⌜ length (packageIn (tablesOf (now file)) (now p) n) ≤ length (now out) ⌝ }
     ensures { λ r. ⌜ Wrote (packageIn (tablesOf (now (file .entry))) (now (p .entry)) n) (now (out .entry)) (now (out .exit)) r ⌝ }
@@ -116,7 +105,7 @@ pub fn put_package(
 }
 
 // The bytes behind the package, but for a reason's own.
-pub fn tail_size(t: u64) -> usize
+fn tail_size(t: u64) -> usize
     ensures { λ r. ⌜ (r ≡ tailSize t) × (r ≤ 52) ⌝ }
 {
     if t == 0 {
@@ -135,14 +124,7 @@ pub fn tail_size(t: u64) -> usize
 }
 
 // Whether the room holds so many bytes and what stands behind the package.
-pub fn tail_fits(
-    file: &[u8],
-    ix: &[u16; 10432],
-    room: usize,
-    fixed: usize,
-    t: u64,
-    reason: u16,
-) -> bool
+fn tail_fits(file: &[u8], ix: &[u16; 10432], room: usize, fixed: usize, t: u64, reason: u16) -> bool
     requires { ⌜ Loaded (now file) (now ix) ⌝ }
     requires { ⌜ fixed < 131072 ⌝ }
     ensures { λ r. ⌜ r ≡ leb (fixed + length (packageTail (tablesOf (now (file .entry))) t reason)) room ⌝ }
@@ -156,7 +138,7 @@ pub fn tail_fits(
 }
 
 // The reason for which a package is excluded.
-pub fn put_reason(out: &mut [u8], text: &[u8]) -> usize
+fn put_reason(out: &mut [u8], text: &[u8]) -> usize
     requires { ⌜ 22 + length (now text) ≤ length (now out) ⌝ }
     ensures { λ r. ⌜ Wrote (utf8 " is excluded because " ++ now (text .entry) ++ utf8 "\n") (now (out .entry)) (now (out .exit)) r ⌝ }
 {
@@ -166,7 +148,7 @@ pub fn put_reason(out: &mut [u8], text: &[u8]) -> usize
 }
 
 // What stands behind the package.
-pub fn put_tail(file: &[u8], ix: &[u16; 10432], out: &mut [u8], t: u64, reason: u16) -> usize
+fn put_tail(file: &[u8], ix: &[u16; 10432], out: &mut [u8], t: u64, reason: u16) -> usize
     requires { ⌜ Loaded (now file) (now ix) ⌝ }
     requires { ⌜ length (packageTail (tablesOf (now file)) t reason) ≤ length (now out) ⌝ }
     ensures { λ r. ⌜ Wrote (packageTail (tablesOf (now (file .entry))) t reason) (now (out .entry)) (now (out .exit)) r ⌝ }
@@ -188,45 +170,49 @@ pub fn put_tail(file: &[u8], ix: &[u16; 10432], out: &mut [u8], t: u64, reason: 
 }
 
 // The line, where it fits.
-pub fn put_line(
+fn put_line(
     file: &[u8],
     ix: &[u16; 10432],
     p: &[u64; 1280],
     out: &mut [u8],
-    g: Indenter,
+    levels: &[u64; 65],
+    count: usize,
+    top: bool,
     n: usize,
     t: u64,
     why: u16,
 ) -> usize
     requires { ⌜ Loaded (now file) (now ix) ⌝ }
-    requires { ⌜ g .count ≤ 4160 ⌝ }
-    requires { ⌜ length (indent (g .top) (marksOf g)) + length (packageIn (tablesOf (now file)) (now p) n) + length (packageTail (tablesOf (now file)) t why) ≤ length (now out) ⌝ }
-    ensures { λ r. ⌜ Wrote (indent (g .top) (marksOf g) ++ packageIn (tablesOf (now (file .entry))) (now (p .entry)) n ++ packageTail (tablesOf (now (file .entry))) t why) (now (out .entry)) (now (out .exit)) r ⌝ }
+    requires { ⌜ count ≤ 4160 ⌝ }
+    requires { ⌜ length (indent top (marksAt (now levels) count)) + length (packageIn (tablesOf (now file)) (now p) n) + length (packageTail (tablesOf (now file)) t why) ≤ length (now out) ⌝ }
+    ensures { λ r. ⌜ Wrote (indent top (marksAt (now (levels .entry)) count) ++ packageIn (tablesOf (now (file .entry))) (now (p .entry)) n ++ packageTail (tablesOf (now (file .entry))) t why) (now (out .entry)) (now (out .exit)) r ⌝ }
 {
-    let a = g.get_indent(out);
+    let a = put_indent(out, levels, count, top);
     let b = a + put_package(file, ix, p, &mut out[a..], n);
     b + put_tail(file, ix, &mut out[b..], t, why)
 }
 
-// The line of package n: its length, or 0 where it does not fit.
+// The line of package n under these levels: its length, or 0 where it does not fit.
 pub fn package_line(
     file: &[u8],
     ix: &[u16; 10432],
     p: &[u64; 1280],
     out: &mut [u8],
-    g: Indenter,
+    levels: &[u64; 65],
+    count: usize,
+    top: bool,
     n: usize,
 ) -> usize
     requires { ⌜ Loaded (now file) (now ix) ⌝ }
-    requires { ⌜ g .count ≤ 4160 ⌝ }
+    requires { ⌜ count ≤ 4160 ⌝ }
     requires { ⌜ textLength (now p) n ≡ length (packageIn (tablesOf (now file)) (now p) n) ⌝ }
-    ensures { λ r. ⌜ Tried (packageSaid (tablesOf (now (file .entry))) (now (p .entry)) (g .top) (marksOf g) n) (now (out .entry)) (now (out .exit)) r ⌝ }
+    ensures { λ r. ⌜ Tried (packageSaid (tablesOf (now (file .entry))) (now (p .entry)) top (marksAt (now (levels .entry)) count) n) (now (out .entry)) (now (out .exit)) r ⌝ }
 {
     let t = plan::line_kind(p, n);
     let why = plan::reason(p, n);
-    let fixed = g.indent_length() + plan::text_length(p, n);
+    let fixed = length_of(levels, count, top) + plan::text_length(p, n);
     if !tail_fits(file, ix, out.len(), fixed, t, why) {
         return 0;
     }
-    put_line(file, ix, p, out, g, n, t, why)
+    put_line(file, ix, p, out, levels, count, top, n, t, why)
 }

@@ -11,7 +11,7 @@ ghost use lib.Dec.{leb};
 ghost use Rattle.records.specs.Read.{tablesOf};
 ghost use Rattle.index.specs.Index.{Loaded};
 ghost use Rattle.texts.specs.Wrote.{Wrote};
-ghost use Rattle.texts.specs.Marks.{marksOf};
+ghost use Rattle.texts.specs.Marks.{marksAt, marksOf};
 ghost use Rattle.texts.specs.Indent.{indent};
 ghost use Rattle.plan.specs.Fields.{textLength, setAt, setsFrom, setsIn};
 ghost use Rattle.lines.specs.Said.{packageIn, setSaid, setsSaid, packageAll};
@@ -25,7 +25,7 @@ pub struct Part {
     pub full: bool,
 }
 
-pub fn put_set(out: &mut [u8], g: Indenter, name: &[u8], set: &[u8]) -> usize
+fn put_set(out: &mut [u8], g: Indenter, name: &[u8], set: &[u8]) -> usize
     requires { ⌜ g .count ≤ 4160 ⌝ }
     requires { ⌜ length (indent (g .top) (marksOf g)) + 69 + length (now name) + length (now set) ≤ length (now out) ⌝ }
     ensures { λ r. ⌜ Wrote (setPieces g (now (name .entry)) (now (set .entry))) (now (out .entry)) (now (out .exit)) r ⌝ }
@@ -38,7 +38,7 @@ pub fn put_set(out: &mut [u8], g: Indenter, name: &[u8], set: &[u8]) -> usize
 }
 
 // The line where it fits: its length, or 0.
-pub fn try_set(out: &mut [u8], g: Indenter, name: &[u8], set: &[u8]) -> usize
+fn try_set(out: &mut [u8], g: Indenter, name: &[u8], set: &[u8]) -> usize
     requires { ⌜ g .count ≤ 4160 ⌝ }
     ensures { λ r. ⌜ Tried (setPieces g (now (name .entry)) (now (set .entry))) (now (out .entry)) (now (out .exit)) r ⌝ }
 {
@@ -58,7 +58,7 @@ pub fn try_set(out: &mut [u8], g: Indenter, name: &[u8], set: &[u8]) -> usize
 }
 
 // The line of version set v: its length, or 0 where it does not fit.
-pub fn set_line(file: &[u8], ix: &[u16; 10432], out: &mut [u8], g: Indenter, v: u16) -> usize
+fn set_line(file: &[u8], ix: &[u16; 10432], out: &mut [u8], g: Indenter, v: u16) -> usize
     requires { ⌜ Loaded (now file) (now ix) ⌝ }
     requires { ⌜ g .count ≤ 4160 ⌝ }
     ensures { λ r. ⌜ Tried (setSaid (tablesOf (now (file .entry))) (g .top) (marksOf g) v) (now (out .entry)) (now (out .exit)) r ⌝ }
@@ -69,7 +69,7 @@ pub fn set_line(file: &[u8], ix: &[u16; 10432], out: &mut [u8], g: Indenter, v: 
 }
 
 // The line of version set i under "would constrain"; that of the first place comes last.
-pub fn set_turn(
+fn set_turn(
     file: &[u8],
     ix: &[u16; 10432],
     k: &[u16; 1024],
@@ -88,7 +88,7 @@ pub fn set_turn(
 }
 
 // The lines of the version sets from the end down to the first.
-pub fn set_lines(
+fn set_lines(
     file: &[u8],
     ix: &[u16; 10432],
     k: &[u16; 1024],
@@ -127,7 +127,7 @@ pub fn set_lines(
 }
 
 // The lines under package n, which "would constrain".
-pub fn sets_of(
+fn sets_of(
     file: &[u8],
     ix: &[u16; 10432],
     p: &[u64; 1280],
@@ -147,7 +147,7 @@ pub fn sets_of(
 }
 
 // The lines under a package, counted with its own of b bytes.
-pub fn behind_line(b: usize, s: Part) -> Part
+fn behind_line(b: usize, s: Part) -> Part
     requires { ⌜ (1 ≤ b) × (b + s .bytes < 18446744073709551616) × (s .units ≤ s .bytes) ⌝ }
     ensures { λ r. ⌜ r ≡ joinedPart b s ⌝ }
     ensures { λ r. ⌜ (r .bytes ≡ b + s .bytes) × (r .units ≤ r .bytes) ⌝ }
@@ -159,23 +159,25 @@ pub fn behind_line(b: usize, s: Part) -> Part
     }
 }
 
-// All lines of package n.
+// All lines of package n, under these levels.
 pub fn package_lines(
     file: &[u8],
     ix: &[u16; 10432],
     p: &[u64; 1280],
     k: &[u16; 1024],
     out: &mut [u8],
-    g: Indenter,
+    levels: &[u64; 65],
+    count: usize,
+    top: bool,
     n: usize,
 ) -> Part
     requires { ⌜ Loaded (now file) (now ix) ⌝ }
-    requires { ⌜ g .count < 4160 ⌝ }
+    requires { ⌜ count < 4160 ⌝ }
     requires { ⌜ textLength (now p) n ≡ length (packageIn (tablesOf (now file)) (now p) n) ⌝ }
-    ensures { λ r. ⌜ Lined (packageAll (tablesOf (now (file .entry))) (now (p .entry)) (now (k .entry)) (g .top) (marksOf g) n) (now (out .entry)) (now (out .exit)) (r .bytes) (r .units) (r .full) ⌝ }
+    ensures { λ r. ⌜ Lined (packageAll (tablesOf (now (file .entry))) (now (p .entry)) (now (k .entry)) top (marksAt (now (levels .entry)) count) n) (now (out .entry)) (now (out .exit)) (r .bytes) (r .units) (r .full) ⌝ }
     ensures { λ r. do ⌜ (r .bytes ≤ (← ⟦out.len()⟧ .entry)) × (r .units ≤ r .bytes) ⌝ }
 {
-    let b = package_line(file, ix, p, out, g, n);
+    let b = package_line(file, ix, p, out, levels, count, top, n);
     if b < 1 {
         return Part {
             bytes: 0,
@@ -185,6 +187,12 @@ pub fn package_lines(
     }
     let t = plan::line_kind(p, n);
     if t == 3 {
+        let own = *levels;
+        let g = Indenter {
+            levels: own,
+            count,
+            top,
+        };
         let s = sets_of(file, ix, p, k, &mut out[b..], g, n);
         return behind_line(b, s);
     }

@@ -9,26 +9,21 @@ use Rattle.store.specs.declared.ConflictNode.{ConflictNode}
 use Rattle.store.specs.declared.ConflictNode.the-variants as N
 use Rattle.store.specs.declared.Size.{Size}
 use Rattle.store.specs.Graph.{Graph, nodeAt}
+use Rattle.store.specs.Words.{nodeNumber}
 use Rattle.store.specs.Table.{graphIn, nodeIn, Stored, node-in}
 
--- "kind and number as in `ConflictNode`, 0 where it has none"
+-- "kind and number as in `ConflictNode`, 0 where it has none": the number is `nodeNumber`
 abbrev pub kindOf : ConflictNode → ℕ
 kindOf N.Root = 0
 kindOf (N.Solvable s) = 1
 kindOf N.UnresolvedDependency = 2
 kindOf (N.Excluded r) = 3
 
-abbrev pub numberOf : ConflictNode → ℕ
-numberOf N.Root = 0
-numberOf (N.Solvable s) = s
-numberOf N.UnresolvedDependency = 0
-numberOf (N.Excluded r) = r
-
 -- "one entry a node, holding its kind, both labels and its group": kind, number and group of 16 bits each, installable and missing
 -- of 8; a mark is 1 for installable plus 2 for missing
 unfoldable pub entryOf : ConflictNode → ℕ → ℕ → ℕ
 entryOf x mark lead =
-    kindOf x + 65536 * numberOf x + 4294967296 * lead + 281474976710656 * (mark % 2) + 72057594037927936 * (mark / 2 % 2)
+    kindOf x + 65536 * nodeNumber x + 4294967296 * lead + 281474976710656 * (mark % 2) + 72057594037927936 * (mark / 2 % 2)
 
 -- the entries of the first k nodes; "entries past the last node stay as they were"
 unfoldable pub entriesTo : Graph → List ℕ → List ℕ → ℕ → List ℕ → List ℕ
@@ -43,15 +38,15 @@ kind-small (N.Solvable s) = omega arith
 kind-small N.UnresolvedDependency = omega arith
 kind-small (N.Excluded r) = omega arith
 
-module _ (x : ConflictNode) (mark lead : ℕ) (fits : numberOf x < 65536) (small : lead < 65536) where
+module _ (x : ConflictNode) (mark lead : ℕ) (fits : nodeNumber x < 65536) (small : lead < 65536) where
   pub entry-kind : entryOf x mark lead % 65536 ≡ kindOf x
   unfolding entryOf
   entry-kind = omega (arith, kind-small x)
 
-  pub entry-number : entryOf x mark lead / 65536 % 65536 ≡ numberOf x
+  pub entry-number : entryOf x mark lead / 65536 % 65536 ≡ nodeNumber x
   unfolding entryOf
   entry-number =
-      let z : entryOf x mark lead / 65536 ≡ numberOf x + 65536 * (lead + 65536 * (mark % 2) + 16777216 * (mark / 2 % 2)) = omega (arith, kind-small x) in
+      let z : entryOf x mark lead / 65536 ≡ nodeNumber x + 65536 * (lead + 65536 * (mark % 2) + 16777216 * (mark / 2 % 2)) = omega (arith, kind-small x) in
       rw z (omega arith)
 
   pub entry-lead : entryOf x mark lead / 4294967296 % 65536 ≡ lead
@@ -76,7 +71,7 @@ module _ (x : ConflictNode) (mark lead : ℕ) (fits : numberOf x < 65536) (small
 
 -- kind and number, as one number
 abbrev pub nodePart : ConflictNode → ℕ
-nodePart x = kindOf x + 65536 * numberOf x
+nodePart x = kindOf x + 65536 * nodeNumber x
 
 module _ (x : ConflictNode) where
   pub part-root : x ≡ N.Root → 0 ≡ nodePart x

@@ -13,6 +13,5 @@ pub mod Explained
 pub mod Demand
 pub mod Turns
 pub mod Frames
-pub mod Cases
 pub mod Writes
 pub mod Tried

@@ -29,18 +29,6 @@ added-none a n d = record { bytes = omega arith; count = omega arith; deepest = 
 pub added-line : (a n d : ℕ) (line : List ℕ) (k : ℕ) → Added (record { bytes = line; openings = k } ∷ []) a n d (a + length line) (n + 1) (max d k)
 added-line a n d line k = record { bytes = rw append-nil; count = refl; deepest = omega arith }
 
-pub added-then : (us vs : List TextUnit) (a n d a′ n′ d′ a″ n″ d″ : ℕ) → Added us a n d a′ n′ d′ → Added vs a′ n′ d′ a″ n″ d″ → Added (us ++ vs) a n d a″ n″ d″
-added-then us vs a n d a′ n′ d′ a″ n″ d″ t s =
-    record {
-      bytes = rw size-append (let x = t .bytes in let y = s .bytes in omega arith);
-      count = rw length-append (let x = t .count in let y = s .count in omega arith);
-      deepest = rw depth-append (let x = t .deepest in let y = s .deepest in omega arith);
-    }
-
-pub added-tally : (us : List TextUnit) (a n d : ℕ) → Added us 0 0 0 a n d → Tally us a n d
-added-tally us a n d t =
-    record { bytes = let x = t .bytes in omega arith; count = let x = t .count in omega arith; deepest = let x = t .deepest in omega arith }
-
 pub tally-added : (us vs : List TextUnit) (a n d a′ n′ d′ : ℕ) → Tally us a n d → Added vs a n d a′ n′ d′ → Tally (us ++ vs) a′ n′ d′
 tally-added us vs a n d a′ n′ d′ t s =
     record {
@@ -74,11 +62,3 @@ module _ (num place room : ℕ) (us : List TextUnit) (a n d : ℕ) (text : List 
   tally-full u vs h =
       let b : room < length (textOf us) + length (u .bytes) = let c = t .bytes in omega arith in
       fit-full num place room us u vs size b ∙ ap (λ (p : ℕ). written 10 p us) (sym (t .count)) ∙ tally-result 10 n us a n d text t is
-
--- ---- the deeper of two, as a branch decides it
-
-pub max-keeps : (d k : ℕ) → k ≤ d → max d k ≡ d
-max-keeps d k h = omega arith
-
-pub max-takes : (d k : ℕ) → d ≤ k → max d k ≡ k
-max-takes d k h = omega arith

@@ -14,14 +14,6 @@ use Rattle.machine.specs.Fit.{concat-append, text-append}
 use Rattle.machine.specs.Tally.{Tally, tally-line, tally-whole, tally-full}
 use Rattle.machine.specs.Turns.{Turns, turn, turns-stop, turns-begin}
 
--- ---- line k of an entry, behind the k lines before it
-
-pub line-at : (ls : List (List ℕ)) (k : ℕ) → k < length ls → ls ≡ take k ls ++ (getD ls k [] ∷ drop (suc k) ls)
-line-at ls k h = sym (take-append-drop k ls) ∙ ap (λ (r : List (List ℕ)). take k ls ++ r) (drop-cons ls k [] h)
-
-pub line-taken : (ls : List (List ℕ)) (k : ℕ) → k < length ls → take (k + 1) ls ≡ take k ls ++ (getD ls k [] ∷ [])
-line-taken ls k h = rw add-one (take-suc ls k [] h)
-
 module _ {R : Type 0} (P : Plan R) where
   pub lines-append : (e : Entry R) (ls ls′ : List (List ℕ)) → linesAs P e (ls ++ ls′) ≡ linesAs P e ls ++ linesAs P e ls′
   lines-append e [] ls′ = refl
@@ -40,22 +32,7 @@ module _ {R : Type 0} (P : Plan R) (linesOf : Entry R → List (List ℕ)) where
   pub units-entry : (es : List (Entry R)) (e : Entry R) → unitsFor P linesOf (es ++ (e ∷ [])) ≡ soFar es e (linesOf e)
   units-entry es e = rw (units-append es (e ∷ []), append-nil)
 
-  pub lines-begin : (es : List (Entry R)) (e : Entry R) (a n d : ℕ) → Tally (unitsFor P linesOf es) a n d → Tally (soFar es e []) a n d
-  lines-begin es e a n d t = rw append-nil t
-
-  pub lines-next : (es : List (Entry R)) (e : Entry R) (ls : List (List ℕ)) (a n d : ℕ) (line : List ℕ) → Tally (soFar es e ls) a n d
-      → Tally (soFar es e (ls ++ (line ∷ []))) (a + length line) (n + 1) (max d (openings P e))
-  lines-next es e ls a n d line t =
-      rw (lines-append P e ls (line ∷ []), ← append-assoc) (tally-line (soFar es e ls) a n d line (openings P e) t)
-
-  pub lines-end : (es : List (Entry R)) (e : Entry R) (ls : List (List ℕ)) (a n d : ℕ) → ls ≡ linesOf e → Tally (soFar es e ls) a n d
-      → Tally (unitsFor P linesOf (es ++ (e ∷ []))) a n d
-  lines-end es e ls a n d q t = rw (units-entry es e, ← q) t
-
   -- the same of the text
-  pub text-begin : (es : List (Entry R)) (e : Entry R) → textOf (soFar es e []) ≡ textOf (unitsFor P linesOf es)
-  text-begin es e = rw append-nil
-
   pub text-next : (es : List (Entry R)) (e : Entry R) (ls : List (List ℕ)) (line : List ℕ) → textOf (soFar es e (ls ++ (line ∷ []))) ≡ textOf (soFar es e ls) ++ line
   text-next es e ls line =
       rw (lines-append P e ls (line ∷ []), ← append-assoc, text-append (soFar es e ls) (record { bytes = line; openings = openings P e } ∷ []), append-nil)

@@ -29,13 +29,14 @@ use Rattle.plan.specs.Planned.{Planned}
 use Rattle.plan.specs.Fields.{headIn, tailIn, runIn, leadIn, mateIn, matesFrom, mates-more, membersIn, solvableIn}
 use Rattle.runs.specs.Kids.{markedIn, nextAt}
 use Rattle.planning.specs.Truth.{Given}
-use Rattle.planning.specs.Grouping.{Grouped, LeadsOk}
+use Rattle.planning.specs.Grouping.{GroupsDone, LeadsOk}
 use Rattle.planning.specs.Giving.{given, given-nexts}
 use Rattle.planning.specs.Node.{NodeFor}
-use Rattle.planning.specs.Building.{FreshPlan, Built}
+use Rattle.planning.specs.Building.{FreshPlan, NodesDone}
 use Rattle.planning.specs.Final.{Sized, built-members, planned}
 use Rattle.measuring.specs.Lengths.{behindLength, sizeIn}
 use Rattle.measuring.specs.Sizes.{Short, SizesDone}
+use Rattle.measuring.specs.Exact.{PlanMade}
 
 -- ---- what the labels' and the groups' tables promise
 
@@ -84,27 +85,27 @@ module _ (T : Tables) (g : List ℕ) (s : Size) (ls ms ld : List ℕ) (c : Chain
   leads-ok =
       record { each = λ i h. omega (arith, b .leads i h, lead-node i h, c .stored .nodes-most); few = c .stored .nodes-most; long = b .long }
 
-  module _ (gr p k : List ℕ) (z : Grouped ld gr (s .nodes) 0) (d : Built g ls ms gr (s .nodes) p k) where
+  module _ (t gr p₀ k₀ p k : List ℕ) (z : GroupsDone ld t gr (s .nodes)) (d : NodesDone g ls ms gr (s .nodes) p₀ k₀ p k) where
     have : Given T g s ms gr
-    have = given T g s ms ld gr (c .stored) (b .marks) (b .leads) z
+    have = given T g s ms ld gr (c .stored) (b .marks) (b .leads) (z .done)
 
     nexts : (i : ℕ) → i < s .nodes → nextAt gr i ≡ oldest (leadOf S) (suc i) (s .nodes) (leadOf S i)
-    nexts = given-nexts T g s ms ld gr (c .stored) (b .marks) (b .leads) z
+    nexts = given-nexts T g s ms ld gr (c .stored) (b .marks) (b .leads) (z .done)
 
     pub tails-short : Short p (s .nodes)
     unfolding tailIn
     tails-short =
         record {
-          each = λ i h. rw (lt-ltb i 128 (omega (arith, c .stored .nodes-most))) at (d .nodes i h .short);
+          each = λ i h. rw (lt-ltb i 128 (omega (arith, c .stored .nodes-most))) at (d .built .nodes i h .short);
           few = c .stored .nodes-most;
-          long = d .p-long;
+          long = d .built .p-long;
         }
 
     -- ---- the lengths
 
     solvable-is : (n : ℕ) → n < s .nodes → solvableIn p n ≡ solvableOf S n
     unfolding shownOf
-    solvable-is n h = d .nodes n h .solvable ∙ ap solvableBy (node-in g s (c .stored) n h)
+    solvable-is n h = d .built .nodes n h .solvable ∙ ap solvableBy (node-in g s (c .stored) n h)
 
     behind-is : (ns : List ℕ) → ((x : ℕ) → In x ns → x < s .nodes) → behindLength T p ns ≡ length (concatMap (λ m. utf8 " | " ++ versionOf S m) ns)
     unfolding behindLength shownOf
@@ -119,9 +120,9 @@ module _ (T : Tables) (g : List ℕ) (s : Size) (ls ms ld : List ℕ) (c : Chain
     first-member : (n : ℕ) → n < s .nodes → membersOf S n ≡ leadIn p n ∷ matesFrom p (mateIn p (leadIn p n))
     unfolding membersIn
     first-member n h =
-        let l : leadIn p n < 128 = rw (d .nodes n h .lead ∙ have .lead n h) (omega (arith, lead-node n h, c .stored .nodes-most)) in
+        let l : leadIn p n < 128 = rw (d .built .nodes n h .lead ∙ have .lead n h) (omega (arith, lead-node n h, c .stored .nodes-most)) in
         let q : leadIn p n + 1 - 1 ≡ leadIn p n = omega arith in
-        sym (built-members T g s ls ms gr p k p have d nexts (λ i. refl) n h)
+        sym (built-members T g s ls ms gr p k p have (d .built) nexts (λ i. refl) n h)
         ∙ mates-more p (leadIn p n + 1) (omega arith) (omega arith) ∙ rw q
 
     size-is : (n : ℕ) → n < s .nodes → sizeIn T p n ≡ length (packageText S n)
@@ -137,13 +138,16 @@ module _ (T : Tables) (g : List ℕ) (s : Size) (ls ms ld : List ℕ) (c : Chain
     pub assembled : (u : List ℕ) → SizesDone T p u (s .nodes) → Planned S u k
     unfolding headIn tailIn runIn
     assembled u y =
-        planned T g s ls ms gr p k u c have d nexts
+        planned T g s ls ms gr p k u c have (d .built) nexts
         (record {
           heads = λ n. split (ltb n 128) (λ t. rw t (y .heads n (ltb-true n 128 t))) (λ t. rw t);
           runs = λ r. rw (y .runs r);
           tails = λ n h. rw (lt-ltb n 128 (omega (arith, c .stored .nodes-most))) (y .tails n h ∙ ap (λ (v : ℕ). getD p (128 + n) 0 + 274877906944 * v) (size-is n h));
           small = λ n h. rw (← size-is n h) (y .small n h);
         })
+
+    pub made : (u : List ℕ) → SizesDone T p u (s .nodes) → PlanMade T g ls ms ld (s .nodes) t p₀ k₀ gr u k
+    made u y = record { groups = z; before = p; nodes = d; sizes = y }
 
 -- ---- for the caller
 

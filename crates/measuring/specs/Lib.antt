@@ -1,3 +1,4 @@
 pub mod Lengths
 pub mod Sizes
+pub mod Exact
 pub mod Assembly

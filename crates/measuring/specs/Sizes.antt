@@ -61,9 +61,6 @@ adding-none p sz m = record { done = λ i h. absurd (never i h); left = λ i a h
     never i h = omega arith
 
 module _ (p sz u : List ℕ) (m n : ℕ) (z : Adding p sz u m n) (o : Short p m) (h : n < m) where
-  pub adding-index : 128 + n < 1280
-  adding-index = omega (arith, o .few)
-
   pub adding-fits : (t : ℕ) → t ≡ getD u (128 + n) 0 → t < 274877906944
   adding-fits t q = omega (arith, z .left n (omega arith) (omega (arith, o .few)), o .each n h)
 
@@ -90,14 +87,18 @@ adding-end p sz u m n z h = let q : n ≡ m = omega (arith, z .under) in rw q at
 pub record SizesDone (T : Tables) (p u : List ℕ) (m : ℕ) : Type 0 where
   pub tails : (i : ℕ) → i < m → getD u (128 + i) 0 ≡ getD p (128 + i) 0 + 274877906944 * sizeIn T p i
   pub small : (i : ℕ) → i < m → sizeIn T p i < 65536
+  pub rest : (i : ℕ) → m ≤ i → i < 128 → getD u (128 + i) 0 ≡ getD p (128 + i) 0
   pub heads : (i : ℕ) → i < 128 → getD u i 0 ≡ getD p i 0
   pub runs : (r : ℕ) → getD u (256 + r) 0 ≡ getD p (256 + r) 0
+  pub long : length u ≡ length p
 
 pub sizes-done : (T : Tables) (p sz u : List ℕ) (m : ℕ) → Measured T p sz m → Adding p sz u m m → SizesDone T p u m
 sizes-done T p sz u m z y =
     record {
       tails = λ i h. y .done i h ∙ ap (λ (v : ℕ). getD p (128 + i) 0 + 274877906944 * v) (z .each i h .0);
       small = λ i h. rw (← (z .each i h .0)) (z .each i h .1);
+      rest = y .left;
       heads = y .heads;
       runs = y .runs;
+      long = y .long;
     }

@@ -14,6 +14,7 @@ ghost use Rattle.plan.specs.Planned.{Planned};
 ghost use Rattle.planning.specs.Building.{FreshPlan};
 ghost use Rattle.measuring.specs.Sizes.{Measured, Short, Adding, SizesDone};
 ghost use Rattle.measuring.specs.Assembly.{Labelled};
+ghost use Rattle.measuring.specs.Exact.{PlanMade};
 use store::Size;
 
 fn long(t: &[u8]) -> usize
@@ -107,7 +108,7 @@ fn add_sizes(p: &mut [u64; 1280], sz: &[u16; 128], count: usize)
 }
 
 // Each of the first `count` nodes.
-pub fn sizes(file: &[u8], ix: &[u16; 10432], p: &mut [u64; 1280], count: usize)
+fn sizes(file: &[u8], ix: &[u16; 10432], p: &mut [u64; 1280], count: usize)
     requires { ⌜ Loaded (now file) (now ix) ⌝ }
     requires { ⌜ Short (now p) count ⌝ }
     ensures { λ _. ⌜ SizesDone (tablesOf (now (file .entry))) (now (p .entry)) (now (p .exit)) count ⌝ }
@@ -136,6 +137,7 @@ pub fn build_plan(
     requires { ⌜ length (now gr) ≡ 128 ⌝ }
     requires { ⌜ FreshPlan (now p) (now k) ⌝ }
     ensures { λ _. ⌜ Planned (shownOf (tablesOf (now (file .entry))) (graphIn (now (g .entry)) s)) (now (p .exit)) (now (k .exit)) ⌝ }
+    ensures { λ _. ⌜ PlanMade (tablesOf (now (file .entry))) (now (g .entry)) (now (ls .entry)) (now (ms .entry)) (now (ld .entry)) (s .nodes) (now (gr .entry)) (now (p .entry)) (now (k .entry)) (now (gr .exit)) (now (p .exit)) (now (k .exit)) ⌝ }
 {
     let count = s.nodes;
     planning::mates::group_words(ld, gr, count);

@@ -28,10 +28,6 @@ module _ (T : Tables) (G : Graph) (k : ℕ) (l : List ℕ) where
   unfolding idsTo
   ids-at h j i = firsts-at (textAt T G) k l h j i
 
-  pub ids-past : (j : ℕ) → k ≤ j → getD (idsTo T G k l) j 0 ≡ getD l j 0
-  unfolding idsTo
-  ids-past j h = firsts-past (textAt T G) k l j h
-
 -- ---- solvables
 
 -- a solvable node is one of the graph's

@@ -12,7 +12,8 @@ use Rattle.graph.specs.Graphs.{Outcome, drawn, refused, graphOf}
 use Rattle.labels.specs.Labels.{installables, missings, installable, missing}
 use Rattle.groups.specs.Groups.{leadOf}
 use Rattle.naming.specs.Naming.{nameOf}
-use Rattle.listing.specs.Listing.{kindOf, numberOf}
+use Rattle.store.specs.Words.{nodeNumber}
+use Rattle.listing.specs.Listing.{kindOf}
 use Rattle.entries.specs.declared.NodeEntry.{NodeEntry}
 use Rattle.nodelist.specs.declared.Counted.{Counted}
 
@@ -27,7 +28,7 @@ unfolding leadOf installables missings
 nodeEntry T G n =
     record {
       kind = kindOf (nodeAt G n);
-      number = numberOf (nodeAt G n);
+      number = nodeNumber (nodeAt G n);
       group = leadOf (nameOf T) G n;
       installable = flag (installable G n);
       missing = flag (missing G n);

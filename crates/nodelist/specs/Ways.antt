@@ -4,7 +4,7 @@ use mathlib.Core.Bool.{Bool, true, false, cond}
 use mathlib.Core.List.{List, [], _∷_, _++_, map}
 use Prim.Native.Nat.{ℕ, zero, suc, _+_, _/_, _%_, _<_, _≤_}
 use native.Mathlib.Omega.{arith}
-use lib.ListN.{length, getD, drop, set, length-map, List·getD-map}
+use lib.ListN.{length, getD, drop, set, length-map}
 use lib.Seq.{drop-cons, append-snoc, set-at}
 use lib.Dec.{ltb}
 use borrow.Author.Tests.{lt-ltb, le-ltb}
@@ -15,12 +15,10 @@ use Rattle.records.specs.declared.Counts.{Counts}
 use Rattle.records.specs.declared.Answer.{Answer}
 use Rattle.records.specs.Tables.{Tables}
 use Rattle.records.specs.Read.{Reading, good, bad, readOf, answerOf, tablesIn, tablesOf}
-use Rattle.index.specs.Load.{load-counts}
 use Rattle.store.specs.declared.ConflictNode.{ConflictNode}
 use Rattle.store.specs.declared.Size.{Size}
 use Rattle.store.specs.Graph.{Graph, nodeAt}
-use Rattle.store.specs.Words.{byKind, nodeOf}
-use Rattle.store.specs.Table.{graphIn, nodeWords, Stored, nodes-count}
+use Rattle.store.specs.Table.{graphIn, Stored, nodes-count, number-fits}
 use Rattle.links.specs.Build.{Chains}
 use Rattle.graph.specs.declared.Drawing.{Drawing}
 use Rattle.graph.specs.declared.Drawing.the-variants as D
@@ -31,7 +29,7 @@ use Rattle.labels.specs.Marks.{bitsOf, marksOf, marks-at}
 use Rattle.groups.specs.Groups.{titleOf, leadBy, leadOf}
 use Rattle.groups.specs.Leads.{leadsTo, leads-at, lead-le}
 use Rattle.naming.specs.Naming.{nameOf}
-use Rattle.listing.specs.Listing.{kindOf, numberOf, entriesTo, kind-small}
+use Rattle.listing.specs.Listing.{kindOf, entriesTo, kind-small}
 use Rattle.listing.specs.Listing as W
 use Rattle.entries.specs.Entry.{wordOf, Narrow, Narrows}
 use Rattle.entries.specs.declared.NodeEntry.{NodeEntry}
@@ -86,19 +84,6 @@ flag-small false = omega arith
 
 kind-fits : (x : ConflictNode) → kindOf x < 65536
 kind-fits x = omega (arith, kind-small x)
-
-number-by : (k n : ℕ) → n < 65536 → numberOf (byKind k n) < 65536
-number-by zero n h = omega arith
-number-by (suc zero) n h = h
-number-by (suc (suc zero)) n h = omega arith
-number-by (suc (suc (suc k))) n h = h
-
--- a stored node's number is one of 16 bits
-number-fits : (g : List ℕ) (s : Size) (n : ℕ) → numberOf (nodeAt (graphIn g s) n) < 65536
-unfolding graphIn
-number-fits g s n =
-    let w : ℕ = getD (nodeWords g (s .nodes)) n 0 in
-    rw (List·getD-map nodeOf (nodeWords g (s .nodes)) n 0) (number-by (w % 4) (w / 4 % 65536) (omega arith))
 
 module _ (T : Tables) (g : List ℕ) (s : Size) (S : Stored g s) where
   pub entries-count : length (nodeEntries T (graphIn g s)) ≡ s .nodes
@@ -190,10 +175,6 @@ module _ (T : Tables) (g : List ℕ) (s : Size) (ls l : List ℕ) (room : ℕ) (
         }
 
 -- ---- a file
-
--- the number of clauses that the reader counted
-pub clauses-counted : (file : List ℕ) (a : Answer) (c : Counts) → a ≡ Accepted c → a ≡ answerOf (readOf file) → c .clauses ≡ length (tablesOf file .clauses)
-clauses-counted file a c e q = ap (λ (d : Counts). d .clauses) (load-counts file a c q e)
 
 denied-listed : (X : Nodes) (room : ℕ) (l : List ℕ) (r : Counted) (k p : ℕ) → X ≡ denied k p → r ≡ refusalOf k p → Listed X room l r l
 denied-listed X room l r k p e q = rw e (record { counted = q; written = refl; few = rw q (omega arith); narrow = tt })

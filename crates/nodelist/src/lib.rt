@@ -89,12 +89,12 @@ fn words_in(
     room: usize,
     ix: &mut [u16; 10432],
     g: &mut [u64; 1152],
-    tr: &mut [u64; 1024],
+    tr: &mut [u64; 1280],
     w: &mut [u16; 3456],
 ) -> Counted
     requires { ⌜ Blank (now ix) ⌝ }
     requires { ⌜ now g ≡ replicate 1152 0 ⌝ }
-    requires { ⌜ length (now tr) ≡ 1024 ⌝ }
+    requires { ⌜ length (now tr) ≡ 1280 ⌝ }
     requires { ⌜ now w ≡ replicate 3456 0 ⌝ }
     requires { ⌜ length (now words) ≡ 128 ⌝ }
     ensures { λ r. ⌜ Listed (nodesOf (now (file .entry))) room (now (words .entry)) r (now (words .exit)) ⌝ }
@@ -120,7 +120,7 @@ pub fn node_words(file: &[u8], words: &mut [u64; 128], room: usize) -> Counted
 {
     let mut ix = [0u16; 10432];
     let mut g = [0u64; 1152];
-    let mut tr = [0u64; 1024];
+    let mut tr = [0u64; 1280];
     let mut w = [0u16; 3456];
     words_in(file, words, room, &mut ix, &mut g, &mut tr, &mut w)
 }

@@ -1,4 +1,4 @@
--- From the packed tables to the plan of S: what a walk of the tables explains, `fmt_graph` explains.
+-- From the packed tables to the plan of S: they are alike but for how they name their runs.
 use mathlib.Core.Path.{_≡_, refl, sym, ap, _∙_}
 use mathlib.Core.Logic.{inl, inr}
 use mathlib.Core.Bool.{Bool}
@@ -35,18 +35,3 @@ module _ (S : Shown) (p k : List ℕ) (z : Planned S p k) where
         kids = λ r q i. i .kids;
         known = λ r q i. rw (sym (i .kids)) (all-of Node (kidsIn p k r) (λ n j. z .kids r n j .0));
       }
-
-  module _ (linesIn : Entry ℕ → List (List ℕ)) (linesOf : Entry Run → List (List ℕ)) (placeIn placeOf : ℕ → ℕ)
-      (runs : (r : ℕ) (q : Run) (ms : List Bool) (b : List ℕ) → RunIs S p k r q → linesIn (entry (requirement r) ms b) ≡ linesOf (entry (requirement q) ms b))
-      (packages : (n : ℕ) (ms : List Bool) (b : List ℕ) → NodeIs S p k n → linesIn (entry (candidate n) ms b) ≡ linesOf (entry (candidate n) ms b))
-      (places : (n : ℕ) → NodeIs S p k n → placeIn n ≡ placeOf n) where
-    lines : (e : Entry ℕ) (d : Entry Run) → Same Node (RunIs S p k) e d → linesIn e ≡ linesOf d
-    lines e d (same-run r q ms b i a) = runs r q ms b i
-    lines e d (same-kid n ms b h a) = packages n ms b (z .nodes n h)
-
-    pub plan-explained : 0 < length (S .graph .nodes) → (room : ℕ) (x : Result)
-        → Explained (planIn p k) linesIn placeIn (startIn p) room x → Explained (planOf S) linesOf placeOf (startOf S) room x
-    unfolding startIn
-    plan-explained h room x f =
-        explained-same (planIn p k) (planOf S) Node (RunIs S p k) plans-alike linesIn linesOf lines placeIn placeOf (λ n l. places n (z .nodes n l))
-        (runsIn p 0) (popped S 0) (z .nodes 0 h .runs) room x f

@@ -6,7 +6,7 @@ use mathlib.Core.Option.{Option, none, some}
 use Prim.Native.Nat.{ℕ, zero, suc}
 use lib.ListN.{length, getD}
 use lib.Dec.{ltb, eqb}
-use Rattle.basis.specs.Lists.{any, all, filter, has, isNil, toList, concatMap, upto}
+use Rattle.basis.specs.Lists.{any, all, filter, has, isNil, concatMap, upto}
 use Rattle.records.specs.Tables.{Tables}
 use Rattle.records.specs.Views.{nameText, solvableName}
 use Rattle.store.specs.declared.ConflictNode.{ConflictNode}

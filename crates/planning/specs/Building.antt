@@ -25,6 +25,7 @@ use Rattle.runs.specs.Along.{Way, way-start, Only}
 use Rattle.sorting.specs.Written.{RunFor}
 use Rattle.sorting.specs.Passing.{each-runs}
 use Rattle.planning.specs.Node.{NodeReady, NodeFor, Touched, NodeDone, popping}
+use Rattle.planning.specs.Stacked.{Stacked, stacked-keep}
 use Rattle.planning.specs.Nodes.{edgesOf, ahead, ahead-most, target-node, Small, small-runs, small-popping, run-under, node-under}
 
 -- tables as a caller's fresh arrays are
@@ -39,14 +40,18 @@ pub record GoodRun (g ms gr : List ℕ) (count : ℕ) (p k : List ℕ) (kc r : �
   pub stands : RunFor g ms gr p k kc r run
   pub small : Small count run
 
--- nodes below n are written
-pub record Building (g ls ms gr : List ℕ) (count : ℕ) (p k : List ℕ) (n rc kc : ℕ) : Type 0 where
+-- nodes below n are written; tables p₀ and k₀ came
+pub record Building (g ls ms gr : List ℕ) (count : ℕ) (p₀ k₀ p k : List ℕ) (n rc kc : ℕ) : Type 0 where
   pub size : Size
   pub chains : Chains g size ls
   pub counts : size .nodes ≡ count
   pub nodes : (m : ℕ) → m < n → NodeFor g ms gr (edgesOf g ls m) p k rc kc m
   pub filled : (r : ℕ) → rc ≤ r → r < 1024 → GoodRun g ms gr count p k kc r
   pub blank : (r : ℕ) → r < rc → getD p (256 + r) 0 ≡ 0
+  pub stack : Stacked g ls ms gr kc p k n rc kc
+  pub rest : (m : ℕ) → n ≤ m → m < 128 → (getD p m 0 ≡ getD p₀ m 0) × (getD p (128 + m) 0 ≡ getD p₀ (128 + m) 0)
+  pub under : (i : ℕ) → i < kc → getD k i 0 ≡ getD k₀ i 0
+  pub top : n ≤ count
   pub rc-room : ahead g ls (count - n) n ≤ rc
   pub kc-room : ahead g ls (count - n) n ≤ kc
   pub rc-high : rc ≤ 1024
@@ -59,6 +64,19 @@ pub record Built (g ls ms gr : List ℕ) (count : ℕ) (p k : List ℕ) : Type 0
   pub p-long : length p ≡ 1280
   -- the kids of any run number
   pub kids : (r t : ℕ) → In t (kidsIn p k r) → (t < count) × (isSolvable (nodeIn g t) ≡ true)
+
+-- all nodes, and nothing else of the tables that came
+pub record NodesDone (g ls ms gr : List ℕ) (count : ℕ) (p₀ k₀ p k : List ℕ) : Type 0 where
+  pub built : Built g ls ms gr count p k
+  pub runs : ℕ
+  pub places : ℕ
+  pub stack : Stacked g ls ms gr places p k count runs places
+  pub blank : (r : ℕ) → r < runs → getD p (256 + r) 0 ≡ 0
+  pub rest : (m : ℕ) → count ≤ m → m < 128 → (getD p m 0 ≡ getD p₀ m 0) × (getD p (128 + m) 0 ≡ getD p₀ (128 + m) 0)
+  pub under : (i : ℕ) → i < places → getD k i 0 ≡ getD k₀ i 0
+  pub few : count ≤ 128
+  pub p-long : length p ≡ 1280
+  pub k-long : length k ≡ 1024
 
 each-at : (Is : ℕ → Run → Type 0) (P : Run → Type 0) (c a : ℕ) (qs : List Run) → Each Is (upto c a) qs → All P qs → (r : ℕ) → a ≤ r → r < a + c → (q : Run) × Is r q × P q
 each-at Is P zero a [] e p r h l = absurd (never h l)
@@ -77,7 +95,7 @@ unfolding runsFrom
 runs-at Is P a b qs e p r h l = each-at Is P (b - a) a qs e p r h (omega arith)
 
 module _ (g : List ℕ) (s : Size) (ls ms gr p k : List ℕ) where
-  pub build-start : (count : ℕ) → Chains g s ls → count ≡ s .nodes → FreshPlan p k → Building g ls ms gr count p k 0 1024 1024
+  pub build-start : (count : ℕ) → Chains g s ls → count ≡ s .nodes → FreshPlan p k → Building g ls ms gr count p k p k 0 1024 1024
   build-start count c q f =
       let z : count - 0 ≡ s .nodes = omega arith in
       record {
@@ -87,6 +105,10 @@ module _ (g : List ℕ) (s : Size) (ls ms gr p k : List ℕ) where
         nodes = λ m h. absurd (never m h);
         filled = λ r h l. absurd (past r h l);
         blank = λ r h. f .blank r h;
+        stack = (refl, refl);
+        rest = λ m a b. (refl, refl);
+        under = λ i a. refl;
+        top = omega arith;
         rc-room = rw z (ahead-most g s ls c);
         kc-room = rw z (ahead-most g s ls c);
         rc-high = omega arith;
@@ -101,7 +123,7 @@ module _ (g : List ℕ) (s : Size) (ls ms gr p k : List ℕ) where
       past : (r : ℕ) → 1024 ≤ r → r < 1024 → ⊥
       past r h l = omega arith
 
-module _ (g ls ms gr : List ℕ) (count : ℕ) (p k : List ℕ) (n rc kc : ℕ) (z : Building g ls ms gr count p k n rc kc) where
+module _ (g ls ms gr : List ℕ) (count : ℕ) (p₀ k₀ p k : List ℕ) (n rc kc : ℕ) (z : Building g ls ms gr count p₀ k₀ p k n rc kc) where
   module _ (h : n < count) (e : ℕ) (is : e ≡ firstOut ls n) where
     inside : n < z .size .nodes
     inside = omega (arith, z .counts)
@@ -124,7 +146,7 @@ module _ (g ls ms gr : List ℕ) (count : ℕ) (p k : List ℕ) (n rc kc : ℕ) 
     pub build-small : n < 128
     build-small = omega (arith, z .counts, z .chains .stored .nodes-most)
 
-    pub build-step : (u v : List ℕ) (rd kd : ℕ) → NodeDone g ms gr (outLeft g n e) p k n rc kc u v rd kd → Building g ls ms gr count u v (n + 1) rd kd
+    pub build-step : (u v : List ℕ) (rd kd : ℕ) → NodeDone g ms gr (outLeft g n e) p k n rc kc u v rd kd → Building g ls ms gr count p₀ k₀ u v (n + 1) rd kd
     build-step u v rd kd d =
         let es : outLeft g n e ≡ edgesOf g ls n = ap (outLeft g n) is in
         let sm : All (Small count) (popping ms (outLeft g n e)) =
@@ -146,6 +168,10 @@ module _ (g ls ms gr : List ℕ) (count : ℕ) (p k : List ℕ) (n rc kc : ℕ) 
               let y = z .filled r o b in
               record { run = y .run; stands = run-under g ms gr p k u v n rd rc kd kc r (y .run) (y .stands) (d .touched) o (d .only-k) kl; small = y .small });
           blank = λ r a. d .touched .below r a ∙ z .blank r (omega arith);
+          stack = rw add-one (rc, kc, (rw es at (d .laid)), stacked-keep g ms gr p k u v n rd rc kd kc (d .touched) (d .only-k) kl ls n rc kc (omega arith) (omega (arith, build-small)) (omega arith) (omega arith) (z .stack));
+          rest = λ m a b. let o = d .touched .heads m b (λ q. omega arith) in let y = z .rest m (omega arith) b in (o .0 ∙ y .0, o .1 ∙ y .1);
+          under = λ i a. d .only-k .below i a ∙ z .under i (omega arith);
+          top = omega arith;
           rc-room = rw add-one (omega (arith, z .rc-room, room, d .rc-few));
           kc-room = rw add-one (omega (arith, z .kc-room, room, d .kc-few));
           rc-high = omega (arith, z .rc-high);
@@ -186,7 +212,7 @@ unfolding runsIn
 node-low g ms gr es p k rc kc n z =
     record {
       runs = each-runs (RunFor g ms gr p k kc) (RunFor g ms gr p k 0) (runFirst p n) (runEnd p n) (popping ms es)
-          (λ j q l f. record { kids = f .kids; requirement = f .requirement; wording = f .wording; from = omega arith }) (z .runs);
+          (λ j q l f. record { kids = f .kids; requirement = f .requirement; wording = f .wording; from = omega arith; short = f .short }) (z .runs);
       kind = z .kind;
       merged = z .merged;
       lead = z .lead;
@@ -197,9 +223,9 @@ node-low g ms gr es p k rc kc n z =
       short = z .short;
     }
 
-pub build-end : (g ls ms gr : List ℕ) (count : ℕ) (p k : List ℕ) (n rc kc : ℕ) → Building g ls ms gr count p k n rc kc → count ≤ n → Built g ls ms gr count p k
+built-by : (g ls ms gr : List ℕ) (count : ℕ) (p₀ k₀ p k : List ℕ) (n rc kc : ℕ) → Building g ls ms gr count p₀ k₀ p k n rc kc → count ≤ n → Built g ls ms gr count p k
 unfolding runIn
-build-end g ls ms gr count p k n rc kc z h =
+built-by g ls ms gr count p₀ k₀ p k n rc kc z h =
     record {
       nodes = λ m l. node-low g ms gr (edgesOf g ls m) p k rc kc m (z .nodes m (omega arith));
       p-long = z .p-long;
@@ -208,4 +234,20 @@ build-end g ls ms gr count p k n rc kc z h =
           (λ w. absurd (rw (no-kids p k r (rw q (z .blank r (ltb-true r rc w)))) at i))
           (λ w. let y = z .filled r (ltb-false r rc w) (ltb-true r 1024 q) in kid-good g ms gr (y .run .to) count t (y .small) (rw (y .stands .kids) at i)))
           (λ q. absurd (rw (no-kids p k r (rw q)) at i));
+    }
+
+pub build-end : (g ls ms gr : List ℕ) (count : ℕ) (p₀ k₀ p k : List ℕ) (n rc kc : ℕ) → Building g ls ms gr count p₀ k₀ p k n rc kc → count ≤ n → NodesDone g ls ms gr count p₀ k₀ p k
+build-end g ls ms gr count p₀ k₀ p k n rc kc z h =
+    let q : n ≡ count = omega (arith, z .top) in
+    record {
+      built = built-by g ls ms gr count p₀ k₀ p k n rc kc z h;
+      runs = rc;
+      places = kc;
+      stack = rw q at (z .stack);
+      blank = z .blank;
+      rest = λ m a b. z .rest m (omega arith) b;
+      under = z .under;
+      few = omega (arith, z .counts, z .chains .stored .nodes-most);
+      p-long = z .p-long;
+      k-long = z .k-long;
     }

@@ -14,6 +14,7 @@ use Rattle.basis.specs.Members.{In, split, either, clash}
 use Rattle.basis.specs.Chains.{oldest, oldest-hit, oldest-miss, oldest-past, ups, ups-hit, ups-miss, ups-past}
 use Rattle.basis.specs.Walks.{in-ups}
 use Rattle.runs.specs.Kids.{leadAt, mergedAt, nextAt}
+use Rattle.runs.specs.Along.{Only, only-none, only-put, only-then}
 
 -- merged: another member follows, or it is not the first
 abbrev pub mergedBy : ℕ → ℕ → ℕ → Bool
@@ -41,9 +42,6 @@ word-next l i x h d = word-many l i x h (rw (ne-eqb x 0 d))
 pub word-later : (l i x : ℕ) → l < 128 → (l ≡ i → ⊥) → GroupWord (l + 128 + 256 * x) l i x
 word-later l i x h d = word-many l i x h (split (eqb x 0) (λ t. rw (t, ne-eqb l i d)) (λ t. rw t))
 
-abbrev keyIn : List ℕ → ℕ → ℕ
-keyIn ld i = getD ld i 0
-
 pub record Grouped (ld gr : List ℕ) (m n : ℕ) : Type 0 where
   pub lead : (i : ℕ) → n ≤ i → i < m → leadAt gr i ≡ getD ld i 0
   pub next : (i : ℕ) → n ≤ i → i < m → nextAt gr i ≡ oldest (λ j. getD ld j 0) (suc i) m (getD ld i 0)
@@ -55,19 +53,26 @@ pub record LeadsOk (ld : List ℕ) (m : ℕ) : Type 0 where
   pub few : m ≤ 128
   pub long : length ld ≡ 128
 
-pub record Grouping (ld gr last : List ℕ) (m n : ℕ) : Type 0 where
+-- the words of the first m nodes, and nothing else of table t
+pub record GroupsDone (ld t gr : List ℕ) (m : ℕ) : Type 0 where
+  pub done : Grouped ld gr m 0
+  pub only : Only t gr 0 m
+
+pub record Grouping (ld t gr last : List ℕ) (m n : ℕ) : Type 0 where
   pub given : LeadsOk ld m
   pub done : Grouped ld gr m n
+  pub only : Only t gr n m
   pub lowest : (l : ℕ) → l < 128 → getD last l 0 ≡ oldest (λ j. getD ld j 0) n m l
   pub under : n ≤ m
   pub gr-long : length gr ≡ 128
   pub last-long : length last ≡ 128
 
-pub group-start : (ld gr last : List ℕ) (m : ℕ) → LeadsOk ld m → length gr ≡ 128 → length last ≡ 128 → ((l : ℕ) → l < 128 → getD last l 0 ≡ 0) → Grouping ld gr last m m
+pub group-start : (ld gr last : List ℕ) (m : ℕ) → LeadsOk ld m → length gr ≡ 128 → length last ≡ 128 → ((l : ℕ) → l < 128 → getD last l 0 ≡ 0) → Grouping ld gr gr last m m
 group-start ld gr last m o a b f =
     record {
       given = o;
       done = record { lead = λ i h l. absurd (never i h l); next = λ i h l. absurd (never i h l); merged = λ i h l. absurd (never i h l) };
+      only = only-none gr m;
       lowest = λ l h. f l h ∙ sym (oldest-past (λ j. getD ld j 0) m m l (omega arith));
       under = omega arith;
       gr-long = a;
@@ -77,7 +82,7 @@ group-start ld gr last m o a b f =
     never : (i : ℕ) → m ≤ i → i < m → ⊥
     never i h l = omega arith
 
-module _ (ld gr last : List ℕ) (m n : ℕ) (z : Grouping ld gr last m n) (h : 0 < n) where
+module _ (ld t gr last : List ℕ) (m n : ℕ) (z : Grouping ld t gr last m n) (h : 0 < n) where
   pub group-index : n - 1 < 128
   group-index = omega (arith, z .under, z .given .few)
 
@@ -101,11 +106,12 @@ module _ (ld gr last : List ℕ) (m n : ℕ) (z : Grouping ld gr last m n) (h : 
             (λ t. rw (oldest-hit key e m l (omega arith) t) (omega arith))
             (λ t. rw (oldest-miss key e m l (omega arith) t) (oldest-most key c (suc e) m l (omega arith)))
 
-    pub group-step : (b x w : ℕ) → b ≡ getD last l 0 → x ≡ b → GroupWord w l (n - 1) x → Grouping ld (set gr (n - 1) w) (set last l n) m (n - 1)
+    pub group-step : (b x w : ℕ) → b ≡ getD last l 0 → x ≡ b → GroupWord w l (n - 1) x → Grouping ld t (set gr (n - 1) w) (set last l n) m (n - 1)
     unfolding leadAt mergedAt nextAt
     group-step b x w bq xb y =
         let q : x ≡ getD last l 0 = xb ∙ bq in
         let s : suc (n - 1) ≡ n = omega arith in
+        let i : n - 1 + 1 ≡ n = omega arith in
         let xx : x ≡ oldest (λ j. getD ld j 0) (suc (n - 1)) m (getD ld (n - 1) 0) = q ∙ z .lowest l group-lead ∙ ap (λ (a : ℕ). oldest (λ j. getD ld j 0) a m l) (sym s) ∙ ap (oldest (λ j. getD ld j 0) (suc (n - 1)) m) is in
         let own : getD (set gr (n - 1) w) (n - 1) 0 ≡ w = getD-set-same gr (n - 1) w 0 (omega (arith, z .gr-long, group-index)) in
         record {
@@ -122,6 +128,7 @@ module _ (ld gr last : List ℕ) (m n : ℕ) (z : Grouping ld gr last m n) (h : 
                     (λ t. rw (eqb-true j (n - 1) t, own) (y .merged-is ∙ ap (λ (a : ℕ). mergedBy a (n - 1) x) is ∙ ap (mergedBy (getD ld (n - 1) 0) (n - 1)) xx))
                     (λ t. rw (getD-set-other gr (n - 1) j w 0 (eqb-false j (n - 1) t)) (z .done .merged j (omega (arith, eqb-false j (n - 1) t)) b));
               };
+          only = only-then t gr (set gr (n - 1) w) (n - 1) n m (omega arith) (z .under) (z .only) (rw i at (only-put gr (set gr (n - 1) w) (n - 1) w refl));
           lowest = λ a b. split (eqb (getD ld (n - 1) 0) a)
               (λ t. let e : a ≡ l = sym (is ∙ eqb-true (getD ld (n - 1) 0) a t) in
               rw (oldest-hit (λ j. getD ld j 0) (n - 1) m a (omega (arith, z .under)) t, e, s) (getD-set-same last l n 0 (omega (arith, z .last-long, group-lead))))
@@ -180,13 +187,18 @@ many-members key m i h q =
     other (x ∷ r) u (inr j) t =
         rw u (lt-ltb 1 (suc (suc (length r))) (omega arith) ∙ split (eqb (oldest key (suc i) m (key i)) 0) (λ v. rw (v, t)) (λ v. rw v))
 
-pub group-end : (ld gr last : List ℕ) (m n : ℕ) → Grouping ld gr last m n → n ≤ 0 → Grouped ld gr m 0
-group-end ld gr last m n z h =
+pub group-end : (ld t gr last : List ℕ) (m n : ℕ) → Grouping ld t gr last m n → n ≤ 0 → GroupsDone ld t gr m
+group-end ld t gr last m n z h =
+    let q : n ≡ 0 = omega arith in
     record {
-      lead = λ i a b. z .done .lead i (omega arith) b;
-      next = λ i a b. z .done .next i (omega arith) b;
-      merged = λ i a b. z .done .merged i (omega arith) b;
+      done =
+          record {
+            lead = λ i a b. z .done .lead i (omega arith) b;
+            next = λ i a b. z .done .next i (omega arith) b;
+            merged = λ i a b. z .done .merged i (omega arith) b;
+          };
+      only = rw q at (z .only);
     }
 
-pub group-fresh : (ld gr : List ℕ) (m : ℕ) → LeadsOk ld m → length gr ≡ 128 → Grouping ld gr (replicate 128 0) m m
+pub group-fresh : (ld gr : List ℕ) (m : ℕ) → LeadsOk ld m → length gr ≡ 128 → Grouping ld gr gr (replicate 128 0) m m
 group-fresh ld gr m o a = group-start ld gr (replicate 128 0) m o a (length-replicate {A = ℕ} 128 0) (λ l h. getD-replicate {A = ℕ} 128 l 0 0 h)

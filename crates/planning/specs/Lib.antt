@@ -2,8 +2,10 @@ pub mod Truth
 pub mod Words
 pub mod Node
 pub mod Nodes
+pub mod Stacked
 pub mod Building
 pub mod Members
 pub mod Final
 pub mod Grouping
 pub mod Giving
+pub mod Exact

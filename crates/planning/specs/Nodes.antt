@@ -137,6 +137,7 @@ run-under g ms gr p k u v n rd rc kd kc r q z o h x y =
       requirement = rw e (z .requirement);
       wording = rw e (z .wording);
       from = rw e (let f = z .from in omega arith);
+      short = rw e (z .short);
     }
 
 pub node-under : (g ms gr : List ℕ) (es : List Edge) (p k u v : List ℕ) (n rd rc kd kc m : ℕ) → NodeFor g ms gr es p k rc kc m → Touched p u n rd rc → m < 128 → (m ≡ n → ⊥) → rd ≤ rc → Only k v kd kc → kd ≤ kc

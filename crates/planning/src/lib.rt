@@ -1,11 +1,11 @@
 // The plan of a labelled graph, written into the tables from their ends downwards, node by node.
 pub mod mates;
-pub mod node;
+mod node;
 
 ghost use mathlib.Core.Path.{_≡_};
 ghost use Prim.Native.Nat.{_<_, _≤_};
 ghost use Rattle.links.specs.Build.{Chains};
-ghost use Rattle.planning.specs.Building.{FreshPlan, Built};
+ghost use Rattle.planning.specs.Building.{FreshPlan, NodesDone};
 use store::Size;
 
 // The runs, kids, lines and groups of all nodes.
@@ -20,7 +20,7 @@ pub fn nodes(
 )
     requires { ⌜ Chains (now g) s (now ls) ⌝ }
     requires { ⌜ FreshPlan (now p) (now k) ⌝ }
-    ensures { λ _. ⌜ Built (now (g .entry)) (now (ls .entry)) (now (ms .entry)) (now (gr .entry)) (s .nodes) (now (p .exit)) (now (k .exit)) ⌝ }
+    ensures { λ _. ⌜ NodesDone (now (g .entry)) (now (ls .entry)) (now (ms .entry)) (now (gr .entry)) (s .nodes) (now (p .entry)) (now (k .entry)) (now (p .exit)) (now (k .exit)) ⌝ }
 {
     let count = s.nodes;
     let mut n: usize = 0;

@@ -3,7 +3,7 @@
 ghost use mathlib.Core.Path.{_≡_};
 ghost use Prim.Native.Nat.{ℕ, _<_, _≤_};
 ghost use lib.ListN.{length, getD};
-ghost use Rattle.planning.specs.Grouping.{GroupWord, LeadsOk, Grouped, Grouping};
+ghost use Rattle.planning.specs.Grouping.{GroupWord, LeadsOk, GroupsDone, Grouping};
 
 fn group_word(l: usize, i: usize, x: usize) -> usize
     requires { ⌜ (l < 128) × (x ≤ 128) ⌝ }
@@ -20,8 +20,8 @@ fn group_word(l: usize, i: usize, x: usize) -> usize
 
 // From the last node down; `last` holds the lowest member so far of each lead.
 fn group_all(ld: &[u16; 128], gr: &mut [u16; 128], last: &mut [u16; 128], count: usize)
-    requires { ⌜ Grouping (now ld) (now gr) (now last) count count ⌝ }
-    ensures { λ _. ⌜ Grouped (now (ld .entry)) (now (gr .exit)) count 0 ⌝ }
+    requires { ⌜ Grouping (now ld) (now gr) (now gr) (now last) count count ⌝ }
+    ensures { λ _. ⌜ GroupsDone (now (ld .entry)) (now (gr .entry)) (now (gr .exit)) count ⌝ }
 {
     let mut n = count;
     while 0 < n {
@@ -39,7 +39,7 @@ fn group_all(ld: &[u16; 128], gr: &mut [u16; 128], last: &mut [u16; 128], count:
 pub fn group_words(ld: &[u16; 128], gr: &mut [u16; 128], count: usize)
     requires { ⌜ LeadsOk (now ld) count ⌝ }
     requires { ⌜ length (now gr) ≡ 128 ⌝ }
-    ensures { λ _. ⌜ Grouped (now (ld .entry)) (now (gr .exit)) count 0 ⌝ }
+    ensures { λ _. ⌜ GroupsDone (now (ld .entry)) (now (gr .entry)) (now (gr .exit)) count ⌝ }
 {
     let mut last = [0u16; 128];
     group_all(ld, gr, &mut last, count);

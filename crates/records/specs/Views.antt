@@ -77,10 +77,6 @@ inCore r = eqb (r .first) 1
 abbrev pub coreAt : Tables → ℕ → Bool
 coreAt T i = inCore (at (T .clauses) i)
 
--- the clauses of the core, in file order
-abbrev pub coreOf : Tables → List Rec
-coreOf T = filter inCore (T .clauses)
-
 -- the clause that assigned a variable ("8 assigned-by"), by its number
 unfoldable pub assignedBy : Tables → ℕ → Option ℕ
 assignedBy T v = elim (first (λ g. eqb (g .a) v) (T .assigned)) [ none ↦ none | some g ↦ some (g .b) ]

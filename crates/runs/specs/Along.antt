@@ -8,8 +8,8 @@ use native.Mathlib.Nat.{not-suc-le-zero, mod-eq-of-lt}
 use native.Mathlib.Numerals.{add-one}
 use lib.ListN.{length, getD, set, length-set, length-append}
 use lib.Seq.{getD-set-same, getD-set-other}
-use lib.Dec.{eqb}
-use borrow.Author.Tests.{eq-eqb, ne-eqb}
+use lib.Dec.{eqb, ltb}
+use borrow.Author.Tests.{eq-eqb, ne-eqb, ltb-true, ltb-false}
 use Rattle.basis.specs.Lists.{upto}
 use Rattle.basis.specs.Members.{split}
 use Rattle.store.specs.declared.Edge.{Edge}
@@ -59,10 +59,6 @@ module _ (x k : ℕ) (e : Edge) (is : k ≡ keyOf e) where
   pub ends-by : (k ≡ 0 → ⊥) → not (eqb k x) ≡ endsRun x e
   unfolding endsRun
   ends-by h = rw (← is, ne-eqb k 0 h)
-
-  pub ends-differ : (k ≡ 0 → ⊥) → (k ≡ x → ⊥) → true ≡ endsRun x e
-  unfolding endsRun
-  ends-differ h q = rw (← is, ne-eqb k 0 h, ne-eqb k x q)
 
 pub target-skip : (k : ℕ) (e : Edge) → k ≡ keyOf e → k ≡ 0 → targetOf e ≡ []
 unfolding targetOf targetBy
@@ -179,23 +175,38 @@ kids-put k u c e t q h l m =
 
 -- ---- writing a run's kids
 
+-- the places from lo on, below hi, hold numbers of nodes and nothing else
+abbrev pub Nodes : List ℕ → ℕ → ℕ → Type 0
+Nodes k lo hi = (i : ℕ) → lo ≤ i → i < hi → getD k i 0 < 128
+
+pub nodes-none : (k : List ℕ) (c : ℕ) → Nodes k c c
+nodes-none k c i a b = absurd (never a b)
+  where
+    never : c ≤ i → i < c → ⊥
+    never a b = omega arith
+
+pub nodes-then : (t u : List ℕ) (lo mid hi : ℕ) → Nodes t mid hi → Only t u lo mid → Nodes u lo mid → Nodes u lo hi
+nodes-then t u lo mid hi x o y i a b =
+    split (ltb i mid) (λ q. y i a (ltb-true i mid q)) (λ q. let h : mid ≤ i = ltb-false i mid q in rw (o .above i h) (x i h b))
+
 pub record KidStep (g ms gr k u : List ℕ) (want : Bool) (ts : List ℕ) (c r end : ℕ) : Type 0 where
   pub kids : kidsFrom u r end ≡ kidsBy g ms gr want (kidsFrom k c end) ts
   pub only : Only k u r c
+  pub small : Nodes u r c
   pub down : r ≤ c
   pub few : c ≤ r + length ts
 
 module _ (g ms gr k : List ℕ) (want : Bool) (end : ℕ) (e : Edge) (c key : ℕ) (is : key ≡ keyOf e) where
   pub kid-skip : key ≡ 0 → KidStep g ms gr k k want (targetOf e) c c end
   unfolding kidsBy
-  kid-skip h = rw (target-skip key e is h) (record { kids = refl; only = only-none k c; down = omega arith; few = omega arith })
+  kid-skip h = rw (target-skip key e is h) (record { kids = refl; only = only-none k c; small = nodes-none k c; down = omega arith; few = omega arith })
 
   module _ (t : ℕ) (some : key ≡ 0 → ⊥) (to : t ≡ e .target) where
     pub kid-not : (b : Bool) → b ≡ takes g ms gr want (kidsFrom k c end) t → b ≡ false → KidStep g ms gr k k want (targetOf e) c c end
     unfolding kidsBy
     kid-not b q f =
         rw (target-is key t e is some to)
-        (record { kids = rw ((sym q ∙ f), kidsBy); only = only-none k c; down = omega arith; few = omega arith })
+        (record { kids = rw ((sym q ∙ f), kidsBy); only = only-none k c; small = nodes-none k c; down = omega arith; few = omega arith })
 
 -- what a call of the step asks
 pub record KidReady (g k : List ℕ) (i c end : ℕ) : Type 0 where
@@ -219,6 +230,8 @@ kid-put g ms gr k want i c end key t b z is some to q f =
     (record {
       kids = rw ((sym q ∙ f), kidsBy) (kids-put k (set k (c - 1) t) (c - 1) end t refl (omega (arith, z .under)) (omega (arith, z .under, z .high, z .long)) m ∙ ap (λ (a : ℕ). t ∷ kidsFrom k a end) y);
       only = rw y at (only-put k (set k (c - 1) t) (c - 1) t refl);
+      small = λ j a l. let e : j ≡ c - 1 = omega arith in
+          rw (e, getD-set-same k (c - 1) t 0 (omega (arith, z .under, z .high, z .long))) m;
       down = omega arith;
       few = omega arith;
     })
@@ -227,6 +240,7 @@ pub record Kidding (g ls ms gr : List ℕ) (n x : ℕ) (want : Bool) (e₁ : ℕ
   pub out : Way g ls n e
   pub so-far : kidsBy g ms gr want (kidsFrom k c end) (targetsIn x (outLeft g n e)) ≡ kidsBy g ms gr want [] (targetsIn x (outLeft g n e₁))
   pub only : Only k₁ k c end
+  pub small : Nodes k c end
   pub under : c ≤ end
   pub room : length (targetsIn x (outLeft g n e)) ≤ c
   pub few : end + length (targetsIn x (outLeft g n e)) ≤ c + length (targetsIn x (outLeft g n e₁))
@@ -236,6 +250,7 @@ pub record Kidding (g ls ms gr : List ℕ) (n x : ℕ) (want : Bool) (e₁ : ℕ
 pub record KidsDone (g ms gr : List ℕ) (want : Bool) (ts k₁ : List ℕ) (end : ℕ) (k : List ℕ) (c : ℕ) : Type 0 where
   pub kids : kidsFrom k c end ≡ kidsBy g ms gr want [] ts
   pub only : Only k₁ k c end
+  pub small : Nodes k c end
   pub under : c ≤ end
   pub few : end ≤ c + length ts
 
@@ -253,6 +268,7 @@ module _ (g ls ms gr : List ℕ) (n x : ℕ) (want : Bool) (e₁ : ℕ) (k₁ : 
         out = z .out;
         so-far = rw (kids-none k₁ end end (omega arith));
         only = only-none k₁ end;
+        small = nodes-none k₁ end;
         under = omega arith;
         room = z .room;
         few = omega arith;
@@ -263,7 +279,7 @@ module _ (g ls ms gr : List ℕ) (n x : ℕ) (want : Bool) (e₁ : ℕ) (k₁ : 
   module _ (e : ℕ) (k : List ℕ) (c : ℕ) (z : Kidding g ls ms gr n x want e₁ k₁ end e k c) where
     pub kidding-none : e ≤ 0 → KidsDone g ms gr want (targetsIn x (outLeft g n e₁)) k₁ end k c
     unfolding targetsIn kidsBy
-    kidding-none h = record { kids = rw (out-end g n e h) at (z .so-far); only = z .only; under = z .under; few = let l = z .few in omega arith }
+    kidding-none h = record { kids = rw (out-end g n e h) at (z .so-far); only = z .only; small = z .small; under = z .under; few = let l = z .few in omega arith }
 
     module _ (h : 0 < e) (b : Bool) (is : b ≡ endsRun x (edgeIn g (e - 1))) where
       pub kidding-stop : b ≡ true → KidsDone g ms gr want (targetsIn x (outLeft g n e₁)) k₁ end k c
@@ -271,7 +287,7 @@ module _ (g ls ms gr : List ℕ) (n x : ℕ) (want : Bool) (e₁ : ℕ) (k₁ : 
       kidding-stop t =
           let q = way-cons g ls n e (nextOut ls (e - 1)) (z .out) h refl in
           let y : targetsIn x (outLeft g n e) ≡ [] = rw q (targets-end x (edgeIn g (e - 1)) (outLeft g n (nextOut ls (e - 1))) (sym is ∙ t)) in
-          record { kids = rw y at (z .so-far); only = z .only; under = z .under; few = let l = z .few in omega arith }
+          record { kids = rw y at (z .so-far); only = z .only; small = z .small; under = z .under; few = let l = z .few in omega arith }
 
       pub kidding-ready : b ≡ false → KidReady g k (e - 1) c end
       kidding-ready t =
@@ -301,6 +317,7 @@ module _ (g ls ms gr : List ℕ) (n x : ℕ) (want : Bool) (e₁ : ℕ) (k₁ : 
                 ∙ ap (kidsBy g ms gr want (kidsFrom k c end)) (sym y)
                 ∙ z .so-far;
             only = only-then k₁ k u d c end (w .down) (z .under) (z .only) (w .only);
+            small = nodes-then k u d c end (z .small) (w .only) (w .small);
             under = let a = w .down in let m = z .under in omega arith;
             room = let a = z .room in omega arith;
             few = let a = z .few in omega arith;

@@ -1,3 +1,4 @@
 pub mod Cut
 pub mod Kids
 pub mod Along
+pub mod Exact

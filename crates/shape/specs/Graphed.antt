@@ -11,7 +11,7 @@ use lib.Seq.{getD-append-seam}
 use lib.Dec.{eqb}
 use borrow.Author.Tests.{eqb-true, eqb-false, eq-eqb, ne-eqb}
 use Rattle.basis.specs.Lists.{any, filter, snoc}
-use Rattle.basis.specs.Members.{split, clash, either, In, All, Distinct, in-append, in-left, in-right, any-out, all-in}
+use Rattle.basis.specs.Members.{split, clash, either, In, All, Distinct, in-append, in-left, in-right, all-in}
 use Rattle.records.specs.Tables.{Tables}
 use Rattle.records.specs.Views.{clauseOf, coreAt}
 use Rattle.index.specs.Promise.{Valid}

@@ -22,7 +22,7 @@ use Rattle.plan.specs.Like.{Each}
 use Rattle.plan.specs.Fields.{runIn, kidFirst, kidEnd, requirementIn, wordingIn, kidsIn, kidsFrom, kids-none, runsFrom, runs-none, runs-more}
 use Rattle.runs.specs.Cut.{keyOf, targetsIn, targets-on, runOf}
 use Rattle.runs.specs.Kids.{markedIn, loneBy, kidsBy, kidsFor, wordingBy, wordingFor}
-use Rattle.runs.specs.Along.{Way, way-cons, ends-same, target-is, Only, only-none, only-put, kids-keep, KidsDone, KidsReady}
+use Rattle.runs.specs.Along.{Way, way-cons, ends-same, target-is, Only, only-none, only-put, Nodes, nodes-none, kids-keep, KidsDone, KidsReady}
 
 -- run number r stands for q, and its kids stand from place c on
 pub record RunFor (g ms gr p k : List ℕ) (c r : ℕ) (q : Run) : Type 0 where
@@ -30,9 +30,10 @@ pub record RunFor (g ms gr p k : List ℕ) (c r : ℕ) (q : Run) : Type 0 where
   pub requirement : requirementIn p r ≡ q .req
   pub wording : wordingIn p r ≡ wordingFor g ms (q .to)
   pub from : c ≤ kidFirst p r
+  pub short : runIn p r < 1099511627776
 
 -- the words of a run that was not touched
-run-word : (p u : List ℕ) (lo hi r : ℕ) → Only p u lo hi → hi ≤ 256 + r → runIn u r ≡ runIn p r
+pub run-word : (p u : List ℕ) (lo hi r : ℕ) → Only p u lo hi → hi ≤ 256 + r → runIn u r ≡ runIn p r
 unfolding runIn
 run-word p u lo hi r o h = rw (o .above (256 + r) h)
 
@@ -45,7 +46,33 @@ run-keep g ms gr p k u v c d r lo hi q z o h x y =
       requirement = rw e (z .requirement);
       wording = rw e (z .wording);
       from = rw e (let f = z .from in omega arith);
+      short = rw e (z .short);
     }
+
+-- ---- the kids of c runs from number r on stand from place a to b, one run's behind another's
+
+abbrev pub Tiled : List ℕ → ℕ → ℕ → ℕ → ℕ → Type 0
+Tiled p zero r a b = a ≡ b
+Tiled p (suc c) r a b = (kidFirst p r ≡ a) × (a ≤ kidEnd p r) × Tiled p c (suc r) (kidEnd p r) b
+
+pub tiled-under : (p : List ℕ) (c r a b : ℕ) → Tiled p c r a b → a ≤ b
+tiled-under p zero r a b z = omega arith
+tiled-under p (suc c) r a b z = omega (arith, z .1, tiled-under p c (suc r) (kidEnd p r) b (z .2))
+
+pub tiled-keep : (p u : List ℕ) (c r a b : ℕ) → ((j : ℕ) → r ≤ j → runIn u j ≡ runIn p j) → Tiled p c r a b → Tiled u c r a b
+unfolding kidFirst kidEnd
+tiled-keep p u zero r a b f z = z
+tiled-keep p u (suc c) r a b f z =
+    rw (f r (omega arith)) (z .0, z .1, tiled-keep p u c (suc r) (kidEnd p r) b (λ j h. f j (omega arith)) (z .2))
+
+pub tiled-join : (p : List ℕ) (c d r s a m b : ℕ) → r + c ≡ s → Tiled p c r a m → Tiled p d s m b → Tiled p (c + d) r a b
+tiled-join p zero d r s a m b e x y =
+    let q : s ≡ r = omega arith in
+    let n : 0 + d ≡ d = omega arith in
+    rw (n, x) (rw q at y)
+tiled-join p (suc c) d r s a m b e x y =
+    let n : suc c + d ≡ suc (c + d) = omega arith in
+    rw n (x .0, x .1, tiled-join p c d (suc r) s (kidEnd p r) m b (omega arith) (x .2) y)
 
 -- ---- the word
 
@@ -54,9 +81,7 @@ pub record RunWord (w first end q words : ℕ) : Type 0 where
   pub end-is : w / 2048 % 2048 ≡ end
   pub requirement-is : w / 4194304 % 65536 ≡ q
   pub wording-is : w / 274877906944 % 4 ≡ words
-
-pub run-packed : (first end q words : ℕ) → first < 2048 → end < 2048 → q < 65536 → words < 4 → RunWord (first + 2048 * end + 4194304 * q + 274877906944 * words) first end q words
-run-packed first end q words a b c d = record { first-is = omega arith; end-is = omega arith; requirement-is = omega arith; wording-is = omega arith }
+  pub rest : w < 1099511627776
 
 -- ---- the only target is unresolved
 
@@ -119,21 +144,22 @@ pub record WriteReady (g ls ms p k : List ℕ) (n x e : ℕ) (many want : Bool) 
 pub record KidsMaybe (g ms gr : List ℕ) (lone want : Bool) (ts k : List ℕ) (end : ℕ) (v : List ℕ) (c : ℕ) : Type 0 where
   pub kids : kidsFrom v c end ≡ cond lone [] (kidsBy g ms gr want [] ts)
   pub only : Only k v c end
+  pub small : Nodes v c end
   pub under : c ≤ end
   pub few : end ≤ c + length ts
 
 module _ (g ms gr : List ℕ) (lone want : Bool) (ts k : List ℕ) (end : ℕ) where
   pub maybe-none : lone ≡ true → KidsMaybe g ms gr lone want ts k end k end
-  maybe-none t = record { kids = rw t (kids-none k end end (omega arith)); only = only-none k end; under = omega arith; few = omega arith }
+  maybe-none t = record { kids = rw t (kids-none k end end (omega arith)); only = only-none k end; small = nodes-none k end; under = omega arith; few = omega arith }
 
   pub maybe-some : (v : List ℕ) (c : ℕ) → lone ≡ false → KidsDone g ms gr want ts k end v c → KidsMaybe g ms gr lone want ts k end v c
-  maybe-some v c t z = record { kids = rw t (z .kids); only = z .only; under = z .under; few = z .few }
-
-pub write-kids : (g ls ms p k : List ℕ) (n x e : ℕ) (many want : Bool) (rc kc : ℕ) → WriteReady g ls ms p k n x e many want rc kc → KidsReady g ls k n x e kc
-write-kids g ls ms p k n x e many want rc kc z = record { out = z .way; room = z .room; high = z .kc-high; long = z .k-long }
+  maybe-some v c t z = record { kids = rw t (z .kids); only = z .only; small = z .small; under = z .under; few = z .few }
 
 pub record RunPut (g ms gr p k u v : List ℕ) (rc kc d : ℕ) (q : Run) : Type 0 where
   pub run : RunFor g ms gr u v d (rc - 1) q
+  pub first-is : kidFirst u (rc - 1) ≡ d
+  pub end-is : kidEnd u (rc - 1) ≡ kc
+  pub small : Nodes v d kc
   pub only-p : Only p u (256 + (rc - 1)) (256 + rc)
   pub only-k : Only k v d kc
   pub under : d ≤ kc
@@ -158,7 +184,11 @@ run-put g ls ms gr p k v n x e many want lone rc kc d w word z ll m ww y =
             requirement = rw (lt-ltb (rc - 1) 1024 i, r) (y .requirement-is);
             wording = rw (lt-ltb (rc - 1) 1024 i, r, l, ← z .want-is) (y .wording-is ∙ ww);
             from = rw (lt-ltb (rc - 1) 1024 i, r, y .first-is) (omega arith);
+            short = rw (lt-ltb (rc - 1) 1024 i, r) (y .rest);
           };
+      first-is = rw (lt-ltb (rc - 1) 1024 i, r) (y .first-is);
+      end-is = rw (lt-ltb (rc - 1) 1024 i, r) (y .end-is);
+      small = m .small;
       only-p = rw j at (only-put p (set p (256 + (rc - 1)) word) (256 + (rc - 1)) word refl);
       only-k = m .only;
       under = m .under;

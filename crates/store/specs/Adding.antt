@@ -64,6 +64,17 @@ find-end g k w i W inv l m q =
 
 pub ruleset finds = (find-start, find-hit, find-next, find-end)
 
+-- a word that stands once is found where it stands
+module _ (g : List ℕ) (s : Size) (w n : ℕ) (P : Growing g s) (h : n < s .nodes) (e : getD g (1024 + n) 0 ≡ w) where
+  near-left : (i : ℕ) → i ≤ n → findLeft g (s .nodes) w i ≡ findOf g (s .nodes) w
+  near-left zero l = find-start g (s .nodes) w
+  near-left (suc i) l =
+      let z : findLeft g (s .nodes) w (i + 1) ≡ findOf g (s .nodes) w = find-next g (s .nodes) w i (findOf g (s .nodes) w) (near-left i (omega arith)) (omega arith) (P .stored .nodes-most) (P .stored .long) (λ q. P .unlike i n (omega arith) h (q ∙ sym e)) in
+      rw add-one at z
+
+  pub find-near : n ≡ findOf g (s .nodes) w
+  find-near = find-hit g (s .nodes) w n (findOf g (s .nodes) w) (near-left n (omega arith)) h (P .stored .nodes-most) (P .stored .long) e
+
 -- ---- words are equal just where nodes are, so the place of the word is the place of the node
 
 place-word : (x : ConflictNode) (vs : List ℕ) (i : ℕ) → nodeNumber x < 65536 → ((j : ℕ) → j < length vs → wordOf (nodeOf (getD vs j 0)) ≡ getD vs j 0) → place (eqb (wordOf x)) vs i ≡ place (sameNode x) (map nodeOf vs) i
@@ -79,6 +90,17 @@ place-below p (v ∷ vs) a i e =
     split (p v)
     (λ t. let y : some a ≡ some i = rw (t, place) at e in let z : a ≡ i = cc in omega arith)
     (λ t. let y : i < suc a + length vs = place-below p vs (suc a) i (rw (t, place) at e) in omega arith)
+
+place-none : (p : ℕ → Bool) (vs : List ℕ) (a j : ℕ) → place p vs a ≡ none → j < length vs → p (getD vs j 0) ≡ false
+place-none p [] a j e h = let f : ⊥ = omega arith in absurd f
+place-none p (v ∷ vs) a zero e h =
+    split (p v)
+    (λ t. let y : some a ≡ none = rw (t, place) at e in let z : _≡_ {A = ℕ} 0 1 = cc in let f : ⊥ = omega arith in absurd f)
+    (λ t. t)
+place-none p (v ∷ vs) a (suc j) e h =
+    split (p v)
+    (λ t. let y : some a ≡ none = rw (t, place) at e in let z : _≡_ {A = ℕ} 0 1 = cc in let f : ⊥ = omega arith in absurd f)
+    (λ t. place-none p vs (suc a) j (rw (t, place) at e) (omega arith))
 
 -- the table with one more node, one more edge
 abbrev pub oneNode : Size → Size
@@ -140,28 +162,46 @@ module _ (g : List ℕ) (s : Size) (x : ConflictNode) (w : ℕ) (P : Growing g s
     unfolding addNode
     add-new h l = rw (missed h, addNode, nodes-count g s (P .stored), lt-ltb (s .nodes) 128 l) (ap (added (s .nodes)) (more l))
 
-  pub grow-node : s .nodes < 128 → Growing (set g (1024 + s .nodes) w) (oneNode s)
-  grow-node l =
-      record { stored = record { long = rw length-set (P .stored .long); some = omega arith; nodes-most = omega arith; edges-most = P .stored .edges-most; root = rw (getD-set-other g (1024 + s .nodes) 1024 w 0 (λ q. omega (arith, P .two))) (P .stored .root); word = words; no-node = no-node; packed = λ k h. rw (apart k (omega (arith, P .stored .edges-most))) (P .stored .packed k h); no-edge = λ k h l. rw (apart k l) (P .stored .no-edge k h l); source = sources; target = targets }; two = omega (arith, P .two) }
-    where
-      words : (j : ℕ) → j < s .nodes + 1 → wordOf (nodeOf (getD (set g (1024 + s .nodes) w) (1024 + j) 0)) ≡ getD (set g (1024 + s .nodes) w) (1024 + j) 0
-      words j h =
-          split (eqb j (s .nodes))
-          (λ t. rw (eqb-true j (s .nodes) t, getD-set-same g (1024 + s .nodes) w 0 (omega (arith, P .stored .long)), e .is) (ap wordOf (node-back x (e .fits))))
-          (λ t. let d : j ≡ s .nodes → ⊥ = eqb-false j (s .nodes) t in
-          rw (getD-set-other g (1024 + s .nodes) (1024 + j) w 0 (λ q. d (omega arith))) (P .stored .word j (omega (arith, d))))
+    -- no node has the word that was not found
+    fresh : s .nodes ≤ i → (j : ℕ) → j < s .nodes → getD g (1024 + j) 0 ≡ w → ⊥
+    fresh h j b q =
+        let n : place (eqb w) (nodeWords g (s .nodes)) 0 ≡ none = sym sought ∙ missed h in
+        let z : eqb w (getD (nodeWords g (s .nodes)) j 0) ≡ false = place-none (eqb w) (nodeWords g (s .nodes)) 0 j n (rw (length-take-le (s .nodes) (drop 1024 g) wide) b) in
+        let y : eqb w (getD g (1024 + j) 0) ≡ false = rw (getD-take (s .nodes) (drop 1024 g) j 0 b, getD-drop 1024 g j 0) at z in
+        eqb-false w (getD g (1024 + j) 0) y (sym q)
 
-      apart : (k : ℕ) → k < 1024 → getD (set g (1024 + s .nodes) w) k 0 ≡ getD g k 0
-      apart k h = getD-set-other g (1024 + s .nodes) k w 0 (λ q. omega arith)
+    pub grow-node : s .nodes ≤ i → s .nodes < 128 → Growing (set g (1024 + s .nodes) w) (oneNode s)
+    grow-node h l =
+        record { stored = record { long = rw length-set (P .stored .long); some = omega arith; nodes-most = omega arith; edges-most = P .stored .edges-most; root = rw (getD-set-other g (1024 + s .nodes) 1024 w 0 (λ q. omega (arith, P .two))) (P .stored .root); word = words; no-node = no-node; packed = λ k h. rw (apart k (omega (arith, P .stored .edges-most))) (P .stored .packed k h); no-edge = λ k h l. rw (apart k l) (P .stored .no-edge k h l); source = sources; target = targets }; two = omega (arith, P .two); unlike = unlike }
+      where
+        words : (j : ℕ) → j < s .nodes + 1 → wordOf (nodeOf (getD (set g (1024 + s .nodes) w) (1024 + j) 0)) ≡ getD (set g (1024 + s .nodes) w) (1024 + j) 0
+        words j h =
+            split (eqb j (s .nodes))
+            (λ t. rw (eqb-true j (s .nodes) t, getD-set-same g (1024 + s .nodes) w 0 (omega (arith, P .stored .long)), e .is) (ap wordOf (node-back x (e .fits))))
+            (λ t. let d : j ≡ s .nodes → ⊥ = eqb-false j (s .nodes) t in
+            rw (getD-set-other g (1024 + s .nodes) (1024 + j) w 0 (λ q. d (omega arith))) (P .stored .word j (omega (arith, d))))
 
-      no-node : (i : ℕ) → s .nodes + 1 ≤ i → i < 128 → getD (set g (1024 + s .nodes) w) (1024 + i) 0 ≡ 0
-      no-node i h m = getD-set-other g (1024 + s .nodes) (1024 + i) w 0 (λ q. omega arith) ∙ P .stored .no-node i (omega arith) m
+        apart : (k : ℕ) → k < 1024 → getD (set g (1024 + s .nodes) w) k 0 ≡ getD g k 0
+        apart k h = getD-set-other g (1024 + s .nodes) k w 0 (λ q. omega arith)
 
-      sources : (k : ℕ) → k < s .edges → getD (set g (1024 + s .nodes) w) k 0 % 256 < 128
-      sources k h = rw (apart k (omega (arith, P .stored .edges-most))) (P .stored .source k h)
+        no-node : (i : ℕ) → s .nodes + 1 ≤ i → i < 128 → getD (set g (1024 + s .nodes) w) (1024 + i) 0 ≡ 0
+        no-node i h m = getD-set-other g (1024 + s .nodes) (1024 + i) w 0 (λ q. omega arith) ∙ P .stored .no-node i (omega arith) m
 
-      targets : (k : ℕ) → k < s .edges → getD (set g (1024 + s .nodes) w) k 0 / 256 % 256 < s .nodes + 1
-      targets k h = rw (apart k (omega (arith, P .stored .edges-most))) (omega (arith, P .stored .target k h))
+        sources : (k : ℕ) → k < s .edges → getD (set g (1024 + s .nodes) w) k 0 % 256 < 128
+        sources k h = rw (apart k (omega (arith, P .stored .edges-most))) (P .stored .source k h)
+
+        targets : (k : ℕ) → k < s .edges → getD (set g (1024 + s .nodes) w) k 0 / 256 % 256 < s .nodes + 1
+        targets k h = rw (apart k (omega (arith, P .stored .edges-most))) (omega (arith, P .stored .target k h))
+
+        old : (j : ℕ) → j < s .nodes → getD (set g (1024 + s .nodes) w) (1024 + j) 0 ≡ getD g (1024 + j) 0
+        old j b = getD-set-other g (1024 + s .nodes) (1024 + j) w 0 (λ q. omega arith)
+
+        unlike : (j k : ℕ) → j < k → k < s .nodes + 1 → getD (set g (1024 + s .nodes) w) (1024 + j) 0 ≡ getD (set g (1024 + s .nodes) w) (1024 + k) 0 → ⊥
+        unlike j k b c q =
+            let u : getD g (1024 + j) 0 ≡ getD (set g (1024 + s .nodes) w) (1024 + k) 0 = sym (old j (omega arith)) ∙ q in
+            split (eqb k (s .nodes))
+            (λ t. let y : getD (set g (1024 + s .nodes) w) (1024 + k) 0 ≡ w = rw (eqb-true k (s .nodes) t) (getD-set-same g (1024 + s .nodes) w 0 (omega (arith, P .stored .long))) in fresh h j (omega arith) (u ∙ y))
+            (λ t. let d : k ≡ s .nodes → ⊥ = eqb-false k (s .nodes) t in P .unlike j k b (omega (arith, d)) (u ∙ old k (omega (arith, d))))
 
 pub ruleset adds-node = (add-old, add-new, add-full, grow-node)
 
@@ -186,7 +226,7 @@ module _ (g : List ℕ) (s : Size) (e : Edge) (w : ℕ) (P : Growing g s) (E : E
 
   pub grow-edge : s .edges < 1024 → e .source < 128 → e .target < s .nodes → Growing (set g (s .edges) w) (oneEdge s)
   grow-edge l hs ht =
-      record { stored = record { long = rw length-set (P .stored .long); some = P .stored .some; nodes-most = P .stored .nodes-most; edges-most = omega arith; root = rw (apart 0) (P .stored .root); word = words; no-node = λ i h m. apart i ∙ P .stored .no-node i h m; packed = packed; no-edge = λ k h m. there k (λ z. omega arith) ∙ P .stored .no-edge k (omega arith) m; source = sources; target = targets }; two = P .two }
+      record { stored = record { long = rw length-set (P .stored .long); some = P .stored .some; nodes-most = P .stored .nodes-most; edges-most = omega arith; root = rw (apart 0) (P .stored .root); word = words; no-node = λ i h m. apart i ∙ P .stored .no-node i h m; packed = packed; no-edge = λ k h m. there k (λ z. omega arith) ∙ P .stored .no-edge k (omega arith) m; source = sources; target = targets }; two = P .two; unlike = λ i j b c z. P .unlike i j b c (sym (apart i) ∙ z ∙ apart j) }
     where
       apart : (j : ℕ) → getD (set g (s .edges) w) (1024 + j) 0 ≡ getD g (1024 + j) 0
       apart j = getD-set-other g (s .edges) (1024 + j) w 0 (λ z. omega arith)
@@ -245,7 +285,7 @@ start-graph g z =
 
 pub start-growing : (g : List ℕ) → g ≡ replicate 1152 0 → Growing (set (set g 1024 0) 1025 2) two
 start-growing g z =
-    record { stored = record { long = rw (length-set, length-set) (blank-long g z); some = omega arith; nodes-most = omega arith; edges-most = omega arith; root = first; word = words; no-node = λ i h m. other (1024 + i) (λ q. omega arith) (λ q. omega arith); packed = λ e h. absurd (none e h); no-edge = λ e h m. other e (λ q. omega arith) (λ q. omega arith); source = λ e h. absurd (none e h); target = λ e h. absurd (none e h) }; two = omega arith }
+    record { stored = record { long = rw (length-set, length-set) (blank-long g z); some = omega arith; nodes-most = omega arith; edges-most = omega arith; root = first; word = words; no-node = λ i h m. other (1024 + i) (λ q. omega arith) (λ q. omega arith); packed = λ e h. absurd (none e h); no-edge = λ e h m. other e (λ q. omega arith) (λ q. omega arith); source = λ e h. absurd (none e h); target = λ e h. absurd (none e h) }; two = omega arith; unlike = unlike }
   where
     none : (e : ℕ) → e < 0 → ⊥
     none e h = omega arith
@@ -263,6 +303,12 @@ start-growing g z =
     words zero h = rw first
     words (suc zero) h = rw second
     words (suc (suc i)) h = let f : ⊥ = omega arith in absurd f
+
+    unlike : (i j : ℕ) → i < j → j < 2 → getD (set (set g 1024 0) 1025 2) (1024 + i) 0 ≡ getD (set (set g 1024 0) 1025 2) (1024 + j) 0 → ⊥
+    unlike zero zero b c q = omega arith
+    unlike zero (suc zero) b c q = let z : _≡_ {A = ℕ} 0 2 = sym first ∙ q ∙ second in omega arith
+    unlike zero (suc (suc j)) b c q = omega arith
+    unlike (suc i) j b c q = omega arith
 
 pub ruleset starts = (start-graph, start-growing)
 
@@ -306,10 +352,3 @@ at-below a i j s q p e = rw e (rw q at p)
 
 pub at-small : (g : List ℕ) (a : Put) (i : ℕ) (s : Size) → a ≡ At i s → placeOf a < sizeOf a .nodes → Growing g (sizeOf a) → i < 128
 at-small g a i s q p G = let h : i < s .nodes = rw q at p in let P : Growing g s = rw q at G in omega (arith, P .stored .nodes-most)
-
--- the same for whoever takes an answer of `add_node` or `link` apart; A is what the contract says
-pub at-added : (g : List ℕ) (a : Put) (A : Added) (i : ℕ) (s : Size) → a ≡ At i s → addedIn g a ≡ A → A ≡ added i (graphIn g s)
-at-added g a A i s q p = sym p ∙ ap (addedIn g) q
-
-pub full-added : (g : List ℕ) (a : Put) (A : Added) (s : Size) → a ≡ Full s → addedIn g a ≡ A → A ≡ full (graphIn g s)
-full-added g a A s q p = sym p ∙ ap (addedIn g) q

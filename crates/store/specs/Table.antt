@@ -2,7 +2,7 @@
 use mathlib.Core.Path.{_≡_, sym, ap, _∙_}
 use mathlib.Core.Bool.{true, false}
 use mathlib.Core.List.{List, _∷_, map}
-use Prim.Native.Nat.{ℕ, _+_, _/_, _%_, _<_, _≤_}
+use Prim.Native.Nat.{ℕ, zero, suc, _+_, _/_, _%_, _<_, _≤_}
 use native.Mathlib.Omega.{arith}
 use lib.ListN.{length, getD, take, drop, length-map, length-drop, List·getD-map}
 use lib.Dec.{ltb}
@@ -18,7 +18,7 @@ use Rattle.store.specs.declared.Size.{Size}
 use Rattle.store.specs.declared.Put.{Put}
 use Rattle.store.specs.declared.Put.the-variants.{At, Full}
 use Rattle.store.specs.Graph.{Graph, Added, added, full, nodeAt, tryRequires, isConflict, isExcluded}
-use Rattle.store.specs.Words.{wordOf, nodeOf, edgeWord, edgeOf, weightOf, byKind, requires-is, requires-none, conflict-is, conflict-not, excluded-is, excluded-not}
+use Rattle.store.specs.Words.{wordOf, nodeOf, nodeNumber, edgeWord, edgeOf, weightOf, byKind, requires-is, requires-none, conflict-is, conflict-not, excluded-is, excluded-not}
 
 -- the words of the first k nodes
 abbrev pub nodeWords : List ℕ → ℕ → List ℕ
@@ -56,10 +56,11 @@ pub record Stored (g : List ℕ) (s : Size) : Type 0 where
   pub source : (e : ℕ) → e < s .edges → getD g e 0 % 256 < 128
   pub target : (e : ℕ) → e < s .edges → getD g e 0 / 256 % 256 < s .nodes
 
--- while the graph grows, node 1 is kept for `unresolved`
+-- while the graph grows, node 1 is kept for `unresolved`, and no two nodes have the same word
 pub record Growing (g : List ℕ) (s : Size) : Type 0 where
   pub stored : Stored g s
   pub two : 2 ≤ s .nodes
+  pub unlike : (i j : ℕ) → i < j → j < s .nodes → getD g (1024 + i) 0 ≡ getD g (1024 + j) 0 → ⊥
 
 -- ---- how adding went, as the definitions say it
 
@@ -100,10 +101,6 @@ module _ (g : List ℕ) (s : Size) (S : Stored g s) where
   unfolding graphIn edgeIn
   edge-in e h = sym (List·getD-map edgeOf (take (s .edges) g) e 0 ∙ ap edgeOf (getD-take (s .edges) g e 0 h))
 
-  pub root-in : nodeAt (graphIn g s) 0 ≡ N.Root
-  unfolding nodeIn guard
-  root-in = sym (node-in 0 (S .some)) ∙ ap nodeOf (S .root)
-
   pub source-below : (e : ℕ) → e < s .edges → edgeIn g e .source < 128
   unfolding edgeIn
   source-below e h = S .source e h
@@ -111,6 +108,19 @@ module _ (g : List ℕ) (s : Size) (S : Stored g s) where
   pub target-below : (e : ℕ) → e < s .edges → edgeIn g e .target < s .nodes
   unfolding edgeIn
   target-below e h = S .target e h
+
+number-by : (k n : ℕ) → n < 65536 → nodeNumber (byKind k n) < 65536
+number-by zero n h = omega arith
+number-by (suc zero) n h = h
+number-by (suc (suc zero)) n h = omega arith
+number-by (suc (suc (suc k))) n h = h
+
+-- a stored node's number is one of 16 bits
+pub number-fits : (g : List ℕ) (s : Size) (n : ℕ) → nodeNumber (nodeAt (graphIn g s) n) < 65536
+unfolding graphIn
+number-fits g s n =
+    let w : ℕ = getD (nodeWords g (s .nodes)) n 0 in
+    rw (List·getD-map nodeOf (nodeWords g (s .nodes)) n 0) (number-by (w % 4) (w / 4 % 65536) (omega arith))
 
 -- ---- one word read, and what it tells; w is what the read gave
 

@@ -250,6 +250,12 @@ word-unresolved x e = rw e (record { is = refl; fits = omega arith })
 pub word-excluded : (x : ConflictNode) (s : ℕ) → x ≡ N.Excluded s → s < 65536 → NodeWord x (3 + 4 * s)
 word-excluded x s e h = rw e (record { is = refl; fits = h })
 
+pub word-small : (x : ConflictNode) (w : ℕ) → NodeWord x w → w < 262144
+word-small N.Root w e = rw (e .is) (omega arith)
+word-small (N.Solvable s) w e = let h : s < 65536 = e .fits in rw (e .is) (omega arith)
+word-small N.UnresolvedDependency w e = rw (e .is) (omega arith)
+word-small (N.Excluded s) w e = let h : s < 65536 = e .fits in rw (e .is) (omega arith)
+
 -- r packs the edge
 pub record EdgeWord (e : Edge) (r : ℕ) : Type 0 where
   pub is : r ≡ edgeWord e

@@ -1,8 +1,8 @@
 // The conflict graph as it is stored: nodes and edges in the order added, packed into words of a lent table, and the removal
 // of `unresolved`. It knows nothing of records, and it alone knows the packing.
 ghost use mathlib.Core.Path.{_≡_};
-ghost use Prim.Native.Nat.{_+_, _*_, _<_, _≤_, _/_, _%_};
-ghost use lib.ListN.{length, replicate};
+ghost use Prim.Native.Nat.{_+_, _*_, _-_, _<_, _≤_, _/_, _%_};
+ghost use lib.ListN.{length, replicate, getD};
 ghost use Rattle.store.specs.Graph.{startGraph, addNode, addEdge, addLink, renumber, settle, tryRequires, isConflict, isExcluded};
 ghost use Rattle.store.specs.Words.{weightOf, byKind, EdgeWord, CauseWord, WeightWord, NodeWord};
 ghost use Rattle.basis.specs.Below.{allBelow};
@@ -201,15 +201,41 @@ fn find_node(g: &[u64; 1152], k: usize, w: u64) -> usize
     k
 }
 
-// The node's number, a new one where it is not there yet (conflict.rs: `add_node`).
-pub fn add_node(g: &mut [u64; 1152], s: Size, x: ConflictNode) -> Put
+// Where word w stands if nodes and their words go up together from node n on.
+fn guess(g: &[u64; 1152], w: u64, n: usize) -> usize
+    requires { ⌜ (w < 262144) × (n < 256) ⌝ }
+    ensures { λ r. ⌜ r ≡ (4 * n + w - getD (now (g .entry)) (1024 + n) 0) / 4 ⌝ }
+{
+    let v = basis::get64(g, 1024 + n);
+    let up = 4 * (n as u64) + w;
+    if v <= up { ((up - v) / 4) as usize } else { 0 }
+}
+
+// The place of word w among the nodes, or their count: looked for at place `near` first.
+fn find_near(g: &[u64; 1152], s: Size, w: u64, near: usize) -> usize
     requires { ⌜ Growing (now g) s ⌝ }
+    ensures { λ r. ⌜ r ≡ findOf (now (g .entry)) (s .nodes) w ⌝ }
+{
+    let k = s.nodes;
+    if near < k {
+        if g[1024 + near] == w {
+            return near;
+        }
+    }
+    find_node(g, k, w)
+}
+
+// The node's number, a new one where it is not there yet; a node n that stands near it saves the search.
+fn add_near(g: &mut [u64; 1152], s: Size, x: ConflictNode, n: usize) -> Put
+    requires { ⌜ Growing (now g) s ⌝ }
+    requires { ⌜ n < 256 ⌝ }
     ensures { λ r. ⌜ addedIn (now (g .exit)) r ≡ addNode (graphIn (now (g .entry)) s) x ⌝ }
     ensures { λ r. ⌜ Growing (now (g .exit)) (sizeOf r) × (placeOf r < sizeOf r .nodes) ⌝ }
 {
     let w = node_word(x);
     let k = s.nodes;
-    let i = find_node(g, k, w);
+    let near = guess(g, w, n);
+    let i = find_near(g, s, w, near);
     if i < k {
         return Put::At(i, s);
     }
@@ -224,6 +250,15 @@ pub fn add_node(g: &mut [u64; 1152], s: Size, x: ConflictNode) -> Put
             edges: s.edges,
         },
     )
+}
+
+// The node's number, a new one where it is not there yet (conflict.rs: `add_node`).
+pub fn add_node(g: &mut [u64; 1152], s: Size, x: ConflictNode) -> Put
+    requires { ⌜ Growing (now g) s ⌝ }
+    ensures { λ r. ⌜ addedIn (now (g .exit)) r ≡ addNode (graphIn (now (g .entry)) s) x ⌝ }
+    ensures { λ r. ⌜ Growing (now (g .exit)) (sizeOf r) × (placeOf r < sizeOf r .nodes) ⌝ }
+{
+    add_near(g, s, x, 0)
 }
 
 fn add_edge(g: &mut [u64; 1152], s: Size, e: Edge) -> Put
@@ -253,14 +288,24 @@ fn small(i: usize) -> u8
     i as u8
 }
 
-// The target, then the edge from node `source`.
+// The edge added last, 0 where there is none.
+fn last_edge(s: Size) -> usize
+    ensures { λ r. ⌜ r ≡ s .edges - 1 ⌝ }
+{
+    let m = s.edges;
+    if 0 < m { m - 1 } else { 0 }
+}
+
+// The target, then the edge from node `source`. Candidates of a requirement often stand in the order of their numbers.
 fn link_to(g: &mut [u64; 1152], s: Size, source: u8, y: ConflictNode, w: ConflictEdge) -> Put
     requires { ⌜ Growing (now g) s ⌝ }
     requires { ⌜ source < 128 ⌝ }
     ensures { λ r. ⌜ addedIn (now (g .exit)) r ≡ addTarget (graphIn (now (g .entry)) s) source y w ⌝ }
     ensures { λ r. ⌜ Growing (now (g .exit)) (sizeOf r) ⌝ }
 {
-    let a = add_node(g, s, y);
+    let last = last_edge(s);
+    let n = target_at(g, last);
+    let a = add_near(g, s, y, n);
     match a {
         Put::Full(t) => Put::Full(t),
         Put::At(j, t) => {
@@ -275,13 +320,15 @@ fn link_to(g: &mut [u64; 1152], s: Size, source: u8, y: ConflictNode, w: Conflic
     }
 }
 
-// Both ends, the source first, then the edge.
+// Both ends, the source first, then the edge. Edges of one source often come one after another.
 pub fn link(g: &mut [u64; 1152], s: Size, x: ConflictNode, y: ConflictNode, w: ConflictEdge) -> Put
     requires { ⌜ Growing (now g) s ⌝ }
     ensures { λ r. ⌜ addedIn (now (g .exit)) r ≡ addLink (graphIn (now (g .entry)) s) x y w ⌝ }
     ensures { λ r. ⌜ Growing (now (g .exit)) (sizeOf r) ⌝ }
 {
-    let a = add_node(g, s, x);
+    let last = last_edge(s);
+    let n = source_at(g, last);
+    let a = add_near(g, s, x, n);
     match a {
         Put::Full(t) => Put::Full(t),
         Put::At(i, t) => {

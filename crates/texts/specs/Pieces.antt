@@ -52,9 +52,6 @@ pub record Near (text room left : List ℕ) (n : ℕ) : Type 0 where
   pub same : length left ≡ length room
   pub within : n ≤ length left
 
-pub near-none : {o : List ℕ} → Near [] o o 0
-near-none = record { count = refl; front = refl; rest = refl; same = refl; within = omega arith }
-
 -- what is lent on and comes back as e, behind the n first
 lent : (d : List ℕ) (n : ℕ) → n ≤ length d → take (length d - n) (drop n d) ≡ drop n d
 lent d n h = take-all (length d - n) (drop n d) (let z : length (drop n d) ≡ length d - n = length-drop n d in omega arith)

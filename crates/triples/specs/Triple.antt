@@ -137,7 +137,7 @@ lastIn w = take 128 (drop 3072 w)
 
 -- the promise: n words, each the one of its triple, chained by hash
 pub record Triples (tr w : List ℕ) (n : ℕ) : Type 0 where
-  pub long : length tr ≡ 1024
+  pub long : length tr ≡ 1280
   pub chained : Chained tripleLay (keyed hashOf tr) w n
   pub good : (i : ℕ) → i < n → Whole (getD tr i 0)
 
@@ -205,7 +205,7 @@ pub record Clear (w : List ℕ) : Type 0 where
   pub wide : length w ≡ 3456
   pub zeros : (s : ℕ) → getD w s 0 ≡ 0
 
-pub triples-none : (tr w : List ℕ) → Clear w → length tr ≡ 1024 → Triples tr w 0
+pub triples-none : (tr w : List ℕ) → Clear w → length tr ≡ 1280 → Triples tr w 0
 triples-none tr w C h =
     record {
       long = h;

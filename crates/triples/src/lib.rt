@@ -1,5 +1,6 @@
 // What building the graph remembers besides the graph (conflict.rs: `constrains_edges`, `last_node_by_name`): the triples
-// made, a word each, found by hash, and the last solvable under each forbidden name.
+// made, a word each, found by hash, and the last solvable under each forbidden name. The table of triples has 1,280 words, of
+// which they take the first 1,024 at most: the explanation clears it and keeps its plan there.
 ghost use mathlib.Core.Path.{_≡_};
 ghost use Prim.Native.Nat.{_+_, _<_, _≤_};
 ghost use lib.ListN.{length, getD, set, take};
@@ -51,7 +52,7 @@ fn next(w: &[u16; 3456], i: usize) -> usize
     basis::wide16(w[i])
 }
 
-fn word_is(tr: &[u64; 1024], t: u64, i: usize) -> bool
+fn word_is(tr: &[u64; 1280], t: u64, i: usize) -> bool
     requires { ⌜ i < 1024 ⌝ }
     ensures { λ r. ⌜ r ≡ wordIs (now (tr .entry)) t i ⌝ }
 {
@@ -59,7 +60,7 @@ fn word_is(tr: &[u64; 1024], t: u64, i: usize) -> bool
 }
 
 // Word t is among the first n.
-pub fn made(tr: &[u64; 1024], w: &[u16; 3456], n: usize, t: u64) -> bool
+pub fn made(tr: &[u64; 1280], w: &[u16; 3456], n: usize, t: u64) -> bool
     requires { ⌜ Triples (now tr) (now w) n ⌝ }
     ensures { λ r. ⌜ r ≡ any (eqb t) (take n (now (tr .entry))) ⌝ }
 {
@@ -86,7 +87,7 @@ fn chain(w: &mut [u16; 3456], n: usize, h: usize)
 }
 
 // Word t is put behind the n that are there.
-pub fn make(tr: &mut [u64; 1024], w: &mut [u16; 3456], n: usize, t: u64)
+pub fn make(tr: &mut [u64; 1280], w: &mut [u16; 3456], n: usize, t: u64)
     requires { ⌜ n < 1024 ⌝ }
     ensures { λ _. ⌜ now (tr .exit) ≡ set (now (tr .entry)) n t ⌝ }
     ensures { λ _. ⌜ now (w .exit) ≡ linked tripleLay (now (w .entry)) n (hashOf t) ⌝ }

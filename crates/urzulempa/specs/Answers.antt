@@ -47,19 +47,28 @@ same-answer : (g : List ℕ) (d : Drawing) → drawingAnswer d ≡ outcomeAnswer
 same-answer g (D.Whole s) = refl
 same-answer g (D.Refused k p s) = refl
 
+-- the reader's answer a taken apart
+module _ (file : List ℕ) (a : Reads.Answer) (q : a ≡ answerOf (readOf file)) where
+  pub read-bad : (k p : ℕ) → a ≡ Refused k p → readOf file ≡ bad k p
+  read-bad k p e = go (readOf file) (sym e ∙ q)
+    where
+      go : (y : Reading) → Refused k p ≡ answerOf y → y ≡ bad k p
+      go (bad l i) f = cc
+      go (good T) f = clash (cc)
+
+  pub read-good : (c : Counts) → a ≡ Accepted c → readOf file ≡ good (tablesOf file)
+  unfolding tablesOf
+  read-good c e = go (readOf file) refl (sym e ∙ q)
+    where
+      go : (y : Reading) → readOf file ≡ y → Accepted c ≡ answerOf y → readOf file ≡ good (tablesIn (readOf file))
+      go (bad l i) f h = clash (cc)
+      go (good T) f h = f ∙ ap (λ (z : Reading). good (tablesIn z)) (sym f)
+
 pub check-refused : (file : List ℕ) (a : Reads.Answer) (x : Answer) (k p : ℕ) → a ≡ Refused k p → a ≡ answerOf (readOf file) → x ≡ refusalOf k p → x ≡ checkOf file
 unfolding checkOf
-check-refused file a x k p e q h = h ∙ go (readOf file) (sym e ∙ q)
-  where
-    go : (y : Reading) → Refused k p ≡ answerOf y → refusalOf k p ≡ checkBy y
-    go (bad l i) f = let u : k ≡ l = cc in let v : p ≡ i = cc in rw (u, v)
-    go (good T) f = clash (cc)
+check-refused file a x k p e q h = rw (read-bad file a q k p e) h
 
 pub check-accepted : (file : List ℕ) (a : Reads.Answer) (x : Answer) (c : Counts) (G : Graph) (g w : List ℕ) (d : Drawing) → a ≡ Accepted c → a ≡ answerOf (readOf file)
     → Drew (graphOf (tablesOf file)) G g w d → x ≡ drawingAnswer d → x ≡ checkOf file
-unfolding checkOf tablesOf
-check-accepted file a x c G g w d e q D h = h ∙ same-answer g d ∙ ap outcomeAnswer (D .is) ∙ go (readOf file) refl (sym e ∙ q)
-  where
-    go : (y : Reading) → readOf file ≡ y → Accepted c ≡ answerOf y → outcomeAnswer (graphOf (tablesIn (readOf file))) ≡ checkBy y
-    go (bad k i) f h = clash (cc)
-    go (good T) f h = ap (λ (z : Reading). outcomeAnswer (graphOf (tablesIn z))) f
+unfolding checkOf
+check-accepted file a x c G g w d e q D h = rw (read-good file a q c e) (h ∙ same-answer g d ∙ ap outcomeAnswer (D .is))

@@ -7,12 +7,11 @@ use native.Mathlib.Omega.{arith}
 use lib.ListN.{length, replicate, getD}
 use lib.Dec.{leb, eqb}
 use borrow.Author.Tests.{le-leb, lt-leb, eq-eqb, ne-eqb, eqb-true, eqb-false}
-use Rattle.basis.specs.Members.{clash}
 use Rattle.records.specs.declared.Answer as Reads
 use Rattle.records.specs.declared.Answer.the-variants.{Accepted, Refused}
 use Rattle.records.specs.declared.Counts.{Counts}
 use Rattle.records.specs.Tables.{Tables}
-use Rattle.records.specs.Read.{Reading, good, bad, readOf, answerOf, tablesIn, tablesOf}
+use Rattle.records.specs.Read.{Reading, good, bad, readOf, answerOf, tablesOf}
 use Rattle.store.specs.declared.Size.{Size}
 use Rattle.store.specs.Graph.{Graph}
 use Rattle.store.specs.Table.{graphIn, nodes-count}
@@ -31,7 +30,7 @@ use Rattle.drawing.specs.Draw.{drawnOf}
 use Rattle.drawing.specs.Graphviz.{drawShown, answerIn}
 use Rattle.drawing.specs.Same.{Leading, Given, optionOf}
 use Rattle.urzulempa.specs.declared.Answer.{Answer}
-use Rattle.urzulempa.specs.Answers.{refusalOf}
+use Rattle.urzulempa.specs.Answers.{refusalOf, read-bad, read-good}
 
 -- ---- what is right
 
@@ -105,36 +104,21 @@ module _ (T : Tables) (G : Graph) (g w : List ℕ) (d : Drawing) (X : Drew (grap
 
 -- the reader's answer a taken apart
 module _ (file : List ℕ) (a : Reads.Answer) (q : a ≡ answerOf (readOf file)) (opt room : ℕ) where
-  read-bad : (k p : ℕ) → a ≡ Refused k p → readOf file ≡ bad k p
-  read-bad k p e = go (readOf file) (sym e ∙ q)
-    where
-      go : (y : Reading) → Refused k p ≡ answerOf y → y ≡ bad k p
-      go (bad l i) f = cc
-      go (good T) f = clash (cc)
-
-  read-good : (c : Counts) → a ≡ Accepted c → readOf file ≡ good (tablesOf file)
-  unfolding tablesOf
-  read-good c e = go (readOf file) refl (sym e ∙ q)
-    where
-      go : (y : Reading) → readOf file ≡ y → Accepted c ≡ answerOf y → readOf file ≡ good (tablesIn (readOf file))
-      go (bad l i) f h = clash (cc)
-      go (good T) f h = f ∙ ap (λ (z : Reading). good (tablesIn z)) (sym f)
-
   pub bytes-refused : (x : Answer) (k p : ℕ) → a ≡ Refused k p → x ≡ refusalOf k p → x ≡ resultAnswer (drawBytes opt room file)
   unfolding drawBytes
-  bytes-refused x k p e h = rw (read-bad k p e) h
+  bytes-refused x k p e h = rw (read-bad file a q k p e) h
 
   pub bytes-refused-room : (b : List ℕ) (k p : ℕ) → a ≡ Refused k p → b ≡ over (drawBytes opt room file .text) b
   unfolding drawBytes
-  bytes-refused-room b k p e = rw (read-bad k p e) refl
+  bytes-refused-room b k p e = rw (read-bad file a q k p e) refl
 
   pub bytes-accepted : (x : Answer) (c : Counts) → a ≡ Accepted c → x ≡ resultAnswer (drawBy opt room (tablesOf file) (graphOf (tablesOf file))) → x ≡ resultAnswer (drawBytes opt room file)
   unfolding drawBytes
-  bytes-accepted x c e h = rw (read-good c e) h
+  bytes-accepted x c e h = rw (read-good file a q c e) h
 
   pub bytes-accepted-room : (l b : List ℕ) (c : Counts) → a ≡ Accepted c → b ≡ over (drawBy opt room (tablesOf file) (graphOf (tablesOf file)) .text) l → b ≡ over (drawBytes opt room file .text) l
   unfolding drawBytes
-  bytes-accepted-room l b c e h = rw (read-good c e) h
+  bytes-accepted-room l b c e h = rw (read-good file a q c e) h
 
 -- the option
 option-is : (opt : ℕ) → opt ≤ 1 → optionOf (eqb opt 1) ≡ opt

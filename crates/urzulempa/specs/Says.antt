@@ -5,17 +5,14 @@ use mathlib.Core.List.{List, []}
 use mathlib.Core.Option.{Option, some}
 use Prim.Native.Nat.{ℕ, zero, suc, _≤_, _<_, zero-le}
 use native.Mathlib.Omega.{arith}
-use native.Mathlib.Decide.{decLt}
-use lib.ListN.{length, replicate, getD, List·getD-eq-default, length-replicate, getD-replicate, length-set}
+use lib.ListN.{length, getD, length-set}
 use lib.Dec.{leb, eqb}
 use borrow.Author.Tests.{le-leb, lt-leb}
-use Rattle.basis.specs.Members.{clash}
-use Rattle.basis.specs.Store.{get-out}
 use Rattle.records.specs.declared.Answer as Reads
 use Rattle.records.specs.declared.Answer.the-variants.{Accepted, Refused}
 use Rattle.records.specs.declared.Counts.{Counts}
 use Rattle.records.specs.Tables.{Tables}
-use Rattle.records.specs.Read.{Reading, good, bad, readOf, answerOf, tablesOf}
+use Rattle.records.specs.Read.{readOf, answerOf, tablesOf}
 use Rattle.index.specs.Index.{Loaded}
 use Rattle.index.specs.Found.{loaded-valid, loaded-good}
 use Rattle.store.specs.declared.Size.{Size}
@@ -39,14 +36,13 @@ use Rattle.plan.specs.Planned.{Planned}
 use Rattle.measuring.specs.Assembly.{Labelled, marks-are, lead-group}
 use Rattle.lines.specs.Lines.{topOf}
 use Rattle.explanation.specs.declared.walk.Told.{Told}
-use Rattle.explanation.specs.Judge.{Flags}
 use Rattle.explanation.specs.Walk.{Ready}
 use Rattle.explanation.specs.Walk.{Answered}
 use Rattle.explanation.specs.Explain.{explainFile, explainTables, refusal}
 use Rattle.explanation.specs.Contract.{ExplainedFile, planned-ready, answered-file, file-unique}
 use Rattle.drawing.specs.Same.{optionOf}
 use Rattle.urzulempa.specs.declared.Answer.{Answer}
-use Rattle.urzulempa.specs.Answers.{refusalOf}
+use Rattle.urzulempa.specs.Answers.{refusalOf, read-bad}
 
 -- an answer with the text that it counts
 abbrev pub resultBy : Answer → List ℕ → Result
@@ -65,15 +61,6 @@ says-one file opt out a b r q S T =
       ap (λ (x : Result). record { number = x .number; place = x .place; bytes = x .bytes; units = x .units; depth = x .depth }) e,
       S .room ∙ ap (λ (x : Result). over (x .text) out) e ∙ sym (T .room),
     )
-
--- ---- arrays as a call owns them
-
-pub flags-fresh : Flags (replicate 128 0) []
-flags-fresh = record { is = λ n. ap (λ (x : ℕ). eqb x 1) (sym (at n (decLt n 128))) }
-  where
-    at : (n : ℕ) → Dec (n < 128) → getD (replicate {A = ℕ} 128 0) n 0 ≡ 0
-    at n (yes l) = getD-replicate {A = ℕ} 128 n 0 0 l
-    at n (no l) = sym (get-out (replicate {A = ℕ} 128 0) n (let e = length-replicate {A = ℕ} 128 0 in omega arith))
 
 -- ---- labels and groups as the plan takes them
 
@@ -139,16 +126,9 @@ pub says-option : (file : List ℕ) (opt : ℕ) (out : List ℕ) (r : Answer) �
 says-option file opt out r h q = rw q (nothing file opt out 12 0 (rw (lt-leb opt 1 h, explainFile)))
 
 module _ (file : List ℕ) (a : Reads.Answer) (q : a ≡ answerOf (readOf file)) where
-  read-bad : (k p : ℕ) → a ≡ Refused k p → readOf file ≡ bad k p
-  read-bad k p e = go (readOf file) (sym e ∙ q)
-    where
-      go : (y : Reading) → Refused k p ≡ answerOf y → y ≡ bad k p
-      go (bad l i) f = cc
-      go (good T) f = clash (cc)
-
   pub says-read : (t : Bool) (out : List ℕ) (r : Answer) (k p : ℕ) → a ≡ Refused k p → r ≡ refusalOf k p → Says file (optionOf t) out out r
   says-read t out r k p e h =
-      rw h (nothing file (optionOf t) out k p (rw (le-leb (optionOf t) 1 (option-low t), explainFile, read-bad k p e)))
+      rw h (nothing file (optionOf t) out k p (rw (le-leb (optionOf t) 1 (option-low t), explainFile, read-bad file a q k p e)))
 
 module _ (file ix g w : List ℕ) (G : Graph) (d : Drawing) (L : Loaded file ix) (X : Drew (graphOf (tablesOf file)) G g w d) where
   pub says-halted : (t : Bool) (out : List ℕ) (r : Answer) (k p : ℕ) (s : Size) → d ≡ D.Refused k p s → r ≡ refusalOf k p → Says file (optionOf t) out out r

@@ -19,6 +19,13 @@ pub fn refusal(number: u64, place: u64) -> Answer
     }
 }
 
+// A number as an answer holds it.
+pub fn wide(x: usize) -> u64
+    ensures { λ r. ⌜ r ≡ x ⌝ }
+{
+    x as u64
+}
+
 // A graph that is drawn is done; 7, 8 and 9 are as the graph says.
 pub fn drawn(d: Drawing) -> Answer
     ensures { λ r. ⌜ r ≡ drawingAnswer d ⌝ }
@@ -33,12 +40,12 @@ pub fn check_in(
     file: &[u8],
     ix: &mut [u16; 10432],
     g: &mut [u64; 1152],
-    tr: &mut [u64; 1024],
+    tr: &mut [u64; 1280],
     w: &mut [u16; 3456],
 ) -> Answer
     requires { ⌜ Blank (now ix) ⌝ }
     requires { ⌜ now g ≡ replicate 1152 0 ⌝ }
-    requires { ⌜ length (now tr) ≡ 1024 ⌝ }
+    requires { ⌜ length (now tr) ≡ 1280 ⌝ }
     requires { ⌜ now w ≡ replicate 3456 0 ⌝ }
     ensures { λ r. ⌜ r ≡ checkOf (now (file .entry)) ⌝ }
 {

@@ -11,12 +11,11 @@ ghost use Rattle.graph.specs.Drawing.{Drew};
 ghost use Rattle.plan.specs.Plan.{shownOf};
 ghost use Rattle.plan.specs.Planned.{Planned};
 ghost use Rattle.planning.specs.Building.{FreshPlan};
-ghost use Rattle.explanation.specs.Walk.{Ready};
-ghost use Rattle.explanation.specs.Walk.{Answered};
 ghost use Rattle.drawing.specs.Same.{optionOf};
 ghost use Rattle.urzulempa.specs.Says.{Says, toldAs};
 use crate::Answer;
 use crate::checks::refusal;
+use crate::checks::wide;
 use explanation::walk::Told;
 use graph::Drawing;
 use store::Size;
@@ -44,29 +43,6 @@ fn plan_of(
     measuring::build_plan(file, ix, g, s, w, &ms, &ld, &mut gr, p, k);
 }
 
-fn tell_plan(
-    file: &[u8],
-    ix: &[u16; 10432],
-    p: &[u64; 1280],
-    k: &[u16; 1024],
-    top: bool,
-    room: &mut [u8],
-) -> Told
-    requires { ⌜ Loaded (now file) (now ix) ⌝ }
-    requires { ⌜ Ready (tablesOf (now file)) (now p) (now k) ⌝ }
-    ensures { λ r. ⌜ Answered (tablesOf (now (file .entry))) (now (p .entry)) (now (k .entry)) top (now (room .entry)) (now (room .exit)) r ⌝ }
-{
-    let mut fr = [0u64; 2080];
-    let mut seen = [0u8; 128];
-    explanation::walk::explain_plan(file, ix, p, k, &mut fr, &mut seen, room, top)
-}
-
-fn wide(x: usize) -> u64
-    ensures { λ r. ⌜ r ≡ x ⌝ }
-{
-    x as u64
-}
-
 fn told(t: Told) -> Answer
     ensures { λ r. ⌜ r ≡ toldAs t ⌝ }
 {
@@ -79,13 +55,14 @@ fn told(t: Told) -> Answer
     }
 }
 
-// A graph that is drawn whole.
+// A graph that is drawn whole. The table that held the triples is cleared and holds the plan.
 fn explain_whole(
     file: &[u8],
     ix: &[u16; 10432],
     g: &[u64; 1152],
     s: Size,
     w: &[u16; 3456],
+    p: &mut [u64; 1280],
     top: bool,
     room: &mut [u8],
 ) -> Answer
@@ -94,10 +71,10 @@ fn explain_whole(
     requires { ⌜ graphOf (tablesOf (now file)) ≡ drawn (graphIn (now g) s) ⌝ }
     ensures { λ r. ⌜ Says (now (file .entry)) (optionOf top) (now (room .entry)) (now (room .exit)) r ⌝ }
 {
-    let mut p = [0u64; 1280];
+    *p = [0u64; 1280];
     let mut k = [0u16; 1024];
-    plan_of(file, ix, g, s, w, &mut p, &mut k);
-    let t = tell_plan(file, ix, &p, &k, top, room);
+    plan_of(file, ix, g, s, w, p, &mut k);
+    let t = explanation::walk::explain_plan(file, ix, p, &k, room, top);
     told(t)
 }
 
@@ -107,6 +84,7 @@ fn explain_built(
     ix: &[u16; 10432],
     g: &[u64; 1152],
     w: &[u16; 3456],
+    p: &mut [u64; 1280],
     d: Drawing,
     top: bool,
     room: &mut [u8],
@@ -117,7 +95,7 @@ fn explain_built(
 {
     match d {
         Drawing::Refused(k, i, _) => refusal(k, i),
-        Drawing::Whole(s) => explain_whole(file, ix, g, s, w, top, room),
+        Drawing::Whole(s) => explain_whole(file, ix, g, s, w, p, top, room),
     }
 }
 
@@ -126,13 +104,13 @@ pub fn explain_in(
     top: bool,
     ix: &mut [u16; 10432],
     g: &mut [u64; 1152],
-    tr: &mut [u64; 1024],
+    tr: &mut [u64; 1280],
     w: &mut [u16; 3456],
     room: &mut [u8],
 ) -> Answer
     requires { ⌜ Blank (now ix) ⌝ }
     requires { ⌜ now g ≡ replicate 1152 0 ⌝ }
-    requires { ⌜ length (now tr) ≡ 1024 ⌝ }
+    requires { ⌜ length (now tr) ≡ 1280 ⌝ }
     requires { ⌜ now w ≡ replicate 3456 0 ⌝ }
     ensures { λ r. ⌜ Says (now (file .entry)) (optionOf top) (now (room .entry)) (now (room .exit)) r ⌝ }
 {
@@ -142,7 +120,7 @@ pub fn explain_in(
         records::Answer::Accepted(c) => {
             let n = c.clauses;
             let d = graph::build(file, ix, n, g, tr, w);
-            explain_built(file, ix, g, w, d, top, room)
+            explain_built(file, ix, g, w, tr, d, top, room)
         }
     }
 }

@@ -14,14 +14,9 @@ ghost use Rattle.drawing.specs.Same.{optionOf};
 ghost use Rattle.urzulempa.specs.Draws.{resultAnswer, drawingAs, drawBy, drawBytes};
 use crate::Answer;
 use crate::checks::refusal;
+use crate::checks::wide;
 use graph::Drawing;
 use store::Size;
-
-fn wide(x: usize) -> u64
-    ensures { λ r. ⌜ r ≡ x ⌝ }
-{
-    x as u64
-}
 
 fn answer(d: drawing::Answer) -> Answer
     ensures { λ r. ⌜ r ≡ drawingAs d ⌝ }
@@ -82,13 +77,13 @@ pub fn draw_in(
     simplify: bool,
     ix: &mut [u16; 10432],
     g: &mut [u64; 1152],
-    tr: &mut [u64; 1024],
+    tr: &mut [u64; 1280],
     w: &mut [u16; 3456],
     out: &mut [u8],
 ) -> Answer
     requires { ⌜ Blank (now ix) ⌝ }
     requires { ⌜ now g ≡ replicate 1152 0 ⌝ }
-    requires { ⌜ length (now tr) ≡ 1024 ⌝ }
+    requires { ⌜ length (now tr) ≡ 1280 ⌝ }
     requires { ⌜ now w ≡ replicate 3456 0 ⌝ }
     ensures { λ r. ⌜ r ≡ resultAnswer (drawBytes (optionOf simplify) (length (now (out .entry))) (now (file .entry))) ⌝ }
     ensures { λ _. ⌜ now (out .exit) ≡ over (drawBytes (optionOf simplify) (length (now (out .entry))) (now (file .entry)) .text) (now (out .entry)) ⌝ }

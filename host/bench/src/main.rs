@@ -20,7 +20,7 @@ fn main() -> ExitCode {
 }
 
 /// What the arrays that `urzulempa_explain` owns take together (docs/DECISIONS.md lists them).
-const OWNED: usize = 75_008;
+const OWNED: usize = 58_496;
 
 /// The least time of one call: each round repeats it for at least this long.
 const ROUND: Duration = Duration::from_millis(40);

@@ -11,6 +11,7 @@ pub mod cases;
 pub mod draft;
 pub mod generate;
 pub mod reader;
+pub mod record;
 pub mod rng;
 pub mod samples;
 pub mod survey;

@@ -13,6 +13,7 @@ usage: oracle cases                        P1 to P11 of document 01 on the real 
        oracle check FILE                   refusals 1 to 9
        oracle survey N SEED                N generated files, the distribution of answers
        oracle samples DIR                  the sample files
+       oracle record OUT                   the recorded answers that crates/replay replays
        oracle written OUT                  samples/replay.rec, as a solver would write it (src/writer.rs)
 FILE may be -. Status: 0 done, 2 a refusal, 1 trouble, 64 wrong usage, 77 without conflict.rs.";
 
@@ -75,7 +76,7 @@ fn usage() -> Result<u8, String> {
 /// What needs conflict.rs.
 fn run(args: &[&str]) -> Result<u8, String> {
     match *args {
-        ["cases" | "explain" | "graph" | "nodes" | "check" | "survey" | "written", ..]
+        ["cases" | "explain" | "graph" | "nodes" | "check" | "survey" | "record" | "written", ..]
             if !oracle::AVAILABLE =>
         {
             let step = args[0];
@@ -88,6 +89,7 @@ fn run(args: &[&str]) -> Result<u8, String> {
         ["nodes", file] => with_conflict::nodes(file),
         ["check", file] => with_conflict::check(file),
         ["survey", n, seed] => oracle::survey::run(number(n)?, number(seed)?),
+        ["record", out] => put(out, &oracle::record::list()?),
         ["written", out] => put(out, &oracle::written()),
         _ => usage(),
     }

@@ -118,7 +118,7 @@ fn the_node_list_is_one_unit_and_has_kinds_in_the_order_of_conflict_node() {
         missing: 9,
     };
     let mut entries = [stays; 5];
-    let answer = oracle::nodes(&file, &mut entries);
+    let answer = common::nodes(&file, &mut entries);
     assert_eq!(
         answer,
         Answer {
@@ -138,7 +138,7 @@ fn a_node_list_that_is_too_short_is_10_with_nothing_changed() {
         kind: 9,
         ..Node::default()
     }; 3];
-    let answer = oracle::nodes(&file, &mut short);
+    let answer = common::nodes(&file, &mut short);
     assert_eq!(
         answer,
         Answer {

@@ -162,7 +162,7 @@ fn nodes_and_edges() {
 #[test]
 fn rooms_of_every_length() {
     let file = samples::replay();
-    for call in [oracle::explain, oracle::graphviz] {
+    for call in [common::explain, common::graphviz] {
         let mut whole = [0; 1_000];
         let done = call(&file, 0, &mut whole);
         for length in 0..=done.bytes as usize + 1 {

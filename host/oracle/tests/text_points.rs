@@ -79,9 +79,9 @@ fn refusal_11_comes_before_10_at_the_same_unit() {
         (11, 0, 5, 2)
     );
     let mut room = vec![0; whole.bytes as usize];
-    assert_eq!(oracle::explain(&file, 0, &mut room), whole);
+    assert_eq!(common::explain(&file, 0, &mut room), whole);
     room.pop();
-    let short = oracle::explain(&file, 0, &mut room);
+    let short = common::explain(&file, 0, &mut room);
     assert_eq!((short.number, short.place), (10, 4));
 }
 
@@ -90,12 +90,12 @@ fn an_opening_line_that_did_not_fit_gives_no_depth() {
     let file = samples::replay();
     let first_line = 66;
     let opened = 100;
-    let short = oracle::explain(&file, 0, &mut vec![0; opened - 1]);
+    let short = common::explain(&file, 0, &mut vec![0; opened - 1]);
     assert_eq!(
         (short.number, short.bytes, short.depth),
         (10, first_line, 0)
     );
-    let longer = oracle::explain(&file, 0, &mut vec![0; opened]);
+    let longer = common::explain(&file, 0, &mut vec![0; opened]);
     assert_eq!((longer.number, longer.bytes, longer.depth), (10, 100, 1));
 }
 
@@ -208,7 +208,7 @@ fn depth_2079_is_met_by_a_file_of_666_records() {
     let file = oracle::generate::file("depth-largest", 0).expect("a shape");
     assert_eq!(file.len(), 32 * 666);
     let mut room = vec![0; 32 << 20];
-    let answer = oracle::explain(&file, 0, &mut room);
+    let answer = common::explain(&file, 0, &mut room);
     assert_eq!(
         (answer.number, answer.units, answer.depth),
         (0, 4_159, 2_079)
@@ -218,7 +218,7 @@ fn depth_2079_is_met_by_a_file_of_666_records() {
 #[test]
 fn units_and_places_pass_65535() {
     let file = oracle::generate::file("dag-exploding-limit", 4).expect("a shape");
-    let answer = oracle::explain(&file, 0, &mut vec![0; 32 << 20]);
+    let answer = common::explain(&file, 0, &mut vec![0; 32 << 20]);
     assert_eq!((answer.number, answer.place), (10, answer.units));
     assert!(answer.units > 65_535);
 }
@@ -228,9 +228,9 @@ fn the_empty_graph_text_has_2_units_and_10_bytes() {
     let (answer, text) = drawn(&[], 0);
     assert_eq!(text, "digraph {}");
     assert_eq!((answer.number, answer.bytes, answer.units), (0, 10, 2));
-    let short = oracle::graphviz(&[], 0, &mut [0; 9]);
+    let short = common::graphviz(&[], 0, &mut [0; 9]);
     assert_eq!((short.number, short.place, short.bytes), (10, 1, 9));
-    let shorter = oracle::graphviz(&[], 0, &mut [0; 8]);
+    let shorter = common::graphviz(&[], 0, &mut [0; 8]);
     assert_eq!((shorter.number, shorter.place, shorter.bytes), (10, 0, 0));
 }
 

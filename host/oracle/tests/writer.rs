@@ -23,7 +23,11 @@ fn a_file_written_again_gives_the_same_text_graph_and_nodes() {
         seen += 1;
         let (mut a, mut b) = (vec![0; 4096], vec![0; 4096]);
         assert_eq!(oracle::explain(&file, 0, &mut a), oracle::explain(&again, 0, &mut b), "{shape} {seed}");
+        assert_eq!(a, b, "{shape} {seed}");
         assert_eq!(oracle::graphviz(&file, 0, &mut a), oracle::graphviz(&again, 0, &mut b), "{shape} {seed}");
+        assert_eq!(a, b, "{shape} {seed}");
+        let (mut a, mut b) = ([oracle::Node::default(); 128], [oracle::Node::default(); 128]);
+        assert_eq!(oracle::nodes(&file, &mut a), oracle::nodes(&again, &mut b), "{shape} {seed}");
         assert_eq!(a, b, "{shape} {seed}");
         assert_eq!(oracle::rewritten(&again), Some(again.clone()), "{shape} {seed}");
     }

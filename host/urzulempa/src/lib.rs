@@ -1,6 +1,7 @@
 //! Why a load of packages has no solution: safe functions over the proved library.
 //!
-//! Every function takes any bytes and any room and gives an [`Answer`]; none of them panics, allocates or keeps anything.
+//! Every call takes any bytes and any room and gives an [`Answer`]; none of them panics, allocates or keeps anything. [`grown`] makes
+//! the room for one.
 //!
 //! ```
 //! use urzulempa::{explain, Refusal};

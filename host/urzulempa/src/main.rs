@@ -22,7 +22,7 @@ Exit status: 0 done, 2 refused, 1 trouble with a file, 64 wrong usage.
 Examples:
   urzulempa explain samples/replay.rec
   urzulempa graph samples/replay.rec --simplify | dot -Tsvg > replay.svg
-  urzulempa check - < samples/load.rec
+  urzulempa check - < samples/rack.rec
 ";
 
 const DEFAULT_ROOM: usize = 64 << 20;

@@ -1,6 +1,6 @@
 use borrow.Author.Needs.{needs}
 use Prim.Native.Nat.{_-_}
-use Rattle.measuring.specs.Sizes.{Adding, Short, adding-none, adding-index, adding-fits, adding-step, adding-end}
+use Rattle.measuring.specs.Sizes.{Adding, Short, adding-none, adding-fits, adding-step, adding-end}
 use Rattle.measuring.proofs.add_sizes.Statement.{statement}
 use Rattle.measuring.proofs.add_sizes.Tie as tie
 

@@ -1,6 +1,6 @@
 use borrow.Author.Needs.{needs}
-use Rattle.index.specs.Load.{load-loaded}
-use Rattle.nodelist.specs.Ways.{clauses-counted, drawn-chained, listed-refused, listed-halted, listed-drawn}
+use Rattle.index.specs.Load.{load-loaded, clauses-counted}
+use Rattle.nodelist.specs.Ways.{drawn-chained, listed-refused, listed-halted, listed-drawn}
 use Rattle.nodelist.proofs.words_in.Statement.{statement}
 use Rattle.nodelist.proofs.words_in.Tie as tie
 

@@ -5,7 +5,7 @@ use Rattle.planning.proofs.nodes.Statement.{statement}
 use Rattle.planning.proofs.nodes.Tie as tie
 
 abbrev Inv-loop : tie.InvT-loop
-Inv-loop g ls ms gr p₀ k₀ count n₀ rc₀ kc₀ p k n rc kc = Building g ls ms gr count p k n rc kc
+Inv-loop g ls ms gr p₀ k₀ count n₀ rc₀ kc₀ p k n rc kc = Building g ls ms gr count p₀ k₀ p k n rc kc
 
 abbrev μ-loop : tie.MeasureT-loop
 μ-loop g ls ms gr p₀ k₀ count n₀ rc₀ kc₀ p k n rc kc = count - n

@@ -6,7 +6,7 @@ use Rattle.store.proofs.link.Tie as tie
 pub link-spec : {M : Type 1} → statement M
 link-spec =
     tie.close
-    (tie.spec
+    (tie.spec (λ c κs. search needs) (λ c κs. search needs)
     (λ c κs. search needs)
     (λ c. search needs)
     (λ c. search needs)

@@ -6,7 +6,7 @@ use Rattle.store.proofs.link_to.Tie as tie
 pub link-to-spec : {M : Type 1} → statement M
 link-to-spec =
     tie.close
-    (tie.spec
+    (tie.spec (λ c κs. search needs) (λ c κs. search needs)
     (λ c κs. search needs)
     (λ c. search needs)
     (λ c. search needs)

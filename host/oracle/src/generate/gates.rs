@@ -96,6 +96,13 @@ pub fn skipped(rng: &mut Rng) -> Vec<u8> {
     d.stirred(rng)
 }
 
+/// The gate requires a wish and was assigned by an AnyOf of `selected` and one of the partners, in the core at times.
+fn through(d: &mut Draft, rng: &mut Rng, [gate, selected, wish]: [u16; 3], core: usize, partners: &[u16]) {
+    let any_of = d.clause(kind::ANY_OF, rng.chance(core), [selected, *rng.pick(partners), 0]);
+    d.assign(gate, any_of);
+    d.requires(gate, wish);
+}
+
 /// The requirer comes from the clause that assigned the gate, in the core or outside it.
 pub fn recovered(rng: &mut Rng) -> Vec<u8> {
     let Stage {
@@ -106,13 +113,7 @@ pub fn recovered(rng: &mut Rng) -> Vec<u8> {
     } = stage(rng);
     for _ in 0..rng.between(1, 3) {
         let gate = d.gate();
-        let any_of = d.clause(
-            kind::ANY_OF,
-            rng.chance(10),
-            [gate, *rng.pick(&requirers), 0],
-        );
-        d.assign(gate, any_of);
-        d.requires(gate, wish);
+        through(&mut d, rng, [gate, gate, wish], 10, &requirers);
     }
     d.stirred(rng)
 }
@@ -131,13 +132,7 @@ pub fn of_another(rng: &mut Rng) -> Vec<u8> {
     } else {
         *rng.pick(&others)
     };
-    let any_of = d.clause(
-        kind::ANY_OF,
-        rng.chance(50),
-        [selected, *rng.pick(&requirers), 0],
-    );
-    d.assign(gate, any_of);
-    d.requires(gate, wish);
+    through(&mut d, rng, [gate, selected, wish], 50, &requirers);
     d.stirred(rng)
 }
 
@@ -176,8 +171,6 @@ pub fn recovered_skipped(rng: &mut Rng) -> Vec<u8> {
         ..
     } = stage(rng);
     let gate = d.variable(origin::GATE, 0);
-    let any_of = d.clause(kind::ANY_OF, rng.chance(30), [gate, *rng.pick(&others), 0]);
-    d.assign(gate, any_of);
-    d.requires(gate, wish);
+    through(&mut d, rng, [gate, gate, wish], 30, &others);
     d.stirred(rng)
 }

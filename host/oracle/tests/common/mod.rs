@@ -1,17 +1,70 @@
-//! Short ways to the oracle for tests of one file each.
+//! Short ways to the oracle for tests of one file each. Each call goes to the port too, which has to give the same answer and
+//! leave the same bytes.
 
 #![allow(dead_code)]
 
 use oracle::{Answer, Node, Problem};
 
+fn same(theirs: Answer, ours: urzulempa::Answer) -> Answer {
+    let port = Answer {
+        number: ours.number,
+        place: ours.place,
+        bytes: ours.bytes,
+        units: ours.units,
+        depth: ours.depth,
+    };
+    assert_eq!(port, theirs, "the port's answer and conflict.rs's");
+    theirs
+}
+
+pub fn check(file: &[u8]) -> Answer {
+    same(oracle::check(file), urzulempa::check(file))
+}
+
+pub fn explain(file: &[u8], option: u64, room: &mut [u8]) -> Answer {
+    let (mut ours, mut plain) = (room.to_vec(), room.to_vec());
+    let port = urzulempa::explain(file, option, &mut ours);
+    let answer = same(oracle::explain(file, option, room), port);
+    assert!(ours == room, "the port leaves other bytes");
+    if option == 0 {
+        same(answer, urzulempa::explain_plain(file, &mut plain));
+        assert!(plain == room, "the port's plain call leaves other bytes");
+    }
+    answer
+}
+
+pub fn graphviz(file: &[u8], option: u64, room: &mut [u8]) -> Answer {
+    let mut ours = room.to_vec();
+    let port = urzulempa::graphviz(file, option, &mut ours);
+    let answer = same(oracle::graphviz(file, option, room), port);
+    assert!(ours == room, "the port leaves other bytes");
+    answer
+}
+
+pub fn nodes(file: &[u8], list: &mut [Node]) -> Answer {
+    let entry = |n: &Node| urzulempa::Node {
+        kind: n.kind,
+        number: n.number,
+        group: n.group,
+        installable: n.installable,
+        missing: n.missing,
+    };
+    let mut ours: Vec<urzulempa::Node> = list.iter().map(entry).collect();
+    let port = urzulempa::nodes(file, &mut ours);
+    let answer = same(oracle::nodes(file, list), port);
+    let theirs: Vec<urzulempa::Node> = list.iter().map(entry).collect();
+    assert_eq!(ours, theirs, "the port leaves other entries");
+    answer
+}
+
 /// The explanation with room to spare.
 pub fn told(file: &[u8], option: u64) -> (Answer, String) {
-    written(oracle::explain, file, option)
+    written(explain, file, option)
 }
 
 /// The graph text with room to spare.
 pub fn drawn(file: &[u8], option: u64) -> (Answer, String) {
-    written(oracle::graphviz, file, option)
+    written(graphviz, file, option)
 }
 
 fn written(
@@ -35,12 +88,17 @@ pub fn lines(file: &[u8]) -> Vec<String> {
 }
 
 pub fn list(file: &[u8]) -> Vec<Node> {
+    let mut list = vec![Node::default(); 128];
+    assert_eq!(nodes(file, &mut list).number, 0);
     let problem = Problem::read(file).expect("the reader takes the file");
     let model = problem.model().expect("the graph can be built");
-    model.nodes()
+    list.truncate(model.nodes().len());
+    list
 }
 
+/// The port shows no count of edges: it has to draw the same text.
 pub fn edges(file: &[u8]) -> usize {
+    drawn(file, 0);
     let problem = Problem::read(file).expect("the reader takes the file");
     let model = problem.model().expect("the graph can be built");
     model.edge_count()
@@ -48,7 +106,7 @@ pub fn edges(file: &[u8]) -> usize {
 
 /// Number and place of what `check` answers.
 pub fn checked(file: &[u8]) -> (u64, u64) {
-    let answer = oracle::check(file);
+    let answer = check(file);
     assert_eq!((answer.bytes, answer.units, answer.depth), (0, 0, 0));
     (answer.number, answer.place)
 }

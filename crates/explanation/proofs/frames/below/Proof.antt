@@ -17,6 +17,7 @@ pub below-spec : {M : Type 1} → statement M
 below-spec =
     tie.close
     (tie.spec Inv μ
-    (λ c. search needs) (λ c. search needs) (λ c. search needs) (λ c. search needs) (λ c κs. search needs)
+    (λ c. search needs) (λ c. search needs) (λ c. search needs) (λ c. search needs) (λ c. search needs)
+    (λ c κs. search needs)
     (λ c. search laws) (λ c. search laws) (λ c. search needs) (λ c. (search needs, search laws))
     (λ c. search laws))

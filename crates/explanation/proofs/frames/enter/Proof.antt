@@ -8,6 +8,6 @@ enter-spec =
     tie.close
     (tie.spec
     (λ c. search needs) (λ c κs. search needs)
-    (λ c κs. (search needs, (search needs, (search needs, (search needs, search needs))))) (λ c. search needs)
+    (λ c κs. (search needs, (search needs, search needs))) (λ c. search needs)
     (λ c. search needs) (λ c κs. search needs) (λ c κs. search needs) (λ c. search needs) (λ c κs. search needs)
     (λ c. search needs) (λ c. λ k. search enter-open) (λ c. λ k. search enter-shut))

@@ -1,10 +1,11 @@
 use borrow.Author.Needs.{needs}
-use Rattle.explanation.specs.Turned.{kid-skip, kid-repeat, kid-show, known-at}
+use Rattle.explanation.specs.Turned.{Turned, kid-skip, kid-repeat, kid-show, known-at}
 use native.Mathlib.Omega.{arith}
 use Rattle.explanation.proofs.turns.kid_turn.Statement.{statement}
 use Rattle.explanation.proofs.turns.kid_turn.Tie as tie
 
 pub kid-turn-spec : {M : Type 1} → statement M
+unfolding Turned
 kid-turn-spec =
     tie.close
     (tie.spec

@@ -1,10 +1,11 @@
 use borrow.Author.Needs.{needs}
-use Rattle.explanation.specs.Turned.{pop-on, pop-done}
+use Rattle.explanation.specs.Turned.{Turned, pop-on, pop-done}
 use Rattle.explanation.specs.Stand.{level-kid, level-run}
 use Rattle.explanation.proofs.turns.turn.Statement.{statement}
 use Rattle.explanation.proofs.turns.turn.Tie as tie
 
 pub turn-spec : {M : Type 1} → statement M
+unfolding Turned
 turn-spec =
     tie.close
     (tie.spec

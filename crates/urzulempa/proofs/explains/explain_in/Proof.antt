@@ -1,5 +1,4 @@
-use Rattle.index.specs.Load.{load-loaded}
-use Rattle.nodelist.specs.Ways.{clauses-counted}
+use Rattle.index.specs.Load.{load-loaded, clauses-counted}
 use Rattle.urzulempa.specs.Says.{says-read}
 use borrow.Author.Needs.{needs}
 use Rattle.urzulempa.proofs.explains.explain_in.Statement.{statement}

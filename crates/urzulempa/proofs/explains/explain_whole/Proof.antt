@@ -6,7 +6,7 @@ use Rattle.urzulempa.proofs.explains.explain_whole.Tie as tie
 use Rattle.urzulempa.proofs.explains.explain_whole.Reads as reads
 use Rattle.urzulempa.proofs.explains.explain_whole.Lts as lts
 use Rattle.urzulempa.proofs.explains.plan_of.Reads as plan-of-reads
-use Rattle.urzulempa.proofs.explains.tell_plan.Reads as tell-plan-reads
+use Rattle.explanation.proofs.walk.explain_plan.Reads as explain-plan-reads
 use Rattle.urzulempa.proofs.explains.told.Reads as told-reads
 
 -- src/explains.rt:99:5
@@ -14,8 +14,8 @@ plan-of-requires : tie.Need-plan-of-requires
 plan-of-requires c κs = (search needs, (search needs, search (needs, fresh-plan)))
 
 -- src/explains.rt:100:9
-tell-plan-requires : tie.Need-tell-plan-requires
-tell-plan-requires c κs = (search needs, search (needs, whole-ready))
+explain-plan-requires : tie.Need-explain-plan-requires
+explain-plan-requires c κs = (search needs, search (needs, whole-ready))
 
 -- src/explains.rt:101:5
 told-requires : tie.Need-told-requires
@@ -31,4 +31,4 @@ returns c = search (needs, whole-says)
 
 pub explain-whole-spec : {M : Type 1} → statement M
 explain-whole-spec =
-    tie.close (tie.spec plan-of-requires tell-plan-requires told-requires same-length returns)
+    tie.close (tie.spec plan-of-requires explain-plan-requires told-requires same-length returns)

@@ -4,7 +4,7 @@ use Rattle.urzulempa.proofs.explains.told.Statement.{statement}
 use Rattle.urzulempa.proofs.explains.told.Tie as tie
 use Rattle.urzulempa.proofs.explains.told.Reads as reads
 use Rattle.urzulempa.proofs.explains.told.Lts as lts
-use Rattle.urzulempa.proofs.explains.wide.Reads as wide-reads
+use Rattle.urzulempa.proofs.checks.wide.Reads as wide-reads
 
 -- src/explains.rt:75:16
 wide-requires : tie.Need-wide-requires

@@ -1,5 +1,4 @@
-use Rattle.index.specs.Load.{load-loaded}
-use Rattle.nodelist.specs.Ways.{clauses-counted}
+use Rattle.index.specs.Load.{load-loaded, clauses-counted}
 use Rattle.urzulempa.specs.Draws.{bytes-refused, bytes-refused-room, bytes-accepted, bytes-accepted-room}
 use borrow.Author.Needs.{needs}
 use Rattle.urzulempa.proofs.graphs.draw_in.Statement.{statement}

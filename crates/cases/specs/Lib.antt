@@ -1,0 +1,9 @@
+pub mod Files
+pub mod Samples
+pub mod Texts
+pub mod Table
+pub mod Bound
+pub mod Room
+pub mod Right
+pub mod Wrong
+pub mod Drawing

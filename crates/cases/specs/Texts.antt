@@ -1,0 +1,71 @@
+-- The explanations of the cases that have one, as they print.
+use mathlib.Core.List.{List, [], _∷_, _++_}
+use Prim.Native.Nat.{ℕ}
+use Prim.Native.String.{String}
+use Rattle.basis.specs.Lists.{concatMap, upto}
+use Rattle.basis.specs.Quote.{utf8}
+use Rattle.cases.specs.Files.{digits}
+
+-- lines as bytes, each with its newline
+abbrev pub printed : List String → List ℕ
+printed ls = concatMap (λ l. utf8 l ++ utf8 "\n") ls
+
+-- P7: "Option 0, 155 bytes"
+abbrev pub replayLines : List String
+replayLines =
+    "replay * cannot be installed because there are no viable options:"
+    ∷ "└─ replay 2 | 1 would require"
+    ∷ "   └─ codec 9, for which no candidates were found."
+    ∷ []
+
+-- the same with option 1, which "indents the top level"
+abbrev pub indentedLines : List String
+indentedLines =
+    "└─ replay * cannot be installed because there are no viable options:"
+    ∷ "   └─ replay 2 | 1 would require"
+    ∷ "      └─ codec 9, for which no candidates were found."
+    ∷ []
+
+-- P9: what stands when 11 is given
+abbrev pub deckLines : List String
+deckLines =
+    "deck * cannot be installed because there are no viable options:"
+    ∷ "└─ deck 1 would require"
+    ∷ "   └─ panel *, which cannot be installed because there are no viable options:"
+    ∷ "      └─ panel 1 would require"
+    ∷ "         └─ deck *, which cannot be installed because there are no viable options:"
+    ∷ []
+
+-- P10
+abbrev pub pairLines : List String
+pairLines =
+    "x * cannot be installed because there are no viable options:"
+    ∷ "└─ x 1 would require"
+    ∷ "   └─ pair *, which cannot be installed because there are no viable options:"
+    ∷ "      └─ pair 1 | 2 would require"
+    ∷ "         └─ x *, which cannot be installed because there are no viable options:"
+    ∷ "            └─ x 1 would require"
+    ∷ "               └─ pair *, which cannot be installed because there are no viable options:"
+    ∷ []
+
+-- P11
+abbrev pub loneLines : List String
+loneLines = "x * can be installed with any of the following options:" ∷ "└─ x 1" ∷ []
+
+-- P4: 126 candidates, all of one group; the last took number 1 when unresolved went
+abbrev pub wideText : List ℕ
+wideText =
+    printed ("x * can be installed with any of the following options:" ∷ []) ++ utf8 "└─ x 125" ++ concatMap (λ i. utf8 " | " ++ digits i) (upto 125 0) ++ utf8 "\n"
+
+-- two runs below one package
+abbrev pub deskLines : List String
+deskLines =
+    "desk * cannot be installed because there are no viable options:"
+    ∷ "└─ desk 1 would require"
+    ∷ "   ├─ codec 9, which cannot be installed because there are no viable options:"
+    ∷ "   │  └─ codec 9 would require"
+    ∷ "   │     └─ driver 12, for which no candidates were found."
+    ∷ "   └─ panel 5, which cannot be installed because there are no viable options:"
+    ∷ "      └─ panel 5 would require"
+    ∷ "         └─ frame 3, for which no candidates were found."
+    ∷ []

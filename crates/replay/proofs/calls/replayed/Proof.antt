@@ -1,0 +1,21 @@
+use borrow.Author.Needs.{needs}
+use Rattle.replay.specs.Again.{at-check, at-explain, at-plain, at-graph, at-list, at-none}
+use Rattle.replay.proofs.calls.replayed.Statement.{statement}
+use Rattle.replay.proofs.calls.replayed.Tie as tie
+
+pub replayed-spec : {M : Type 1} → statement M
+replayed-spec =
+    tie.close
+    (tie.spec
+    (λ c κs. search needs)
+    (λ c. search at-check)
+    (λ c κs. search needs)
+    (λ c. search at-explain)
+    (λ c κs. search needs)
+    (λ c. search at-plain)
+    (λ c κs. search needs)
+    (λ c. search at-graph)
+    (λ c κs. search needs)
+    (λ c. search at-list)
+    (λ c κs. search needs)
+    (λ c. search at-none))

@@ -1,0 +1,160 @@
+-- A recorded call made again, and compared with what is recorded of it.
+use mathlib.Core.Path.{_≡_, refl, sym, ap, _∙_}
+use mathlib.Core.Bool.{Bool, true, false}
+use mathlib.Core.List.{List}
+use Prim.Native.Nat.{ℕ, zero, suc, _≤_, _<_}
+use native.Mathlib.Omega.{arith}
+use native.Mathlib.Decide.{decLe}
+use Rattle.basis.specs.Members.{clash}
+use Rattle.replay.specs.declared.calls.Seen.{Seen}
+use Rattle.replay.specs.Head.{callIn, optionIn, roomIn, recordedIn}
+use Rattle.replay.specs.Seen.{Told, told-one, blank, checkedIn, drawnIn, listedIn}
+
+-- no call has this number, and no answer either
+abbrev pub noCall : Seen
+noCall = record { number = 13; place = 0; bytes = 0; units = 0; depth = 0; sum = 0 }
+
+-- a list of at most 128 entries
+pub record Listing (file : List ℕ) (n : ℕ) (r : Seen) : Type 0 where
+  pub short : n ≤ 128 → r ≡ listedIn file n
+  pub long : 128 < n → r ≡ noCall
+
+-- the call with that number, on a room of n bytes or a list of n entries
+pub record Replayed (file : List ℕ) (call opt n : ℕ) (r : Seen) : Type 0 where
+  pub check : call ≡ 0 → r ≡ checkedIn file
+  pub explain : call ≡ 1 → Told file opt (blank n) r
+  pub plain : call ≡ 2 → Told file 0 (blank n) r
+  pub graph : call ≡ 3 → r ≡ drawnIn file opt (blank n)
+  pub list : call ≡ 4 → Listing file n r
+  pub other : 4 < call → r ≡ noCall
+
+-- a and b are one and the same, or not
+pub record Same (a b : Seen) (r : Bool) : Type 0 where
+  pub equal : r ≡ true → a ≡ b
+  pub told : a ≡ b → r ≡ true
+
+-- the call of a head, made again, gives what the head records
+pub record Compared (file head : List ℕ) (r : Bool) : Type 0 where
+  pub seen : Seen
+  pub again : Replayed file (callIn head) (optionIn head) (roomIn head) seen
+  pub same : Same seen (recordedIn head) r
+
+-- r says whether it does; a room larger than the program's never agrees
+pub record Agrees (file head : List ℕ) (r : Bool) : Type 0 where
+  pub within : roomIn head ≤ 65536 → Compared file head r
+  pub beyond : 65536 < roomIn head → r ≡ false
+
+-- ---- two results that the relations allow are equal
+
+pub listing-one : (file : List ℕ) (n : ℕ) (r q : Seen) → Listing file n r → Listing file n q → r ≡ q
+listing-one file n r q R Q = go (decLe n 128)
+  where
+    go : Dec (n ≤ 128) → r ≡ q
+    go (yes l) = R .short l ∙ sym (Q .short l)
+    go (no l) = let k : 128 < n = omega (arith, l) in R .long k ∙ sym (Q .long k)
+
+pub replayed-one : (file : List ℕ) (call opt n : ℕ) (r q : Seen) → Replayed file call opt n r → Replayed file call opt n q → r ≡ q
+replayed-one file call opt n r q R Q = go call refl
+  where
+    go : (k : ℕ) → call ≡ k → r ≡ q
+    go zero e = R .check e ∙ sym (Q .check e)
+    go (suc zero) e = told-one file opt (blank n) r q (R .explain e) (Q .explain e)
+    go (suc (suc zero)) e = told-one file 0 (blank n) r q (R .plain e) (Q .plain e)
+    go (suc (suc (suc zero))) e = R .graph e ∙ sym (Q .graph e)
+    go (suc (suc (suc (suc zero)))) e = listing-one file n r q (R .list e) (Q .list e)
+    go (suc (suc (suc (suc (suc k))))) e = let l : 4 < call = omega (arith, e) in R .other l ∙ sym (Q .other l)
+
+true-both : (a b : Bool) → (a ≡ true → b ≡ true) → (b ≡ true → a ≡ true) → a ≡ b
+true-both true true f g = refl
+true-both false false f g = refl
+true-both true false f g = sym (f refl)
+true-both false true f g = g refl
+
+same-one : (a b : Seen) (r q : Bool) → Same a b r → Same a b q → r ≡ q
+same-one a b r q R Q = true-both r q (λ e. Q .told (R .equal e)) (λ e. R .told (Q .equal e))
+
+pub agrees-one : (file head : List ℕ) (r q : Bool) → Agrees file head r → Agrees file head q → r ≡ q
+agrees-one file head r q R Q = go (decLe (roomIn head) 65536)
+  where
+    both : Compared file head r → Compared file head q → r ≡ q
+    both C D =
+        let e : D .seen ≡ C .seen = replayed-one file (callIn head) (optionIn head) (roomIn head) (D .seen) (C .seen) (D .again) (C .again) in
+        same-one (C .seen) (recordedIn head) r q (C .same) (rw e at (D .same))
+
+    go : Dec (roomIn head ≤ 65536) → r ≡ q
+    go (yes l) = both (R .within l) (Q .within l)
+    go (no l) = let k : 65536 < roomIn head = omega (arith, l) in R .beyond k ∙ sym (Q .beyond k)
+
+-- ---- the ways through the code
+
+pub listing-short : (file : List ℕ) (n : ℕ) (r : Seen) → n ≤ 128 → r ≡ listedIn file n → Listing file n r
+listing-short file n r l e = record { short = λ _. e; long = λ k. let f : ⊥ = omega arith in absurd f }
+
+pub listing-long : (file : List ℕ) (n : ℕ) (r : Seen) → 128 < n → r ≡ noCall → Listing file n r
+listing-long file n r l e = record { short = λ k. let f : ⊥ = omega arith in absurd f; long = λ _. e }
+
+module _ (file : List ℕ) (call opt n : ℕ) (r : Seen) where
+  not-at : {X : Type 0} (i j : ℕ) → call ≡ i → call ≡ j → (i ≡ j → ⊥) → X
+  not-at i j p q f = absurd (f (sym p ∙ q))
+
+  pub at-check : call ≡ 0 → r ≡ checkedIn file → Replayed file call opt n r
+  at-check q e = record { check = λ _. e; explain = λ p. not-at 0 1 q p (λ z. omega arith); plain = λ p. not-at 0 2 q p (λ z. omega arith); graph = λ p. not-at 0 3 q p (λ z. omega arith); list = λ p. not-at 0 4 q p (λ z. omega arith); other = λ l. let f : ⊥ = omega arith in absurd f }
+
+  pub at-explain : call ≡ 1 → Told file opt (blank n) r → Replayed file call opt n r
+  at-explain q e = record { check = λ p. not-at 1 0 q p (λ z. omega arith); explain = λ _. e; plain = λ p. not-at 1 2 q p (λ z. omega arith); graph = λ p. not-at 1 3 q p (λ z. omega arith); list = λ p. not-at 1 4 q p (λ z. omega arith); other = λ l. let f : ⊥ = omega arith in absurd f }
+
+  pub at-plain : call ≡ 2 → Told file 0 (blank n) r → Replayed file call opt n r
+  at-plain q e = record { check = λ p. not-at 2 0 q p (λ z. omega arith); explain = λ p. not-at 2 1 q p (λ z. omega arith); plain = λ _. e; graph = λ p. not-at 2 3 q p (λ z. omega arith); list = λ p. not-at 2 4 q p (λ z. omega arith); other = λ l. let f : ⊥ = omega arith in absurd f }
+
+  pub at-graph : call ≡ 3 → r ≡ drawnIn file opt (blank n) → Replayed file call opt n r
+  at-graph q e = record { check = λ p. not-at 3 0 q p (λ z. omega arith); explain = λ p. not-at 3 1 q p (λ z. omega arith); plain = λ p. not-at 3 2 q p (λ z. omega arith); graph = λ _. e; list = λ p. not-at 3 4 q p (λ z. omega arith); other = λ l. let f : ⊥ = omega arith in absurd f }
+
+  pub at-list : call ≡ 4 → Listing file n r → Replayed file call opt n r
+  at-list q e = record { check = λ p. not-at 4 0 q p (λ z. omega arith); explain = λ p. not-at 4 1 q p (λ z. omega arith); plain = λ p. not-at 4 2 q p (λ z. omega arith); graph = λ p. not-at 4 3 q p (λ z. omega arith); list = λ _. e; other = λ l. let f : ⊥ = omega arith in absurd f }
+
+  pub at-none : (call ≡ 0 → ⊥) → (call ≡ 1 → ⊥) → (call ≡ 2 → ⊥) → (call ≡ 3 → ⊥) → (call ≡ 4 → ⊥) → r ≡ noCall → Replayed file call opt n r
+  at-none a b c d f e = record { check = λ p. absurd (a p); explain = λ p. absurd (b p); plain = λ p. absurd (c p); graph = λ p. absurd (d p); list = λ p. absurd (f p); other = λ _. e }
+
+fields-same : (n p y u d s n′ p′ y′ u′ d′ s′ : ℕ) → n ≡ n′ → p ≡ p′ → y ≡ y′ → u ≡ u′ → d ≡ d′ → s ≡ s′
+    → _≡_ {A = Seen} (record { number = n; place = p; bytes = y; units = u; depth = d; sum = s }) (record { number = n′; place = p′; bytes = y′; units = u′; depth = d′; sum = s′ })
+fields-same n p y u d s n′ p′ y′ u′ d′ s′ e f g h i j = rw (e, f, g, h, i, j)
+
+module _ (a b : Seen) where
+  other : (a ≡ b → ⊥) → Same a b false
+  other f = record { equal = λ e. clash (cc); told = λ e. absurd (f e) }
+
+  pub not-number : (a .number ≡ b .number → ⊥) → Same a b false
+  not-number f = other (λ e. f (ap (λ (s : Seen). s .number) e))
+
+  pub not-place : (a .place ≡ b .place → ⊥) → Same a b false
+  not-place f = other (λ e. f (ap (λ (s : Seen). s .place) e))
+
+  pub not-bytes : (a .bytes ≡ b .bytes → ⊥) → Same a b false
+  not-bytes f = other (λ e. f (ap (λ (s : Seen). s .bytes) e))
+
+  pub not-units : (a .units ≡ b .units → ⊥) → Same a b false
+  not-units f = other (λ e. f (ap (λ (s : Seen). s .units) e))
+
+  pub not-depth : (a .depth ≡ b .depth → ⊥) → Same a b false
+  not-depth f = other (λ e. f (ap (λ (s : Seen). s .depth) e))
+
+  pub not-sum : (a .sum ≡ b .sum → ⊥) → Same a b false
+  not-sum f = other (λ e. f (ap (λ (s : Seen). s .sum) e))
+
+  pub all-same : a .number ≡ b .number → a .place ≡ b .place → a .bytes ≡ b .bytes → a .units ≡ b .units → a .depth ≡ b .depth → a .sum ≡ b .sum → Same a b true
+  all-same n p y u d s =
+      record {
+        equal = λ _. fields-same (a .number) (a .place) (a .bytes) (a .units) (a .depth) (a .sum) (b .number) (b .place) (b .bytes) (b .units) (b .depth) (b .sum) n p y u d s;
+        told = λ _. refl;
+      }
+
+pub agrees-beyond : (file head : List ℕ) (n : ℕ) → n ≡ roomIn head → 65536 < n → Agrees file head false
+agrees-beyond file head n q l = record { within = λ k. let f : ⊥ = omega (arith, q) in absurd f; beyond = λ _. refl }
+
+pub agrees-within : (file head : List ℕ) (call opt n m : ℕ) (s t : Seen) (r : Bool) → Replayed file call opt m s → Same s t r → t ≡ recordedIn head → call ≡ callIn head → opt ≡ optionIn head → m ≡ n → n ≡ roomIn head → n ≤ 65536
+    → Agrees file head r
+agrees-within file head call opt n m s t r R S e p q i j l =
+    record {
+      within = λ _. record { seen = s; again = rw (← p, ← q, ← j, ← i) R; same = rw (← e) S };
+      beyond = λ k. let f : ⊥ = omega (arith, j) in absurd f;
+    }

@@ -1,0 +1,4 @@
+pub mod Again
+pub mod Head
+pub mod Seen
+pub mod Sum

@@ -1,0 +1,162 @@
+-- What a recorded call shows when it is made again: the answer, and the checksum of the whole room that it was lent.
+use mathlib.Core.Path.{_≡_, refl, sym, ap, ap₂, _∙_}
+use mathlib.Core.List.{List, [], _∷_, _++_, map, append-nil}
+use Prim.Native.Nat.{ℕ, zero, suc, _+_, _-_, _≤_, _<_}
+use native.Mathlib.Omega.{arith}
+use native.Mathlib.Numerals.{unary-clauses}
+use lib.ListN.{length, take, drop, replicate, length-replicate, length-map, length-append, length-drop}
+use lib.Seq.{take-append-add}
+use Rattle.texts.specs.Wrote.{over}
+use Rattle.machine.specs.Units.{Result}
+use Rattle.entries.specs.Entry.{entryOf, wordOf, Narrows, entries-back, fillTo}
+use Rattle.entries.specs.declared.NodeEntry.{NodeEntry}
+use Rattle.nodelist.specs.Nodes.{Nodes, nodesOf, listedBy}
+use Rattle.nodelist.specs.declared.Counted.{Counted}
+use Rattle.nodelist.specs.Listed.{Listed, wordsOver, as-many, in-room}
+use Rattle.urzulempa.specs.declared.Answer.{Answer}
+use Rattle.urzulempa.specs.Answers.{checkOf}
+use Rattle.urzulempa.specs.Says.{Says, says-one}
+use Rattle.urzulempa.specs.Draws.{resultAnswer, drawFile}
+use Rattle.urzulempa.specs.Nodes.{nodesAnswer, nodesLeft, noWords, answerOf, exported}
+use Rattle.replay.specs.declared.calls.Seen.{Seen}
+use Rattle.replay.specs.Sum.{sumFrom, sumOf, sumEntries, entriesAt}
+
+abbrev pub seenOf : Answer → ℕ → Seen
+seenOf a s = record { number = a .number; place = a .place; bytes = a .bytes; units = a .units; depth = a .depth; sum = s }
+
+abbrev pub answerIn : Seen → Answer
+answerIn r = record { number = r .number; place = r .place; bytes = r .bytes; units = r .units; depth = r .depth }
+
+-- a room before a call: 165 in every byte
+abbrev pub blank : ℕ → List ℕ
+blank n = replicate n 165
+
+-- the explanation of a file in the room `out`
+pub record Told (file : List ℕ) (opt : ℕ) (out : List ℕ) (r : Seen) : Type 0 where
+  pub left : List ℕ
+  pub says : Says file opt out left (answerIn r)
+  pub sums : r .sum ≡ sumOf left
+
+-- the graph text in the room `out`
+unfoldable pub drawnIn : List ℕ → ℕ → List ℕ → Seen
+drawnIn file opt out = seenOf (resultAnswer (drawFile file opt (length out))) (sumOf (over (drawFile file opt (length out) .text) out))
+
+-- an entry of a lent list before a call: 165 in every byte
+abbrev pub blankEntry : NodeEntry
+blankEntry = record { kind = 42405; number = 42405; group = 42405; installable = 165; missing = 165 }
+
+abbrev pub blankList : ℕ → List NodeEntry
+blankList n = replicate n blankEntry
+
+-- the node list in a list of n entries
+unfoldable pub listedIn : List ℕ → ℕ → Seen
+listedIn file n = seenOf (nodesAnswer file n) (sumEntries (nodesLeft file (blankList n)))
+
+-- refusals 1 to 9, with nothing lent
+unfoldable pub checkedIn : List ℕ → Seen
+checkedIn file = seenOf (checkOf file) (sumOf [])
+
+-- two results that it allows are equal
+pub told-one : (file : List ℕ) (opt : ℕ) (out : List ℕ) (r q : Seen) → Told file opt out r → Told file opt out q → r ≡ q
+told-one file opt out r q S T =
+    let e = says-one file opt out (S .left) (T .left) (answerIn r) (answerIn q) (S .says) (T .says) in
+    let s : r .sum ≡ q .sum = S .sums ∙ ap sumOf (e .1) ∙ sym (T .sums) in
+    ap (λ (a : Answer). seenOf a (r .sum)) (e .0) ∙ ap (seenOf (answerIn q)) s
+
+-- ---- the ways through the code
+
+pub told-in : (file : List ℕ) (opt : ℕ) (out left : List ℕ) (a : Answer) (s : ℕ) (r : Seen) → Says file opt out left a → s ≡ sumOf left → r ≡ seenOf a s → Told file opt out r
+told-in file opt out left a s r S e q = rw q (record { left = left; says = S; sums = e })
+
+pub drawn-in : (file : List ℕ) (opt : ℕ) (out left : List ℕ) (a : Answer) (s : ℕ) (r : Seen) → a ≡ resultAnswer (drawFile file opt (length out)) → left ≡ over (drawFile file opt (length out) .text) out
+    → s ≡ sumOf left → r ≡ seenOf a s → r ≡ drawnIn file opt out
+unfolding drawnIn
+drawn-in file opt out left a s r e l p q = rw (q, p, e, l)
+
+take-blank : {A : Type 0} (x : A) (n m : ℕ) → n ≤ m → take n (replicate m x) ≡ replicate n x
+take-blank x zero m l = refl
+take-blank x (suc n) zero l = let f : ⊥ = omega arith in absurd f
+take-blank {A} x (suc n) (suc m) l = ap (λ (t : List A). x ∷ t) (take-blank x n m (omega arith))
+
+drop-blank : {A : Type 0} (x : A) (k m : ℕ) → drop k (replicate m x) ≡ replicate (m - k) x
+drop-blank x zero m = simp unary-clauses
+drop-blank x (suc k) zero = let z : zero - suc k ≡ zero = omega arith in rw z
+drop-blank x (suc k) (suc m) = simp unary-clauses (drop-blank x k m)
+
+map-blank : (n w : ℕ) → map entryOf (replicate n w) ≡ replicate n (entryOf w)
+map-blank zero w = refl
+map-blank (suc n) w = ap (λ (t : List NodeEntry). entryOf w ∷ t) (map-blank n w)
+
+map-append : (xs ys : List ℕ) → map entryOf (xs ++ ys) ≡ map entryOf xs ++ map entryOf ys
+map-append [] ys = refl
+map-append (x ∷ xs) ys = ap (λ (t : List NodeEntry). entryOf x ∷ t) (map-append xs ys)
+
+-- a part of the program's room
+pub prefix-blank : (n : ℕ) → n ≤ 65536 → n ≡ length (take n (replicate {A = ℕ} 65536 165))
+prefix-blank n l = sym (ap length (take-blank {A = ℕ} 165 n 65536 l) ∙ length-replicate {A = ℕ} n 165)
+
+pub told-blank : (file : List ℕ) (opt n : ℕ) (r : Seen) → Told file opt (take n (replicate 65536 165)) r → n ≤ 65536 → Told file opt (blank n) r
+told-blank file opt n r S l = rw (take-blank {A = ℕ} 165 n 65536 l) at S
+
+pub drawn-blank : (file : List ℕ) (opt n : ℕ) (r : Seen) → r ≡ drawnIn file opt (take n (replicate 65536 165)) → n ≤ 65536 → r ≡ drawnIn file opt (blank n)
+drawn-blank file opt n r e l = rw (take-blank {A = ℕ} 165 n 65536 l) at e
+
+-- the words that the program starts from
+abbrev blankWord : ℕ
+blankWord = 11936128518282651045
+
+abbrev pub blankWords : List ℕ
+blankWords = replicate 128 11936128518282651045
+
+-- entries as words over blank ones, read back
+over-blank : (es : List NodeEntry) (ws : List ℕ) (n : ℕ) → ws ≡ wordsOver es blankWords → Narrows es → length es ≤ n → n ≤ 128 → map entryOf (take n ws) ≡ es ++ drop (length es) (blankList n)
+over-blank es ws n e h k l =
+    let a : List ℕ = map wordOf es in
+    let m : length a ≡ length es = length-map es wordOf in
+    let z : n ≡ length a + (n - length es) = omega arith in
+    let b : take (n - length es) (replicate (128 - length es) blankWord) ≡ replicate (n - length es) blankWord =
+    take-blank {A = ℕ} blankWord (n - length es) (128 - length es) (omega arith) in
+    let t : take n ws ≡ a ++ replicate (n - length es) blankWord =
+    ap (λ (x : List ℕ). take n x) e
+    ∙ ap (λ (i : ℕ). take i (a ++ drop (length es) blankWords)) z
+    ∙ take-append-add a (drop (length es) blankWords) (n - length es)
+    ∙ ap (λ (x : List ℕ). a ++ take (n - length es) x) (drop-blank {A = ℕ} blankWord (length es) 128)
+    ∙ ap (λ (x : List ℕ). a ++ x) b in
+    ap (map entryOf) t
+    ∙ map-append a (replicate (n - length es) blankWord)
+    ∙ ap₂ (λ (x y : List NodeEntry). x ++ y) (entries-back es h) (map-blank (n - length es) blankWord)
+    ∙ ap (λ (y : List NodeEntry). es ++ y) (sym (drop-blank blankEntry (length es) n))
+
+module _ (file : List ℕ) (n : ℕ) (c : Counted) (ws : List ℕ) (L : Listed (nodesOf file) n blankWords c ws) where
+  abbrev es : List NodeEntry
+  es = listedBy (nodesOf file) n
+
+  many : length es ≡ c .count
+  many = as-many (nodesOf file) n blankWords c ws L
+
+  pub words-length : length ws ≡ 128
+  words-length =
+      rw (L .written, length-append, length-map es wordOf, length-drop (length es) blankWords)
+      (let k : length es ≤ 128 = rw many (L .few) in omega (arith, length-replicate {A = ℕ} 128 blankWord))
+
+  -- what the words show is the list that the call leaves
+  words-left : n ≤ 128 → entriesAt ws n ≡ nodesLeft file (blankList n)
+  unfolding entriesAt nodesLeft
+  words-left l =
+      over-blank es ws n (L .written) (L .narrow) (rw many (in-room (nodesOf file) n blankWords c ws L)) l
+      ∙ ap (λ (k : ℕ). listedBy (nodesOf file) k ++ drop (length (listedBy (nodesOf file) k)) (blankList n)) (sym (length-replicate n blankEntry))
+
+  answered : answerOf c ≡ nodesAnswer file n
+  answered =
+      let ws′ : List ℕ = wordsOver es noWords in
+      let L′ : Listed (nodesOf file) (length (blankList n)) noWords c ws′ =
+      rw (length-replicate n blankEntry) (record { counted = L .counted; written = refl; few = L .few; narrow = L .narrow }) in
+      exported file (blankList n) c ws′ (fillTo ws′ (c .count) (blankList n)) L′ refl .0 ∙ ap (nodesAnswer file) (length-replicate n blankEntry)
+
+  pub listed-in : (a : Answer) (s : ℕ) (r : Seen) → s ≡ sumEntries (entriesAt ws n) → n ≤ 128 → a ≡ answerOf c → r ≡ seenOf a s → r ≡ listedIn file n
+  unfolding listedIn
+  listed-in a s r e l p q = q ∙ ap₂ seenOf (p ∙ answered) (e ∙ ap sumEntries (words-left l))
+
+pub checked-in : (file : List ℕ) (a : Answer) (r : Seen) → a ≡ checkOf file → r ≡ seenOf a 0 → r ≡ checkedIn file
+unfolding checkedIn sumFrom
+checked-in file a r e q = rw (q, e)

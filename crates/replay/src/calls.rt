@@ -1,0 +1,156 @@
+// A recorded call, made again: the answer, and the checksum of the whole room or list that it was lent.
+ghost use mathlib.Core.Path.{_≡_};
+ghost use Prim.Native.Nat.{_≤_};
+ghost use Rattle.replay.specs.Seen.{seenOf, Told, blank, checkedIn, drawnIn, listedIn};
+ghost use Rattle.replay.specs.Again.{Listing, Replayed, noCall};
+ghost use Rattle.urzulempa.specs.Nodes.{answerOf};
+use crate::sums::sum;
+use crate::sums::sum_entries;
+use nodelist::Counted;
+use nodelist::node_words;
+use urzulempa::Answer;
+use urzulempa::urzulempa_check;
+use urzulempa::urzulempa_explain;
+use urzulempa::urzulempa_explain_plain;
+use urzulempa::urzulempa_graphviz;
+
+pub struct Seen {
+    pub number: u64,
+    pub place: u64,
+    pub bytes: u64,
+    pub units: u64,
+    pub depth: u64,
+    pub sum: u64,
+}
+
+fn joined(a: Answer, sum: u64) -> Seen
+    ensures { λ r. ⌜ r ≡ seenOf a sum ⌝ }
+{
+    Seen {
+        number: a.number,
+        place: a.place,
+        bytes: a.bytes,
+        units: a.units,
+        depth: a.depth,
+        sum,
+    }
+}
+
+fn check(file: &[u8]) -> Seen
+    ensures { λ r. ⌜ r ≡ checkedIn (now (file .entry)) ⌝ }
+{
+    joined(urzulempa_check(file), 0)
+}
+
+fn explained(file: &[u8], option: u64, room: &mut [u8]) -> Seen
+    ensures { λ r. ⌜ Told (now (file .entry)) option (now (room .entry)) r ⌝ }
+{
+    let a = urzulempa_explain(file, option, room);
+    joined(a, sum(room))
+}
+
+fn explain(file: &[u8], option: u64, n: usize) -> Seen
+    requires { ⌜ n ≤ 65536 ⌝ }
+    ensures { λ r. ⌜ Told (now (file .entry)) option (blank n) r ⌝ }
+{
+    let mut room = [165u8; 65536];
+    explained(file, option, &mut room[..n])
+}
+
+fn told_plainly(file: &[u8], room: &mut [u8]) -> Seen
+    ensures { λ r. ⌜ Told (now (file .entry)) 0 (now (room .entry)) r ⌝ }
+{
+    let a = urzulempa_explain_plain(file, room);
+    joined(a, sum(room))
+}
+
+fn plain(file: &[u8], n: usize) -> Seen
+    requires { ⌜ n ≤ 65536 ⌝ }
+    ensures { λ r. ⌜ Told (now (file .entry)) 0 (blank n) r ⌝ }
+{
+    let mut room = [165u8; 65536];
+    told_plainly(file, &mut room[..n])
+}
+
+fn drawn(file: &[u8], option: u64, room: &mut [u8]) -> Seen
+    ensures { λ r. ⌜ r ≡ drawnIn (now (file .entry)) option (now (room .entry)) ⌝ }
+{
+    let a = urzulempa_graphviz(file, option, room);
+    joined(a, sum(room))
+}
+
+fn draw(file: &[u8], option: u64, n: usize) -> Seen
+    requires { ⌜ n ≤ 65536 ⌝ }
+    ensures { λ r. ⌜ r ≡ drawnIn (now (file .entry)) option (blank n) ⌝ }
+{
+    let mut room = [165u8; 65536];
+    drawn(file, option, &mut room[..n])
+}
+
+fn counted(c: Counted) -> Answer
+    ensures { λ r. ⌜ r ≡ answerOf c ⌝ }
+{
+    Answer {
+        number: c.number,
+        place: c.place,
+        bytes: 0,
+        units: c.units,
+        depth: 0,
+    }
+}
+
+// The node list as packed words: a slice of entries can be lent by a host only.
+fn list(file: &[u8], n: usize) -> Seen
+    requires { ⌜ n ≤ 128 ⌝ }
+    ensures { λ r. ⌜ r ≡ listedIn (now (file .entry)) n ⌝ }
+{
+    let mut words = [11936128518282651045u64; 128];
+    let c = node_words(file, &mut words, n);
+    let s = sum_entries(&words, n);
+    joined(counted(c), s)
+}
+
+fn no_call() -> Seen
+    ensures { λ r. ⌜ r ≡ noCall ⌝ }
+{
+    Seen {
+        number: 13,
+        place: 0,
+        bytes: 0,
+        units: 0,
+        depth: 0,
+        sum: 0,
+    }
+}
+
+fn listed(file: &[u8], n: usize) -> Seen
+    ensures { λ r. ⌜ Listing (now (file .entry)) n r ⌝ }
+{
+    if n > 128 {
+        return no_call();
+    }
+    list(file, n)
+}
+
+// The call with that number (host/oracle/src/record.rs), on a room of n bytes or a list of n entries.
+pub fn replayed(file: &[u8], call: u64, option: u64, n: usize) -> Seen
+    requires { ⌜ n ≤ 65536 ⌝ }
+    ensures { λ r. ⌜ Replayed (now (file .entry)) call option n r ⌝ }
+{
+    if call == 0 {
+        return check(file);
+    }
+    if call == 1 {
+        return explain(file, option, n);
+    }
+    if call == 2 {
+        return plain(file, n);
+    }
+    if call == 3 {
+        return draw(file, option, n);
+    }
+    if call == 4 {
+        return listed(file, n);
+    }
+    no_call()
+}

@@ -1,0 +1,45 @@
+// What a call shows now, against what is recorded of it.
+ghost use mathlib.Core.Path.{_≡_};
+ghost use Rattle.replay.specs.Again.{Same, Agrees};
+use crate::calls::Seen;
+use crate::calls::replayed;
+use crate::heads::recorded;
+use crate::heads::word;
+
+fn same(a: Seen, b: Seen) -> bool
+    ensures { λ r. ⌜ Same a b r ⌝ }
+{
+    if a.number != b.number {
+        return false;
+    }
+    if a.place != b.place {
+        return false;
+    }
+    if a.bytes != b.bytes {
+        return false;
+    }
+    if a.units != b.units {
+        return false;
+    }
+    if a.depth != b.depth {
+        return false;
+    }
+    if a.sum != b.sum {
+        return false;
+    }
+    true
+}
+
+// Whether the call that the head describes gives what the head records.
+pub fn agrees(file: &[u8], head: &[u8]) -> bool
+    ensures { λ r. ⌜ Agrees (now (file .entry)) (now (head .entry)) r ⌝ }
+{
+    let n = word(head, 24);
+    if n > 65536 {
+        return false;
+    }
+    let call = word(head, 8);
+    let option = word(head, 16);
+    let now = replayed(file, call, option, n as usize);
+    same(now, recorded(head))
+}

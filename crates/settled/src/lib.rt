@@ -1,0 +1,1 @@
+// The labels' theorems for every graph that is drawn (specs/Settled.antt).

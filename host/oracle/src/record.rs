@@ -1,0 +1,247 @@
+//! The recorded answers: a fixed list of files and calls with what conflict.rs answers, for a program that has no Rust
+//! beside it (`crates/replay`).
+//!
+//! The list is a row of heads of twelve 64-bit numbers, lowest byte first:
+//!
+//! - a file: 1, its length, the seed, how many calls follow, the length of its shape's name, the name in the 56 bytes that
+//!   are left; then the file's bytes.
+//! - a call on the file before it: 2, call, option, room, then the answer's number, place, bytes, units and depth, and the
+//!   checksum of the whole room after the call. Call 0 is check, 1 explain, 2 the plain explanation, 3 the graph text and
+//!   4 the node list, whose room is counted in entries. A room holds [`FILL`] in every byte before the call.
+//! - the end: 3, how many files, how many answers.
+
+use std::collections::BTreeSet;
+
+use crate::{check, explain, generate, graphviz, nodes, Answer, Node, Problem};
+
+/// What stands in every byte that is lent.
+const FILL: u8 = 165;
+/// The largest room that the program lends.
+const MOST: usize = 1 << 16;
+/// A room that is ample for most small files.
+const AMPLE: usize = 6 << 10;
+/// Files are chosen among those of this many seeds.
+const SEEDS: u64 = 12;
+
+const FILE: u64 = 1;
+const CALL: u64 = 2;
+const END: u64 = 3;
+
+#[derive(Clone, Copy)]
+enum Call {
+    Check,
+    Explain(u64),
+    Plain,
+    Graph(u64),
+    Nodes,
+}
+
+/// How much is lent: a size, or one that follows from what a call needs.
+#[derive(Clone, Copy)]
+enum Room {
+    Of(usize),
+    Exact,
+    OneShort,
+    Half,
+}
+
+/// Each file gets the first and some of the others in turn.
+const TRIALS: [(Call, Room); 16] = [
+    (Call::Explain(0), Room::Of(AMPLE)),
+    (Call::Check, Room::Of(0)),
+    (Call::Explain(1), Room::Exact),
+    (Call::Graph(1), Room::Of(AMPLE)),
+    (Call::Nodes, Room::Of(128)),
+    (Call::Plain, Room::Half),
+    (Call::Graph(0), Room::Exact),
+    (Call::Explain(0), Room::OneShort),
+    (Call::Nodes, Room::Exact),
+    (Call::Graph(2), Room::Of(40)),
+    (Call::Plain, Room::Exact),
+    (Call::Graph(0), Room::Half),
+    (Call::Explain(1), Room::Half),
+    (Call::Nodes, Room::OneShort),
+    (Call::Explain(u64::MAX), Room::Of(100)),
+    (Call::Graph(1), Room::OneShort),
+];
+
+/// The list, or why it would not do.
+pub fn list() -> Result<Vec<u8>, String> {
+    let mut out = Vec::new();
+    let (mut files, mut answers) = (0, 0);
+    let mut numbers = BTreeSet::new();
+    for shape in generate::shapes() {
+        for (seed, file) in chosen(shape) {
+            let heads = calls(&file, files);
+            put(&mut out, &file_head(shape, seed, &file, heads.len()));
+            out.extend_from_slice(&file);
+            for head in heads {
+                numbers.insert(head[4]);
+                put(&mut out, &head);
+                answers += 1;
+            }
+            files += 1;
+        }
+    }
+    put(
+        &mut out,
+        &[END, files as u64, answers, 0, 0, 0, 0, 0, 0, 0, 0, 0],
+    );
+    match (0..=12).find(|number| !numbers.contains(number)) {
+        Some(number) => Err(format!("no call is answered with {number}")),
+        None => Ok(out),
+    }
+}
+
+/// The smallest file of each answer that `check` gives a shape, then the next in size: two of a shape, three of one near a
+/// limit, and one where all are large.
+fn chosen(shape: &str) -> Vec<(u64, Vec<u8>)> {
+    let make = |seed| generate::file(shape, seed).expect("a name of the list");
+    let mut all: Vec<(u64, Vec<u8>)> = (0..SEEDS).map(|seed| (seed, make(seed))).collect();
+    all.sort_by_key(|(seed, file)| (file.len(), *seed));
+    all.dedup_by(|(_, a), (_, b)| a == b);
+    let most = match all[0].1.len() {
+        0..=5_000 => 2,
+        5_001..=10_000 => 3,
+        _ => 1,
+    };
+    let mut met = BTreeSet::new();
+    let (mut first, rest): (Vec<_>, Vec<_>) = all
+        .into_iter()
+        .partition(|(_, file)| met.insert(check(file).number));
+    first.extend(rest);
+    first.truncate(most);
+    first
+}
+
+fn calls(file: &[u8], index: usize) -> Vec<[u64; 12]> {
+    let others = TRIALS.len() - 1;
+    let turn = (0..3).map(|i| 1 + (4 * index + i) % others);
+    let picked = std::iter::once(0).chain(turn);
+    picked.map(|i| answered(file, TRIALS[i])).collect()
+}
+
+fn answered(file: &[u8], (call, room): (Call, Room)) -> [u64; 12] {
+    let size = match room {
+        Room::Of(size) => size,
+        Room::Exact => needed(file, call),
+        Room::OneShort => needed(file, call).saturating_sub(1),
+        Room::Half => needed(file, call) / 2,
+    };
+    let (number, option, answer, sum) = match call {
+        Call::Check => (0, 0, check(file), sum(&[])),
+        Call::Explain(option) => in_room(1, option, size, |room| explain(file, option, room)),
+        Call::Plain => in_room(2, 0, size, |room| explain(file, 0, room)),
+        Call::Graph(option) => in_room(3, option, size, |room| graphviz(file, option, room)),
+        Call::Nodes => {
+            let mut list = vec![blank(); size];
+            let answer = nodes(file, &mut list);
+            (4, 0, answer, sum(&fields(&list)))
+        }
+    };
+    let Answer {
+        number: refusal,
+        place,
+        bytes,
+        units,
+        depth,
+    } = answer;
+    [
+        CALL,
+        number,
+        option,
+        size as u64,
+        refusal,
+        place,
+        bytes,
+        units,
+        depth,
+        sum,
+        0,
+        0,
+    ]
+}
+
+fn in_room(
+    number: u64,
+    option: u64,
+    size: usize,
+    call: impl FnOnce(&mut [u8]) -> Answer,
+) -> (u64, u64, Answer, u64) {
+    let mut room = vec![FILL; size];
+    let answer = call(&mut room);
+    let bytes: Vec<u64> = room.into_iter().map(u64::from).collect();
+    (number, option, answer, sum(&bytes))
+}
+
+/// The bytes that a call writes into the largest room, or the entries of the node list.
+fn needed(file: &[u8], call: Call) -> usize {
+    let mut room = vec![0; MOST];
+    let answer = match call {
+        Call::Check => return 0,
+        Call::Explain(option) => explain(file, option, &mut room),
+        Call::Plain => explain(file, 0, &mut room),
+        Call::Graph(option) => graphviz(file, option, &mut room),
+        Call::Nodes => {
+            let problem = Problem::read(file).ok();
+            return problem.map_or(0, |p| p.model().map_or(0, |m| m.nodes().len()));
+        }
+    };
+    answer.bytes as usize
+}
+
+fn blank() -> Node {
+    let pair = u16::from_le_bytes([FILL; 2]);
+    Node {
+        kind: pair,
+        number: pair,
+        group: pair,
+        installable: FILL,
+        missing: FILL,
+    }
+}
+
+fn fields(list: &[Node]) -> Vec<u64> {
+    let of = |n: &Node| {
+        [
+            n.kind,
+            n.number,
+            n.group,
+            n.installable.into(),
+            n.missing.into(),
+        ]
+    };
+    list.iter().flat_map(of).map(u64::from).collect()
+}
+
+/// A polynomial in 1,021 modulo the largest prime below 2^54. A byte, or a field of an entry, is one digit.
+fn sum(digits: &[u64]) -> u64 {
+    let next = |sum: u64, digit: &u64| (1021 * sum + digit + 1) % 18_014_398_509_481_951;
+    digits.iter().fold(0, next)
+}
+
+fn file_head(shape: &str, seed: u64, file: &[u8], calls: usize) -> [u64; 12] {
+    let mut head = [
+        FILE,
+        file.len() as u64,
+        seed,
+        calls as u64,
+        shape.len() as u64,
+        0,
+        0,
+        0,
+        0,
+        0,
+        0,
+        0,
+    ];
+    for (i, byte) in shape.bytes().enumerate() {
+        head[5 + i / 8] |= u64::from(byte) << (8 * (i % 8));
+    }
+    head
+}
+
+fn put(out: &mut Vec<u8>, head: &[u64; 12]) {
+    head.iter()
+        .for_each(|n| out.extend_from_slice(&n.to_le_bytes()));
+}
