@@ -42,6 +42,7 @@ fn owner(fr: &[u32; 2080], d: usize) -> usize
     if 0 < d { (fr[d - 1] % 256) as usize } else { 0 }
 }
 
+// The run before run r, whose kids wait where r is the first run that waits.
 fn before(r: usize) -> usize
     ensures { λ x. ⌜ x ≡ r - 1 ⌝ }
 {

@@ -9,7 +9,7 @@ use Rattle.store.specs.declared.Edge.{Edge}
 use Rattle.plan.specs.Fields.{setAt, setsFrom}
 use Rattle.runs.specs.Exact.{only-one, map-one, length-upto}
 use Rattle.kinds.specs.Sets.{setsUp, sets-up}
-use Rattle.kinds.specs.Line.{kindFor, Lined}
+use Rattle.kinds.specs.Line.{kindFor, LineDone}
 
 pub sets-length : (k : List ℕ) (i e : ℕ) → length (setsFrom k i e) ≡ e - i
 unfolding setsUp
@@ -24,9 +24,9 @@ sets-one u v c e q i l m =
     sym (reverse-reverse (setsUp u c e)) ∙ ap reverse (sym (sets-up u c e) ∙ q ∙ sets-up v c e) ∙ reverse-reverse (setsUp v c e) in
     map-one (setAt u) (setAt v) (e - c) c y i l (omega arith)
 
-pub lined-one : (g : List ℕ) (es : List Edge) (k : List ℕ) (kc : ℕ) (u v : List ℕ) (kind reason kid knd rsn kd : ℕ) → Lined g es k kc u kind reason kid → Lined g es k kc v knd rsn kd
+pub line-done-one : (g : List ℕ) (es : List Edge) (k : List ℕ) (kc : ℕ) (u v : List ℕ) (kind reason kid knd rsn kd : ℕ) → LineDone g es k kc u kind reason kid → LineDone g es k kc v knd rsn kd
     → (kind ≡ knd) × (reason ≡ rsn) × (kid ≡ kd) × (u ≡ v)
-lined-one g es k kc u v kind reason kid knd rsn kd U W =
+line-done-one g es k kc u v kind reason kid knd rsn kd U W =
     let l : kc - kid ≡ kc - kd = sym (sets-length u kid kc) ∙ ap length (U .sets-are ∙ sym (W .sets-are)) ∙ sets-length v kd kc in
     let e : kd ≡ kid = omega (arith, U .under, W .under) in (
       U .kind-is ∙ sym (W .kind-is),

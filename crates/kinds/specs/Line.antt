@@ -44,7 +44,7 @@ kindSets conflicting = []
 kindSets (constraining vs) = vs
 kindSets requiring = []
 
-pub record Lined (g : List ℕ) (es : List Edge) (k : List ℕ) (kc : ℕ) (u : List ℕ) (kind reason kid : ℕ) : Type 0 where
+pub record LineDone (g : List ℕ) (es : List Edge) (k : List ℕ) (kc : ℕ) (u : List ℕ) (kind reason kid : ℕ) : Type 0 where
   pub is : kindBy kind reason (setsFrom u kid kc) ≡ kindFor g es
   pub kind-is : kind ≡ kindTag (kindFor g es)
   pub reason-is : reason ≡ kindReason (kindFor g es)
@@ -72,7 +72,7 @@ no-reason (r ∷ l) m e h es = absurd (never e h)
     never e h = omega arith
 
 module _ (g ls k : List ℕ) (n e kc : ℕ) (z : SetsReady g ls k n e kc) (m : ℕ) (is : m ≡ markOf (reasonsIn g (outLeft g n e))) where
-  pub line-excluded : m ≤ 65536 → 0 < m → Lined g (outLeft g n e) k kc k 0 (m - 1) kc
+  pub line-excluded : m ≤ 65536 → 0 < m → LineDone g (outLeft g n e) k kc k 0 (m - 1) kc
   unfolding kindFor
   line-excluded l h =
       let y : kindBy 0 (m - 1) [] ≡ kindFor g (outLeft g n e) = some-reason (reasonsIn g (outLeft g n e)) m is h (outLeft g n e) in
@@ -93,7 +93,7 @@ module _ (g ls k : List ℕ) (n e kc : ℕ) (z : SetsReady g ls k n e kc) (m : �
     unfolding kindFor
     plain = sym (no-reason (reasonsIn g (outLeft g n e)) m is h (outLeft g n e))
 
-    pub line-bare : e ≡ 0 → Lined g (outLeft g n e) k kc k 1 0 kc
+    pub line-bare : e ≡ 0 → LineDone g (outLeft g n e) k kc k 1 0 kc
     line-bare q =
         let y : kindBy 1 0 [] ≡ kindFor g (outLeft g n e) = sym (plain ∙ ap (λ (es : List Edge). byReasons es []) (out-end g n e (omega arith))) in
         record {
@@ -116,7 +116,7 @@ module _ (g ls k : List ℕ) (n e kc : ℕ) (z : SetsReady g ls k n e kc) (m : �
           plain ∙ ap (λ (x : Bool). cond x (kindBy 1 0 []) (cond (any (λ e. isForbid (e .weight)) (outLeft g n e)) (kindBy 2 0 []) (bySets (setsOf (outLeft g n e))))) (ap isNil c)
           ∙ ap (λ (x : Bool). cond x (kindBy 2 0 []) (bySets (setsOf (outLeft g n e)))) (sym bb)
 
-      pub line-forbid : b ≡ true → Lined g (outLeft g n e) k kc k 2 0 kc
+      pub line-forbid : b ≡ true → LineDone g (outLeft g n e) k kc k 2 0 kc
       line-forbid t =
           let y : kindBy 2 0 [] ≡ kindFor g (outLeft g n e) = sym (some-edge ∙ ap (λ (x : Bool). cond x (kindBy 2 0 []) (bySets (setsOf (outLeft g n e)))) t) in
           record {
@@ -135,7 +135,7 @@ module _ (g ls k : List ℕ) (n e kc : ℕ) (z : SetsReady g ls k n e kc) (m : �
         last : kindFor g (outLeft g n e) ≡ bySets (setsFrom u c kc)
         last = some-edge ∙ ap (λ (x : Bool). cond x (kindBy 2 0 []) (bySets (setsOf (outLeft g n e)))) t ∙ ap bySets (sym (y .sets))
 
-        pub line-constrains : c < kc → Lined g (outLeft g n e) k kc u 3 0 c
+        pub line-constrains : c < kc → LineDone g (outLeft g n e) k kc u 3 0 c
         line-constrains l =
             let x : kindBy 3 0 (setsFrom u c kc) ≡ kindFor g (outLeft g n e) = sym (last ∙ ap bySets (sets-more u c kc l) ∙ ap (kindBy 3 0) (sym (sets-more u c kc l))) in
             record {
@@ -150,7 +150,7 @@ module _ (g ls k : List ℕ) (n e kc : ℕ) (z : SetsReady g ls k n e kc) (m : �
               narrow = omega arith;
             }
 
-        pub line-requires : kc ≤ c → Lined g (outLeft g n e) k kc u 4 0 c
+        pub line-requires : kc ≤ c → LineDone g (outLeft g n e) k kc u 4 0 c
         line-requires l =
             let x : kindBy 4 0 [] ≡ kindFor g (outLeft g n e) = sym (last ∙ ap bySets (sets-none u c kc l)) in
             record {

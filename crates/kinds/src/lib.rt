@@ -8,7 +8,7 @@ ghost use Rattle.plan.specs.Plan.{isForbid, setsBy};
 ghost use Rattle.runs.specs.Along.{Way};
 ghost use Rattle.kinds.specs.Marks.{markOf, reasonsAt, reasonsIn, forbidsIn};
 ghost use Rattle.kinds.specs.Sets.{isHead, setsUp, SetReady, SetStep, SetsReady, SetsDone};
-ghost use Rattle.kinds.specs.Line.{Lined};
+ghost use Rattle.kinds.specs.Line.{LineDone};
 use store::ConflictCause;
 use store::ConflictEdge;
 use store::ConflictNode;
@@ -163,7 +163,7 @@ pub fn line(
     kc: usize,
 ) -> LineKind
     requires { ⌜ SetsReady (now g) (now ls) (now k) n e1 kc ⌝ }
-    ensures { λ r. ⌜ Lined (now (g .entry)) (outLeft (now (g .entry)) n e1) (now (k .entry)) kc (now (k .exit)) (r .kind) (r .reason) (r .kid) ⌝ }
+    ensures { λ r. ⌜ LineDone (now (g .entry)) (outLeft (now (g .entry)) n e1) (now (k .entry)) kc (now (k .exit)) (r .kind) (r .reason) (r .kid) ⌝ }
 {
     let m = find_reason(g, ls, n, e1);
     if 0 < m {

@@ -12,7 +12,7 @@ use Rattle.basis.specs.Quote.{utf8}
 use Rattle.records.specs.Tables.{Tables}
 use Rattle.records.specs.Views.{requirementText}
 use Rattle.texts.specs.Wrote.{Wrote, wrote-none}
-use Rattle.texts.specs.Indent.{indent, atTop}
+use Rattle.texts.specs.Indent.{indent}
 use Rattle.texts.specs.Marks.{marksAt, marksOf}
 use Rattle.texts.specs.Levels.{marks-count}
 use Rattle.lines.specs.Said.{runLead, runTail, runSaid, wordsSize}

@@ -1,5 +1,5 @@
 -- How much of a line a panel of some columns shows: whole characters of UTF-8, one a column.
-use mathlib.Core.Path.{_≡_, refl, sym, ap, _∙_}
+use mathlib.Core.Path.{_≡_, refl, sym, _∙_}
 use mathlib.Core.Bool.{Bool, true, false, cond}
 use mathlib.Core.List.{List, [], _∷_}
 use Prim.Native.Nat.{ℕ, zero, suc, _+_, _-_, _≤_, _<_}
@@ -123,10 +123,12 @@ module _ (xs : List ℕ) (columns left i : ℕ) (e : i + cutAt left (drop i xs) 
       let z : cutAt left (drop i xs) ≡ 0 = rw (drop-cons xs i 0 l) (cut-yes left (getD xs i 0) (drop (suc i) xs) o) in
       omega (arith, z, e)
 
-  pub cut-next : (b r : ℕ) (s : Bool) → i < length xs → s ≡ false → s ≡ over left b → b ≡ getD xs i 0 → r ≡ after left b → i + 1 + cutAt r (drop (i + 1) xs) ≡ cutAt columns xs
+  pub cut-next : (b r : ℕ) (s : Bool) → i < length xs → s ≡ false → s ≡ over left b → b ≡ getD xs i 0 → r ≡ after left b
+      → i + 1 + cutAt r (drop (i + 1) xs) ≡ cutAt columns xs
   cut-next b r s l t q p a =
       let o : over left (getD xs i 0) ≡ false = rw (← p) (sym q ∙ t) in
-      let z : cutAt left (drop i xs) ≡ suc (cutAt (after left (getD xs i 0)) (drop (suc i) xs)) = rw (drop-cons xs i 0 l) (cut-no left (getD xs i 0) (drop (suc i) xs) o) in
+      let z : cutAt left (drop i xs) ≡ suc (cutAt (after left (getD xs i 0)) (drop (suc i) xs)) =
+      rw (drop-cons xs i 0 l) (cut-no left (getD xs i 0) (drop (suc i) xs) o) in
       let y : cutAt r (drop (i + 1) xs) ≡ cutAt (after left (getD xs i 0)) (drop (suc i) xs) = rw (add-one, a, p) in
       omega (arith, z, e, y)
 

@@ -19,14 +19,14 @@ pub record Listing (file : List ℕ) (n : ℕ) (r : Seen) : Type 0 where
   pub short : n ≤ 128 → r ≡ listedIn file n
   pub long : 128 < n → r ≡ noCall
 
--- the call with that number, on a room of n bytes or a list of n entries
-pub record Replayed (file : List ℕ) (call opt n : ℕ) (r : Seen) : Type 0 where
-  pub check : call ≡ 0 → r ≡ checkedIn file
-  pub explain : call ≡ 1 → Told file opt (blank n) r
-  pub plain : call ≡ 2 → Told file 0 (blank n) r
-  pub graph : call ≡ 3 → r ≡ drawnIn file opt (blank n)
-  pub list : call ≡ 4 → Listing file n r
-  pub other : 4 < call → r ≡ noCall
+-- the call with that number, on a room of n bytes or a list of n entries: check, explain, explain plainly, draw, list the nodes
+unfoldable pub Replayed : List ℕ → ℕ → ℕ → ℕ → Seen → Type 0
+Replayed file zero opt n r = r ≡ checkedIn file
+Replayed file (suc zero) opt n r = Told file opt (blank n) r
+Replayed file (suc (suc zero)) opt n r = Told file 0 (blank n) r
+Replayed file (suc (suc (suc zero))) opt n r = r ≡ drawnIn file opt (blank n)
+Replayed file (suc (suc (suc (suc zero)))) opt n r = Listing file n r
+Replayed file (suc (suc (suc (suc (suc k))))) opt n r = r ≡ noCall
 
 -- a and b are one and the same, or not
 pub record Same (a b : Seen) (r : Bool) : Type 0 where
@@ -54,15 +54,13 @@ listing-one file n r q R Q = go (decLe n 128)
     go (no l) = let k : 128 < n = omega (arith, l) in R .long k ∙ sym (Q .long k)
 
 pub replayed-one : (file : List ℕ) (call opt n : ℕ) (r q : Seen) → Replayed file call opt n r → Replayed file call opt n q → r ≡ q
-replayed-one file call opt n r q R Q = go call refl
-  where
-    go : (k : ℕ) → call ≡ k → r ≡ q
-    go zero e = R .check e ∙ sym (Q .check e)
-    go (suc zero) e = told-one file opt (blank n) r q (R .explain e) (Q .explain e)
-    go (suc (suc zero)) e = told-one file 0 (blank n) r q (R .plain e) (Q .plain e)
-    go (suc (suc (suc zero))) e = R .graph e ∙ sym (Q .graph e)
-    go (suc (suc (suc (suc zero)))) e = listing-one file n r q (R .list e) (Q .list e)
-    go (suc (suc (suc (suc (suc k))))) e = let l : 4 < call = omega (arith, e) in R .other l ∙ sym (Q .other l)
+unfolding Replayed
+replayed-one file zero opt n r q R Q = R ∙ sym Q
+replayed-one file (suc zero) opt n r q R Q = told-one file opt (blank n) r q R Q
+replayed-one file (suc (suc zero)) opt n r q R Q = told-one file 0 (blank n) r q R Q
+replayed-one file (suc (suc (suc zero))) opt n r q R Q = R ∙ sym Q
+replayed-one file (suc (suc (suc (suc zero)))) opt n r q R Q = listing-one file n r q R Q
+replayed-one file (suc (suc (suc (suc (suc k))))) opt n r q R Q = R ∙ sym Q
 
 true-both : (a b : Bool) → (a ≡ true → b ≡ true) → (b ≡ true → a ≡ true) → a ≡ b
 true-both true true f g = refl
@@ -94,26 +92,35 @@ pub listing-long : (file : List ℕ) (n : ℕ) (r : Seen) → 128 < n → r ≡ 
 listing-long file n r l e = record { short = λ k. let f : ⊥ = omega arith in absurd f; long = λ _. e }
 
 module _ (file : List ℕ) (call opt n : ℕ) (r : Seen) where
-  not-at : {X : Type 0} (i j : ℕ) → call ≡ i → call ≡ j → (i ≡ j → ⊥) → X
-  not-at i j p q f = absurd (f (sym p ∙ q))
-
   pub at-check : call ≡ 0 → r ≡ checkedIn file → Replayed file call opt n r
-  at-check q e = record { check = λ _. e; explain = λ p. not-at 0 1 q p (λ z. omega arith); plain = λ p. not-at 0 2 q p (λ z. omega arith); graph = λ p. not-at 0 3 q p (λ z. omega arith); list = λ p. not-at 0 4 q p (λ z. omega arith); other = λ l. let f : ⊥ = omega arith in absurd f }
+  unfolding Replayed
+  at-check q e = rw q e
 
   pub at-explain : call ≡ 1 → Told file opt (blank n) r → Replayed file call opt n r
-  at-explain q e = record { check = λ p. not-at 1 0 q p (λ z. omega arith); explain = λ _. e; plain = λ p. not-at 1 2 q p (λ z. omega arith); graph = λ p. not-at 1 3 q p (λ z. omega arith); list = λ p. not-at 1 4 q p (λ z. omega arith); other = λ l. let f : ⊥ = omega arith in absurd f }
+  unfolding Replayed
+  at-explain q e = rw q e
 
   pub at-plain : call ≡ 2 → Told file 0 (blank n) r → Replayed file call opt n r
-  at-plain q e = record { check = λ p. not-at 2 0 q p (λ z. omega arith); explain = λ p. not-at 2 1 q p (λ z. omega arith); plain = λ _. e; graph = λ p. not-at 2 3 q p (λ z. omega arith); list = λ p. not-at 2 4 q p (λ z. omega arith); other = λ l. let f : ⊥ = omega arith in absurd f }
+  unfolding Replayed
+  at-plain q e = rw q e
 
   pub at-graph : call ≡ 3 → r ≡ drawnIn file opt (blank n) → Replayed file call opt n r
-  at-graph q e = record { check = λ p. not-at 3 0 q p (λ z. omega arith); explain = λ p. not-at 3 1 q p (λ z. omega arith); plain = λ p. not-at 3 2 q p (λ z. omega arith); graph = λ _. e; list = λ p. not-at 3 4 q p (λ z. omega arith); other = λ l. let f : ⊥ = omega arith in absurd f }
+  unfolding Replayed
+  at-graph q e = rw q e
 
   pub at-list : call ≡ 4 → Listing file n r → Replayed file call opt n r
-  at-list q e = record { check = λ p. not-at 4 0 q p (λ z. omega arith); explain = λ p. not-at 4 1 q p (λ z. omega arith); plain = λ p. not-at 4 2 q p (λ z. omega arith); graph = λ p. not-at 4 3 q p (λ z. omega arith); list = λ _. e; other = λ l. let f : ⊥ = omega arith in absurd f }
+  unfolding Replayed
+  at-list q e = rw q e
 
-  pub at-none : (call ≡ 0 → ⊥) → (call ≡ 1 → ⊥) → (call ≡ 2 → ⊥) → (call ≡ 3 → ⊥) → (call ≡ 4 → ⊥) → r ≡ noCall → Replayed file call opt n r
-  at-none a b c d f e = record { check = λ p. absurd (a p); explain = λ p. absurd (b p); plain = λ p. absurd (c p); graph = λ p. absurd (d p); list = λ p. absurd (f p); other = λ _. e }
+pub at-none : (file : List ℕ) (call opt n : ℕ) (r : Seen) → (call ≡ 0 → ⊥) → (call ≡ 1 → ⊥) → (call ≡ 2 → ⊥) → (call ≡ 3 → ⊥) → (call ≡ 4 → ⊥) → r ≡ noCall
+    → Replayed file call opt n r
+unfolding Replayed
+at-none file zero opt n r a b c d f e = absurd (a refl)
+at-none file (suc zero) opt n r a b c d f e = absurd (b refl)
+at-none file (suc (suc zero)) opt n r a b c d f e = absurd (c refl)
+at-none file (suc (suc (suc zero))) opt n r a b c d f e = absurd (d refl)
+at-none file (suc (suc (suc (suc zero)))) opt n r a b c d f e = absurd (f refl)
+at-none file (suc (suc (suc (suc (suc k))))) opt n r a b c d f e = e
 
 fields-same : (n p y u d s n′ p′ y′ u′ d′ s′ : ℕ) → n ≡ n′ → p ≡ p′ → y ≡ y′ → u ≡ u′ → d ≡ d′ → s ≡ s′
     → _≡_ {A = Seen} (record { number = n; place = p; bytes = y; units = u; depth = d; sum = s }) (record { number = n′; place = p′; bytes = y′; units = u′; depth = d′; sum = s′ })
@@ -151,8 +158,8 @@ module _ (a b : Seen) where
 pub agrees-beyond : (file head : List ℕ) (n : ℕ) → n ≡ roomIn head → 65536 < n → Agrees file head false
 agrees-beyond file head n q l = record { within = λ k. let f : ⊥ = omega (arith, q) in absurd f; beyond = λ _. refl }
 
-pub agrees-within : (file head : List ℕ) (call opt n m : ℕ) (s t : Seen) (r : Bool) → Replayed file call opt m s → Same s t r → t ≡ recordedIn head → call ≡ callIn head → opt ≡ optionIn head → m ≡ n → n ≡ roomIn head → n ≤ 65536
-    → Agrees file head r
+pub agrees-within : (file head : List ℕ) (call opt n m : ℕ) (s t : Seen) (r : Bool) → Replayed file call opt m s → Same s t r → t ≡ recordedIn head
+    → call ≡ callIn head → opt ≡ optionIn head → m ≡ n → n ≡ roomIn head → n ≤ 65536 → Agrees file head r
 agrees-within file head call opt n m s t r R S e p q i j l =
     record {
       within = λ _. record { seen = s; again = rw (← p, ← q, ← j, ← i) R; same = rw (← e) S };

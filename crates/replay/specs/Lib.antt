@@ -2,3 +2,4 @@ pub mod Again
 pub mod Head
 pub mod Seen
 pub mod Sum
+pub mod Tally

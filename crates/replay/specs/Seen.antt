@@ -1,16 +1,15 @@
 -- What a recorded call shows when it is made again: the answer, and the checksum of the whole room that it was lent.
 use mathlib.Core.Path.{_≡_, refl, sym, ap, ap₂, _∙_}
-use mathlib.Core.List.{List, [], _∷_, _++_, map, append-nil}
-use Prim.Native.Nat.{ℕ, zero, suc, _+_, _-_, _≤_, _<_}
+use mathlib.Core.List.{List, [], _∷_, _++_, map}
+use Prim.Native.Nat.{ℕ, zero, suc, _+_, _-_, _≤_}
 use native.Mathlib.Omega.{arith}
 use native.Mathlib.Numerals.{unary-clauses}
 use lib.ListN.{length, take, drop, replicate, length-replicate, length-map, length-append, length-drop}
 use lib.Seq.{take-append-add}
 use Rattle.texts.specs.Wrote.{over}
-use Rattle.machine.specs.Units.{Result}
 use Rattle.entries.specs.Entry.{entryOf, wordOf, Narrows, entries-back, fillTo}
 use Rattle.entries.specs.declared.NodeEntry.{NodeEntry}
-use Rattle.nodelist.specs.Nodes.{Nodes, nodesOf, listedBy}
+use Rattle.nodelist.specs.Nodes.{nodesOf, listedBy}
 use Rattle.nodelist.specs.declared.Counted.{Counted}
 use Rattle.nodelist.specs.Listed.{Listed, wordsOver, as-many, in-room}
 use Rattle.urzulempa.specs.declared.Answer.{Answer}
@@ -65,11 +64,12 @@ told-one file opt out r q S T =
 
 -- ---- the ways through the code
 
-pub told-in : (file : List ℕ) (opt : ℕ) (out left : List ℕ) (a : Answer) (s : ℕ) (r : Seen) → Says file opt out left a → s ≡ sumOf left → r ≡ seenOf a s → Told file opt out r
+pub told-in : (file : List ℕ) (opt : ℕ) (out left : List ℕ) (a : Answer) (s : ℕ) (r : Seen) → Says file opt out left a → s ≡ sumOf left → r ≡ seenOf a s
+    → Told file opt out r
 told-in file opt out left a s r S e q = rw q (record { left = left; says = S; sums = e })
 
-pub drawn-in : (file : List ℕ) (opt : ℕ) (out left : List ℕ) (a : Answer) (s : ℕ) (r : Seen) → a ≡ resultAnswer (drawFile file opt (length out)) → left ≡ over (drawFile file opt (length out) .text) out
-    → s ≡ sumOf left → r ≡ seenOf a s → r ≡ drawnIn file opt out
+pub drawn-in : (file : List ℕ) (opt : ℕ) (out left : List ℕ) (a : Answer) (s : ℕ) (r : Seen) → a ≡ resultAnswer (drawFile file opt (length out))
+    → left ≡ over (drawFile file opt (length out) .text) out → s ≡ sumOf left → r ≡ seenOf a s → r ≡ drawnIn file opt out
 unfolding drawnIn
 drawn-in file opt out left a s r e l p q = rw (q, p, e, l)
 
@@ -109,7 +109,8 @@ abbrev pub blankWords : List ℕ
 blankWords = replicate 128 11936128518282651045
 
 -- entries as words over blank ones, read back
-over-blank : (es : List NodeEntry) (ws : List ℕ) (n : ℕ) → ws ≡ wordsOver es blankWords → Narrows es → length es ≤ n → n ≤ 128 → map entryOf (take n ws) ≡ es ++ drop (length es) (blankList n)
+over-blank : (es : List NodeEntry) (ws : List ℕ) (n : ℕ) → ws ≡ wordsOver es blankWords → Narrows es → length es ≤ n → n ≤ 128
+    → map entryOf (take n ws) ≡ es ++ drop (length es) (blankList n)
 over-blank es ws n e h k l =
     let a : List ℕ = map wordOf es in
     let m : length a ≡ length es = length-map es wordOf in

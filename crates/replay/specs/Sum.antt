@@ -1,5 +1,5 @@
 -- The checksum of what a call left in a lent room, as `oracle record` computes it.
-use mathlib.Core.Path.{_≡_, refl, sym, ap, _∙_}
+use mathlib.Core.Path.{_≡_, refl, sym, ap}
 use mathlib.Core.List.{List, [], _∷_, _++_, map}
 use Prim.Native.Nat.{ℕ, zero, suc, _+_, _*_, _%_, _<_, _≤_}
 use native.Mathlib.Numerals.{add-one}
@@ -76,7 +76,8 @@ pub entries-none : (ws : List ℕ) → 0 ≡ sumEntries (entriesAt ws 0)
 unfolding entriesFrom entriesAt
 entries-none ws = refl
 
-pub entries-next : (ws : List ℕ) (h i n r : ℕ) (e : NodeEntry) → h ≡ sumEntries (entriesAt ws i) → length ws ≡ 128 → i < n → n ≤ 128 → e ≡ entryAt ws i → r ≡ mixEntry h e → r ≡ sumEntries (entriesAt ws (i + 1))
+pub entries-next : (ws : List ℕ) (h i n r : ℕ) (e : NodeEntry) → h ≡ sumEntries (entriesAt ws i) → length ws ≡ 128 → i < n → n ≤ 128
+    → e ≡ entryAt ws i → r ≡ mixEntry h e → r ≡ sumEntries (entriesAt ws (i + 1))
 unfolding entriesAt entryAt
 entries-next ws h i n r e q k l t p m =
     let j : i < length ws = omega arith in
@@ -85,6 +86,7 @@ entries-next ws h i n r e q k l t p m =
 pub entries-end : (ws : List ℕ) (h i n : ℕ) → h ≡ sumEntries (entriesAt ws i) → i ≤ n → n ≤ i → h ≡ sumEntries (entriesAt ws n)
 entries-end ws h i n q a b = let z : i ≡ n = omega arith in rw z at q
 
-pub entry-mixed : (h a b c d r : ℕ) (e : NodeEntry) → r ≡ mix d (e .missing) → d ≡ mix c (e .installable) → c ≡ mix b (e .group) → b ≡ mix a (e .number) → a ≡ mix h (e .kind) → r ≡ mixEntry h e
+pub entry-mixed : (h a b c d r : ℕ) (e : NodeEntry) → r ≡ mix d (e .missing) → d ≡ mix c (e .installable) → c ≡ mix b (e .group) → b ≡ mix a (e .number) → a ≡ mix h (e .kind)
+    → r ≡ mixEntry h e
 unfolding mixEntry
 entry-mixed h a b c d r e v w x y z = rw (v, w, x, y, z)

@@ -99,7 +99,7 @@ fn counted(c: Counted) -> Answer
     }
 }
 
-// The node list as packed words: a slice of entries can be lent by a host only.
+// `urzulempa_nodes` takes a slice of entries, which only a host lends. Below it stands `node_words`, which packs an entry into a word.
 fn list(file: &[u8], n: usize) -> Seen
     requires { ⌜ n ≤ 128 ⌝ }
     ensures { λ r. ⌜ r ≡ listedIn (now (file .entry)) n ⌝ }

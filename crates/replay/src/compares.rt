@@ -1,5 +1,4 @@
 // What a call shows now, against what is recorded of it.
-ghost use mathlib.Core.Path.{_≡_};
 ghost use Rattle.replay.specs.Again.{Same, Agrees};
 use crate::calls::Seen;
 use crate::calls::replayed;

@@ -6,6 +6,9 @@ mod compares;
 mod heads;
 mod sums;
 
+ghost use mathlib.Core.Path.{_≡_};
+ghost use Prim.Native.Nat.{_+_, _%_, _^_};
+ghost use Rattle.replay.specs.Tally.{stoppedAt, oneMore, endedBy};
 use calls::Seen;
 use calls::replayed;
 use compares::agrees;
@@ -74,11 +77,15 @@ fn filled(fd: i32, buf: &mut [u8], n: usize) -> bool {
     got == n
 }
 
-fn more(n: u64) -> u64 {
+fn more(n: u64) -> u64
+    ensures { λ r. ⌜ r ≡ (n + 1) % 2 ^ 64 ⌝ }
+{
     std::num::wrapping_add_u64(n, 1)
 }
 
-fn stopped(t: Tally) -> Tally {
+fn stopped(t: Tally) -> Tally
+    ensures { λ r. ⌜ r ≡ stoppedAt t ⌝ }
+{
     Tally {
         files: t.files,
         answers: t.answers,
@@ -88,7 +95,9 @@ fn stopped(t: Tally) -> Tally {
     }
 }
 
-fn one_more(t: Tally, differ: u64) -> Tally {
+fn one_more(t: Tally, differ: u64) -> Tally
+    ensures { λ r. ⌜ r ≡ oneMore t differ ⌝ }
+{
     Tally {
         files: t.files,
         answers: more(t.answers),
@@ -170,7 +179,9 @@ fn file_and_calls(fd: i32, file: &mut [u8], head: &[u8], t: Tally) -> Tally {
 }
 
 // The end says how many files and answers there are.
-fn ended(head: &[u8], t: Tally) -> Tally {
+fn ended(head: &[u8], t: Tally) -> Tally
+    ensures { λ r. ⌜ r ≡ endedBy (now (head .entry)) t ⌝ }
+{
     let files = word(head, 8);
     let answers = word(head, 16);
     if t.files != files {

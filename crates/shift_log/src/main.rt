@@ -3,7 +3,7 @@ use urzulempa::Answer;
 use urzulempa::urzulempa_explain_plain;
 ghost use mathlib.Core.Path.{_≡_};
 ghost use Prim.Native.Nat.{_≤_, min};
-ghost use Rattle.shift_log.specs.Log.{Numbered, counted};
+ghost use Rattle.shift_log.specs.Log.{Numbered, counted, unreadMore};
 
 // How many files were explained to the end, were refused, and could not be read.
 struct Shift {
@@ -144,7 +144,9 @@ fn one_more(s: Shift, number: u64) -> Shift
     }
 }
 
-fn not_read(s: Shift) -> Shift {
+fn not_read(s: Shift) -> Shift
+    ensures { λ r. ⌜ r ≡ unreadMore s ⌝ }
+{
     Shift {
         done: s.done,
         refused: s.refused,
