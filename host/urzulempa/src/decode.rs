@@ -1,30 +1,87 @@
-//! What a record says, for a person: used where a refusal points at one.
+//! What a record says, for a person, and what is wrong with it: used where a refusal points at one.
 
-/// A record in words, or what is wrong with its bytes.
+const ORIGINS: [&str; 6] = ["the root", "a solvable", "a forbid-multiple", "a requires gate", "a constrains auxiliary", "other"];
+
+/// The fields of a record.
+struct Record<'a> {
+    bytes: &'a [u8],
+}
+
+impl<'a> Record<'a> {
+    fn at(file: &'a [u8], number: u64) -> Option<Self> {
+        let at = usize::try_from(number).ok()?.checked_mul(32)?;
+        Some(Record { bytes: file.get(at..at.checked_add(32)?)? })
+    }
+
+    fn kind(&self) -> u8 {
+        self.bytes[0]
+    }
+
+    fn first(&self) -> u8 {
+        self.bytes[1]
+    }
+
+    /// Fields a, b and c.
+    fn fields(&self) -> [u16; 3] {
+        [2, 4, 6].map(|k| u16::from_le_bytes([self.bytes[k], self.bytes[k + 1]]))
+    }
+
+    fn text(&self) -> String {
+        let length = usize::from(self.first()).min(24);
+        self.bytes[8..8 + length].iter().map(|&x| if (32..=126).contains(&x) { char::from(x) } else { '?' }).collect()
+    }
+}
+
+/// The records of a kind, in file order.
+fn of_kind(file: &[u8], kind: u8) -> impl Iterator<Item = Record<'_>> {
+    file.chunks_exact(32).map(|bytes| Record { bytes }).filter(move |r| r.kind() == kind)
+}
+
+/// The text of the record of a kind with this own number.
+fn named(file: &[u8], kind: u8, own: u16) -> Option<Record<'_>> {
+    of_kind(file, kind).nth(usize::from(own))
+}
+
+/// A solvable as the texts show it: name, space, version.
+pub fn solvable(file: &[u8], number: u16) -> Option<String> {
+    let solvable = named(file, 2, number)?;
+    let name = named(file, 1, solvable.fields()[1])?;
+    Some(format!("{} {}", name.text(), solvable.text()))
+}
+
+/// The text of a reason.
+pub fn reason(file: &[u8], number: u16) -> Option<String> {
+    named(file, 6, number).map(|r| r.text())
+}
+
+/// What a variable stands for.
+fn origin(file: &[u8], variable: u16) -> Option<String> {
+    let [_, origin, names] = named(file, 7, variable)?.fields();
+    let what = *ORIGINS.get(usize::from(origin))?;
+    Some(match origin {
+        1 => solvable(file, names).map_or_else(|| what.into(), |s| format!("{what}, {s}")),
+        _ => what.into(),
+    })
+}
+
+/// A record in words.
 pub fn describe(file: &[u8], record: u64) -> Option<String> {
-    let at = usize::try_from(record).ok()?.checked_mul(32)?;
-    let bytes = file.get(at..at.checked_add(32)?)?;
-    let (kind, first) = (bytes[0], bytes[1]);
-    let field = |k: usize| u16::from_le_bytes([bytes[2 + 2 * k], bytes[3 + 2 * k]]);
-    let (a, b, c) = (field(0), field(1), field(2));
-    let text = || {
-        let shown: String = bytes[8..32].iter().take(usize::from(first).min(24)).map(|&x| if (32..=126).contains(&x) { char::from(x) } else { '?' }).collect();
-        format!("\"{shown}\"")
-    };
-    let core = match first {
+    let r = Record::at(file, record)?;
+    let [a, b, c] = r.fields();
+    let text = || format!("\"{}\"", r.text());
+    let core = match r.first() {
         0 => "outside the core",
         1 => "in the core",
         _ => "with a bad core flag",
     };
-    let origin = ["root", "solvable", "forbid-multiple", "requires gate", "constrains auxiliary", "other"];
-    Some(match kind {
+    Some(match r.kind() {
         1 => format!("name {a}: {}", text()),
         2 => format!("solvable {a}: name {b}, version {}", text()),
         3 => format!("version set {a}: name {b}, {}", text()),
         4 => format!("requirement {a}: {}", text()),
         5 => format!("candidate: requirement {a}, solvable {b}"),
         6 => format!("reason {a}: {}", text()),
-        7 => match origin.get(usize::from(b)) {
+        7 => match ORIGINS.get(usize::from(b)) {
             Some(o) => format!("variable {a}: origin {b} ({o}), names {c}"),
             None => format!("variable {a}: origin {b}, which does not exist"),
         },
@@ -39,14 +96,26 @@ pub fn describe(file: &[u8], record: u64) -> Option<String> {
         23 => format!("ConstrainsParent(variable {a}, auxiliary {b}, version set {c}), {core}"),
         24 => format!("ConstrainsExcluded(variable {a}, auxiliary {b}, version set {c}), {core}"),
         25 => format!("AnyOf(variable {a}, variable {b}), {core}"),
-        _ => format!("kind {kind}"),
+        k => format!("kind {k}"),
     })
 }
 
-/// How many records of each table stand before a record: what a reference could name there.
-pub fn defined(file: &[u8], record: u64) -> String {
-    let mut counts = [0usize; 9];
-    let names = ["names", "solvables", "version sets", "requirements", "candidates", "reasons", "variables", "assigned-by", "clauses"];
+/// The tables by kind, clauses last: what a reference names, one and many.
+const TABLES: [(&str, &str); 9] = [
+    ("name", "names"),
+    ("solvable", "solvables"),
+    ("version set", "version sets"),
+    ("requirement", "requirements"),
+    ("candidate", "candidates"),
+    ("reason", "reasons"),
+    ("variable", "variables"),
+    ("assigned-by", "assigned-by"),
+    ("clause", "clauses"),
+];
+
+/// How many records of each table stand before a record.
+fn counts(file: &[u8], record: u64) -> [usize; 9] {
+    let mut counts = [0; 9];
     for bytes in file.chunks_exact(32).take(usize::try_from(record).unwrap_or(usize::MAX)) {
         match bytes[0] {
             k @ 1..=8 => counts[usize::from(k) - 1] += 1,
@@ -54,8 +123,120 @@ pub fn defined(file: &[u8], record: u64) -> String {
             _ => {}
         }
     }
-    let said: Vec<String> = counts.iter().zip(names).filter(|(n, _)| **n > 0).map(|(n, name)| format!("{n} {name}")).collect();
+    counts
+}
+
+/// What a reference could name at a record.
+pub fn defined(file: &[u8], record: u64) -> String {
+    let said: Vec<String> = counts(file, record).iter().zip(TABLES).filter(|(n, _)| **n > 0).map(|(n, (one, many))| format!("{n} {}", if *n == 1 { one } else { many })).collect();
     if said.is_empty() { "nothing is defined before it".into() } else { format!("defined before it: {}", said.join(", ")) }
+}
+
+/// What a field of a kind is: its own number, a number of a table, a variable of some origins, or something that is not counted.
+enum Field {
+    Own,
+    Of(usize),
+    Variable(&'static [u16]),
+    Free,
+    Unused,
+}
+
+/// Fields a, b and c of a kind; a variable's c goes by its origin.
+fn meaning(r: &Record<'_>) -> [Field; 3] {
+    use Field::{Free, Of, Own, Unused, Variable};
+    const SOLVABLE: &[u16] = &[1];
+    const PARENT: &[u16] = &[0, 1];
+    match r.kind() {
+        1 | 4 | 6 => [Own, Unused, Unused],
+        2 | 3 => [Own, Of(0), Unused],
+        5 => [Of(3), Of(1), Unused],
+        7 => [Own, Free, [Unused, Of(1), Of(0)].into_iter().nth(usize::from(r.fields()[1])).unwrap_or(Unused)],
+        8 => [Of(6), Of(8), Unused],
+        17 => [Variable(SOLVABLE), Of(5), Unused],
+        19 => [Variable(&[0, 1, 3]), Of(3), Unused],
+        20 => [Variable(SOLVABLE), Variable(SOLVABLE), Unused],
+        21 => [Variable(SOLVABLE), Variable(&[2]), Unused],
+        22 => [Variable(PARENT), Variable(SOLVABLE), Of(2)],
+        23 => [Variable(PARENT), Variable(&[4]), Of(2)],
+        24 => [Variable(SOLVABLE), Variable(&[4]), Of(2)],
+        25 => [Variable(&[0, 1, 2, 3, 4, 5]), Variable(&[0, 1, 2, 3, 4, 5]), Unused],
+        _ => [Unused, Unused, Unused],
+    }
+}
+
+/// The byte or field that refusals 3, 4 and 5 mean, as far as it can be told from the record and those before it.
+pub fn fault(file: &[u8], number: u64, record: u64) -> Option<String> {
+    let r = Record::at(file, record)?;
+    match number {
+        3 => shape_fault(&r),
+        4 => number_fault(file, record, &r),
+        5 => origin_fault(file, &r),
+        _ => None,
+    }
+}
+
+fn shape_fault(r: &Record<'_>) -> Option<String> {
+    let texted = matches!(r.kind(), 1 | 2 | 3 | 4 | 6);
+    let clause = r.kind() >= 16;
+    let first = usize::from(r.first());
+    if texted && !(1..=24).contains(&first) {
+        return Some(format!("byte 1, the text's length, is {first} and not 1 to 24"));
+    }
+    if clause && first > 1 {
+        return Some(format!("byte 1, the core flag, is {first} and not 0 or 1"));
+    }
+    if !texted && !clause && first != 0 {
+        return Some(format!("byte 1 is {first} and must be 0"));
+    }
+    let length = if texted { first } else { 0 };
+    for (k, &byte) in r.bytes.iter().enumerate().skip(8) {
+        if k < 8 + length && !(32..=126).contains(&byte) {
+            return Some(format!("byte {k}, of the text, is {byte} and not 32 to 126"));
+        }
+        if k >= 8 + length && byte != 0 {
+            return Some(format!("byte {k}, beyond the text, is {byte} and must be 0"));
+        }
+    }
+    if r.kind() == 7 && r.fields()[1] > 5 {
+        return Some(format!("field b, the origin, is {} and not 0 to 5", r.fields()[1]));
+    }
+    let unused = meaning(r).into_iter().zip(r.fields()).zip(["a", "b", "c"]).find(|((m, x), _)| matches!(m, Field::Unused) && *x != 0);
+    unused.map(|((_, x), name)| format!("field {name} is {x} and must be 0"))
+}
+
+fn number_fault(file: &[u8], record: u64, r: &Record<'_>) -> Option<String> {
+    let counts = counts(file, record);
+    for (field, x) in meaning(r).into_iter().zip(r.fields()) {
+        match field {
+            Field::Own => {
+                let next = counts[usize::from(r.kind()) - 1];
+                if usize::from(x) != next {
+                    return Some(format!("its own number is {x} and should be {next}, the next"));
+                }
+            }
+            Field::Of(_) | Field::Variable(_) => {
+                let table = if let Field::Of(table) = field { table } else { 6 };
+                let (n, (one, many)) = (counts[table], TABLES[table]);
+                if usize::from(x) >= n {
+                    return Some(format!("{one} {x} is not defined yet; {n} {} {}", if n == 1 { one } else { many }, if n == 1 { "is" } else { "are" }));
+                }
+            }
+            Field::Free | Field::Unused => {}
+        }
+    }
+    (r.kind() == 8).then(|| format!("variable {} has a record 8 already", r.fields()[0]))
+}
+
+fn origin_fault(file: &[u8], r: &Record<'_>) -> Option<String> {
+    for ((field, x), name) in meaning(r).into_iter().zip(r.fields()).zip(["a", "b", "c"]) {
+        let Field::Variable(allowed) = field else { continue };
+        let origin_number = named(file, 7, x).map(|v| v.fields()[1])?;
+        if !allowed.contains(&origin_number) {
+            let wanted: Vec<&str> = allowed.iter().map(|&o| ORIGINS[usize::from(o)]).collect();
+            return Some(format!("field {name}: variable {x} is {}, and {} is wanted there", origin(file, x)?, wanted.join(" or ")));
+        }
+    }
+    None
 }
 
 /// The number of the record that holds a clause, counted among all clauses.

@@ -12,8 +12,8 @@ urzulempa: why a load of packages has no solution, from a file of clause records
 
   urzulempa explain FILE [--indent] [--room N]   the explanation; --indent draws the top level too
   urzulempa graph FILE [--simplify] [--room N]   the graph in the DOT language; --simplify draws a merge group once
-  urzulempa nodes FILE                           the nodes: number, kind, what it names, group, labels
-  urzulempa check FILE                           whether the file is accepted, and no text
+  urzulempa nodes FILE                           the nodes: number, kind, what it names, first node of its group, labels
+  urzulempa check FILE                           looks for refusals 1 to 9; says nothing if there are none
 
 FILE may be - for standard input. N is the most bytes of text (default 67108864).
 Text goes to standard output, everything else to standard error.
@@ -95,10 +95,16 @@ fn list(file: &[u8]) -> Result<ExitCode, String> {
     if answer.is_done() {
         let count = count_nodes(file);
         let kinds = ["root", "solvable", "unresolved", "excluded"];
-        let mut out = String::from("node kind number group installable missing\n");
+        let mut out = String::from("node kind number group installable missing what\n");
         for (n, node) in list.iter().take(count).enumerate() {
             let kind = kinds.get(usize::from(node.kind)).unwrap_or(&"?");
-            out += &format!("{n} {kind} {} {} {} {}\n", node.number, node.group, node.installable, node.missing);
+            let what = match node.kind {
+                0 => Some("<root>".into()),
+                1 => decode::solvable(file, node.number),
+                2 => Some("unresolved".into()),
+                _ => decode::reason(file, node.number),
+            };
+            out += &format!("{n} {kind} {} {} {} {} {}\n", node.number, node.group, node.installable, node.missing, what.unwrap_or_default());
         }
         print(out.as_bytes())?;
     }
@@ -119,8 +125,19 @@ fn told(file: &[u8], answer: &Answer) -> ExitCode {
         _ => None,
     });
     say(&format!("refused {} at {}: {refusal}", answer.number, place(&refusal, answer.place, record)));
+    match refusal {
+        Refusal::Length => say(&format!("it has {} bytes", file.len())),
+        Refusal::Endless(s) => {
+            if let Some(shown) = u16::try_from(s).ok().and_then(|s| decode::solvable(file, s)) {
+                say(&format!("solvable {s} is {shown}"));
+            }
+        }
+        Refusal::Unreached(_) => say("node 0 is the root, node 1 unresolved if anything leads there, the others as the core's clauses first name them"),
+        _ => {}
+    }
     if let Some((record, said)) = record.and_then(|r| decode::describe(file, r).map(|said| (r, said))) {
-        say(&format!("record {record}: {said}; {}", decode::defined(file, record)));
+        let fault = decode::fault(file, answer.number, record).map(|f| format!("{f}; ")).unwrap_or_default();
+        say(&format!("record {record}: {said}; {fault}{}", decode::defined(file, record)));
     }
     ExitCode::from(2)
 }

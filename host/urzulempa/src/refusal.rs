@@ -67,9 +67,9 @@ impl Refusal {
 impl fmt::Display for Refusal {
     fn fmt(&self, f: &mut fmt::Formatter<'_>) -> fmt::Result {
         match *self {
-            Self::Length => write!(f, "the file's length is no multiple of 32 or above 65,536 bytes: it was cut or is no record file; write it again"),
+            Self::Length => write!(f, "the file's length is no multiple of 32 or above 65,536 bytes: it was cut or is no record file; hand over whole records"),
             Self::Kind(r) => write!(f, "record {r} has a kind that does not exist: the writer is newer than this reader, or the file is damaged"),
-            Self::Shape(r) => write!(f, "record {r} has a bad length, flag, text byte or origin, or a byte that must be 0 is not: write it again"),
+            Self::Shape(r) => write!(f, "record {r} has a bad length, flag, text byte or origin, or a byte that must be 0 is not: mend the writer"),
             Self::Number(r) => write!(f, "record {r} is out of order or names something that is not defined before it: put definitions first and number them from 0"),
             Self::Origin(r) => write!(f, "record {r} names a variable of an origin that its field does not allow: check what the variable stands for"),
             Self::TableFull(r) => write!(f, "record {r} is one more than its table holds: the load is too large; leave out what is not in the core"),

@@ -1,0 +1,36 @@
+//! The command on damaged files: an answer and no panic on any of them. It is built by host/urzulempa, which stands alone.
+
+use std::io::Write;
+use std::process::{Command, Output, Stdio};
+
+const COMMAND: &str = concat!(env!("CARGO_MANIFEST_DIR"), "/../target/release/urzulempa");
+
+fn run(words: &[&str], file: &[u8]) -> Output {
+    let child = Command::new(COMMAND).args(words).stdin(Stdio::piped()).stdout(Stdio::piped()).stderr(Stdio::piped()).spawn();
+    let mut child = child.unwrap_or_else(|e| panic!("{COMMAND}: {e}: build host/urzulempa for release into host/target first"));
+    // A command that wants no file does not read it.
+    let _ = child.stdin.take().expect("a pipe").write_all(file);
+    child.wait_with_output().expect("the command ends")
+}
+
+/// Damaged files of every shape: an answer, a status of 0 or 2, a sentence where it is refused, and no panic.
+#[test]
+fn ten_thousand_damaged_files_get_an_answer() {
+    let shapes = ["double-faults", "wrong-origins", "bits-flipped", "fields-changed", "cut", "records-swapped", "unused-bytes", "random-records", "random-bytes", "bytes-65568"];
+    let calls = [&["check", "-"][..], &["explain", "-", "--room", "3000"], &["graph", "-", "--simplify", "--room", "3000"], &["nodes", "-"]];
+    let mut refused = 0;
+    for index in 0..10_000 {
+        let shape = shapes[index % shapes.len()];
+        let file = oracle::generate::file(shape, index as u64).expect("a shape of the generator");
+        let words = calls[index / shapes.len() % calls.len()];
+        let out = run(words, &file);
+        let err = String::from_utf8_lossy(&out.stderr).into_owned();
+        match out.status.code() {
+            Some(0) => assert!(err.is_empty(), "{shape} {index} {words:?}: {err}"),
+            Some(2) => assert!(err.starts_with("refused ") && !err.contains("panicked"), "{shape} {index} {words:?}: {err}"),
+            other => panic!("{shape} {index} {words:?}: status {other:?}, {err}"),
+        }
+        refused += usize::from(out.status.code() == Some(2));
+    }
+    assert!(refused > 5_000, "{refused} were refused");
+}
