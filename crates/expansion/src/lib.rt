@@ -43,18 +43,18 @@ pub enum Progress {
 fn make_once(
     g: &mut [u64; 1152],
     tr: &mut [u64; 1280],
-    w: &mut [u16; 3456],
+    ls: &mut [u16; 3456],
     k: Work,
     p: ConflictNode,
     d: ConflictNode,
     v: u16,
 ) -> Progress
-    requires { ⌜ Holds (now g) (now tr) (now w) k ⌝ }
-    ensures { λ r. ⌜ Expanded (once (buildIn (now (g .entry)) (now (tr .entry)) (now (w .entry)) k) (triple p d v)) (now (g .exit)) (now (tr .exit)) (now (w .exit)) r ⌝ }
+    requires { ⌜ Holds (now g) (now tr) (now ls) k ⌝ }
+    ensures { λ r. ⌜ Expanded (once (buildIn (now (g .entry)) (now (tr .entry)) (now (ls .entry)) k) (triple p d v)) (now (g .exit)) (now (tr .exit)) (now (ls .exit)) r ⌝ }
 {
     let t = triples::pack(p, d, v);
     let n = k.triples;
-    if triples::made(tr, w, n, t) {
+    if triples::made(tr, ls, n, t) {
         return Progress::On(k);
     }
     let s = k.size;
@@ -68,7 +68,7 @@ fn make_once(
     match a {
         Put::Full(z) => Progress::Full(z),
         Put::At(_, z) => {
-            triples::make(tr, w, n, t);
+            triples::make(tr, ls, n, t);
             Progress::On(Work {
                 size: z,
                 triples: n + 1,
@@ -81,22 +81,22 @@ fn make_once(
 fn pair_party(
     g: &mut [u64; 1152],
     tr: &mut [u64; 1280],
-    w: &mut [u16; 3456],
+    ls: &mut [u16; 3456],
     k: Work,
     side: Side,
     n: ConflictNode,
     v: u16,
     r: Party,
 ) -> Progress
-    requires { ⌜ Holds (now g) (now tr) (now w) k ⌝ }
-    ensures { λ d. ⌜ Expanded (onceAll (triplesOf side n v (asList r)) (buildIn (now (g .entry)) (now (tr .entry)) (now (w .entry)) k)) (now (g .exit)) (now (tr .exit)) (now (w .exit)) d ⌝ }
+    requires { ⌜ Holds (now g) (now tr) (now ls) k ⌝ }
+    ensures { λ d. ⌜ Expanded (onceAll (triplesOf side n v (asList r)) (buildIn (now (g .entry)) (now (tr .entry)) (now (ls .entry)) k)) (now (g .exit)) (now (tr .exit)) (now (ls .exit)) d ⌝ }
 {
     let Party::Node(m) = r else {
         return Progress::On(k);
     };
     match side {
-        Side::Parent => make_once(g, tr, w, k, n, m, v),
-        Side::Candidate => make_once(g, tr, w, k, m, n, v),
+        Side::Parent => make_once(g, tr, ls, k, n, m, v),
+        Side::Candidate => make_once(g, tr, ls, k, m, n, v),
     }
 }
 
@@ -123,7 +123,7 @@ fn pair_all(
     ix: &[u16; 10432],
     g: &mut [u64; 1152],
     tr: &mut [u64; 1280],
-    w: &mut [u16; 3456],
+    ls: &mut [u16; 3456],
     k: Work,
     side: Side,
     n: ConflictNode,
@@ -131,8 +131,8 @@ fn pair_all(
     x: usize,
 ) -> Progress
     requires { ⌜ Loaded (now file) (now ix) ⌝ }
-    requires { ⌜ Holds (now g) (now tr) (now w) k ⌝ }
-    ensures { λ d. ⌜ Expanded (onceAll (pairsFrom (tablesOf (now (file .entry))) side n v x) (buildIn (now (g .entry)) (now (tr .entry)) (now (w .entry)) k)) (now (g .exit)) (now (tr .exit)) (now (w .exit)) d ⌝ }
+    requires { ⌜ Holds (now g) (now tr) (now ls) k ⌝ }
+    ensures { λ d. ⌜ Expanded (onceAll (pairsFrom (tablesOf (now (file .entry))) side n v x) (buildIn (now (g .entry)) (now (tr .entry)) (now (ls .entry)) k)) (now (g .exit)) (now (tr .exit)) (now (ls .exit)) d ⌝ }
 {
     let mut y = x;
     let mut m = k;
@@ -140,7 +140,7 @@ fn pair_all(
         let i = y - 1;
         let c = views::aux_partner(file, ix, i);
         let r = linking::named(file, ix, c);
-        let d = pair_party(g, tr, w, m, side, n, v, r);
+        let d = pair_party(g, tr, ls, m, side, n, v, r);
         match d {
             Progress::Full(z) => return Progress::Full(z),
             Progress::On(z) => {
@@ -211,7 +211,7 @@ fn pair_others(
     ix: &[u16; 10432],
     g: &mut [u64; 1152],
     tr: &mut [u64; 1280],
-    w: &mut [u16; 3456],
+    ls: &mut [u16; 3456],
     k: Work,
     side: Side,
     n: ConflictNode,
@@ -219,15 +219,15 @@ fn pair_others(
     b: u16,
 ) -> Progress
     requires { ⌜ Loaded (now file) (now ix) ⌝ }
-    requires { ⌜ Holds (now g) (now tr) (now w) k ⌝ }
-    ensures { λ d. ⌜ Expanded (onceAll (triplesOf side n v (others (tablesOf (now (file .entry))) side b)) (buildIn (now (g .entry)) (now (tr .entry)) (now (w .entry)) k)) (now (g .exit)) (now (tr .exit)) (now (w .exit)) d ⌝ }
+    requires { ⌜ Holds (now g) (now tr) (now ls) k ⌝ }
+    ensures { λ d. ⌜ Expanded (onceAll (triplesOf side n v (others (tablesOf (now (file .entry))) side b)) (buildIn (now (g .entry)) (now (tr .entry)) (now (ls .entry)) k)) (now (g .exit)) (now (tr .exit)) (now (ls .exit)) d ⌝ }
 {
     let x = first_other(file, ix, side, b);
     if aux_kept(file, ix, x) {
-        return pair_all(file, ix, g, tr, w, k, side, n, v, x);
+        return pair_all(file, ix, g, tr, ls, k, side, n, v, x);
     }
     let r = recover_other(file, ix, side, b);
-    pair_party(g, tr, w, k, side, n, v, r)
+    pair_party(g, tr, ls, k, side, n, v, r)
 }
 
 // Clauses 23 and 24.
@@ -236,7 +236,7 @@ fn expand_pair(
     ix: &[u16; 10432],
     g: &mut [u64; 1152],
     tr: &mut [u64; 1280],
-    w: &mut [u16; 3456],
+    ls: &mut [u16; 3456],
     k: Work,
     side: Side,
     a: u16,
@@ -244,14 +244,14 @@ fn expand_pair(
     v: u16,
 ) -> Progress
     requires { ⌜ Loaded (now file) (now ix) ⌝ }
-    requires { ⌜ Holds (now g) (now tr) (now w) k ⌝ }
-    ensures { λ d. ⌜ Expanded (pair (tablesOf (now (file .entry))) side a b v (buildIn (now (g .entry)) (now (tr .entry)) (now (w .entry)) k)) (now (g .exit)) (now (tr .exit)) (now (w .exit)) d ⌝ }
+    requires { ⌜ Holds (now g) (now tr) (now ls) k ⌝ }
+    ensures { λ d. ⌜ Expanded (pair (tablesOf (now (file .entry))) side a b v (buildIn (now (g .entry)) (now (tr .entry)) (now (ls .entry)) k)) (now (g .exit)) (now (tr .exit)) (now (ls .exit)) d ⌝ }
 {
     let r = linking::named(file, ix, a);
     let Party::Node(n) = r else {
         return Progress::On(k);
     };
-    pair_others(file, ix, g, tr, w, k, side, n, v, b)
+    pair_others(file, ix, g, tr, ls, k, side, n, v, b)
 }
 
 fn widen(k: Work, r: Grown) -> Progress
@@ -271,14 +271,14 @@ fn expand_forbid(
     ix: &[u16; 10432],
     g: &mut [u64; 1152],
     tr: &[u64; 1280],
-    w: &mut [u16; 3456],
+    ls: &mut [u16; 3456],
     k: Work,
     a: u16,
     b: u16,
 ) -> Progress
     requires { ⌜ Loaded (now file) (now ix) ⌝ }
-    requires { ⌜ Holds (now g) (now tr) (now w) k ⌝ }
-    ensures { λ d. ⌜ Expanded (forbid (tablesOf (now (file .entry))) a b (buildIn (now (g .entry)) (now (tr .entry)) (now (w .entry)) k)) (now (g .exit)) (now (tr .entry)) (now (w .exit)) d ⌝ }
+    requires { ⌜ Holds (now g) (now tr) (now ls) k ⌝ }
+    ensures { λ d. ⌜ Expanded (forbid (tablesOf (now (file .entry))) a b (buildIn (now (g .entry)) (now (tr .entry)) (now (ls .entry)) k)) (now (g .exit)) (now (tr .entry)) (now (ls .exit)) d ⌝ }
 {
     let o = views::origin(file, ix, a);
     let Origin::Solvable(n) = o else {
@@ -289,10 +289,10 @@ fn expand_forbid(
         return Progress::On(k);
     };
     let name = basis::wide16(m);
-    let p = triples::last_under(w, name);
+    let p = triples::last_under(ls, name);
     let s = k.size;
     let r = linking::add_forbidden(g, s, p, n);
-    triples::note_last(w, name, n);
+    triples::note_last(ls, name, n);
     widen(k, r)
 }
 
@@ -302,13 +302,13 @@ pub fn expand(
     ix: &[u16; 10432],
     g: &mut [u64; 1152],
     tr: &mut [u64; 1280],
-    w: &mut [u16; 3456],
+    ls: &mut [u16; 3456],
     k: Work,
     c: Clause,
 ) -> Progress
     requires { ⌜ Loaded (now file) (now ix) ⌝ }
-    requires { ⌜ Holds (now g) (now tr) (now w) k ⌝ }
-    ensures { λ d. ⌜ Expanded (expand (tablesOf (now (file .entry))) c (buildIn (now (g .entry)) (now (tr .entry)) (now (w .entry)) k)) (now (g .exit)) (now (tr .exit)) (now (w .exit)) d ⌝ }
+    requires { ⌜ Holds (now g) (now tr) (now ls) k ⌝ }
+    ensures { λ d. ⌜ Expanded (expand (tablesOf (now (file .entry))) c (buildIn (now (g .entry)) (now (tr .entry)) (now (ls .entry)) k)) (now (g .exit)) (now (tr .exit)) (now (ls .exit)) d ⌝ }
 {
     let s = k.size;
     match c {
@@ -326,7 +326,7 @@ pub fn expand(
             let u = linking::expand_lock(file, ix, g, s, a, b);
             widen(k, u)
         }
-        Clause::ForbidMultipleInstances(a, b) => expand_forbid(file, ix, g, tr, w, k, a, b),
+        Clause::ForbidMultipleInstances(a, b) => expand_forbid(file, ix, g, tr, ls, k, a, b),
         Clause::Constrains(a, b, v) => {
             let u = linking::expand_constrains(file, ix, g, s, a, b, v);
             widen(k, u)
@@ -336,7 +336,7 @@ pub fn expand(
             ix,
             g,
             tr,
-            w,
+            ls,
             k,
             Side::Parent,
             a,
@@ -348,7 +348,7 @@ pub fn expand(
             ix,
             g,
             tr,
-            w,
+            ls,
             k,
             Side::Candidate,
             a,

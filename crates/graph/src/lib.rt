@@ -63,19 +63,19 @@ fn core_turn(
     ix: &[u16; 10432],
     g: &mut [u64; 1152],
     tr: &mut [u64; 1280],
-    w: &mut [u16; 3456],
+    ls: &mut [u16; 3456],
     k: Work,
     c: Clause,
 ) -> Turn
     requires { ⌜ Loaded (now file) (now ix) ⌝ }
-    requires { ⌜ Holds (now g) (now tr) (now w) k ⌝ }
-    ensures { λ r. ⌜ Turns (coreTurn (tablesOf (now (file .entry))) c (buildIn (now (g .entry)) (now (tr .entry)) (now (w .entry)) k)) (now (g .exit)) (now (tr .exit)) (now (w .exit)) r ⌝ }
+    requires { ⌜ Holds (now g) (now tr) (now ls) k ⌝ }
+    ensures { λ r. ⌜ Turns (coreTurn (tablesOf (now (file .entry))) c (buildIn (now (g .entry)) (now (tr .entry)) (now (ls .entry)) k)) (now (g .exit)) (now (tr .exit)) (now (ls .exit)) r ⌝ }
 {
     if is_learnt(c) {
         let s = k.size;
         return Turn::Refused(7, s);
     }
-    let d = expansion::expand(file, ix, g, tr, w, k, c);
+    let d = expansion::expand(file, ix, g, tr, ls, k, c);
     match d {
         Progress::On(m) => Turn::On(m),
         Progress::Full(z) => Turn::Refused(8, z),
@@ -88,17 +88,17 @@ fn turn_at(
     ix: &[u16; 10432],
     g: &mut [u64; 1152],
     tr: &mut [u64; 1280],
-    w: &mut [u16; 3456],
+    ls: &mut [u16; 3456],
     k: Work,
     i: usize,
 ) -> Turn
     requires { ⌜ Loaded (now file) (now ix) ⌝ }
-    requires { ⌜ Holds (now g) (now tr) (now w) k ⌝ }
-    ensures { λ r. ⌜ Turns (turnAt (tablesOf (now (file .entry))) i (buildIn (now (g .entry)) (now (tr .entry)) (now (w .entry)) k)) (now (g .exit)) (now (tr .exit)) (now (w .exit)) r ⌝ }
+    requires { ⌜ Holds (now g) (now tr) (now ls) k ⌝ }
+    ensures { λ r. ⌜ Turns (turnAt (tablesOf (now (file .entry))) i (buildIn (now (g .entry)) (now (tr .entry)) (now (ls .entry)) k)) (now (g .exit)) (now (tr .exit)) (now (ls .exit)) r ⌝ }
 {
     if views::in_core(file, ix, i) {
         let c = views::clause(file, ix, i);
-        return core_turn(file, ix, g, tr, w, k, c);
+        return core_turn(file, ix, g, tr, ls, k, c);
     }
     Turn::On(k)
 }
@@ -110,17 +110,17 @@ fn build_core(
     n: usize,
     g: &mut [u64; 1152],
     tr: &mut [u64; 1280],
-    w: &mut [u16; 3456],
+    ls: &mut [u16; 3456],
     k: Work,
 ) -> Core
     requires { ⌜ Loaded (now file) (now ix) ⌝ }
-    requires { ⌜ Holds (now g) (now tr) (now w) k ⌝ }
-    ensures { λ r. ⌜ Builds (buildFrom n (tablesOf (now (file .entry))) 0 (buildIn (now (g .entry)) (now (tr .entry)) (now (w .entry)) k)) (now (g .exit)) (now (tr .exit)) (now (w .exit)) r ⌝ }
+    requires { ⌜ Holds (now g) (now tr) (now ls) k ⌝ }
+    ensures { λ r. ⌜ Builds (buildFrom n (tablesOf (now (file .entry))) 0 (buildIn (now (g .entry)) (now (tr .entry)) (now (ls .entry)) k)) (now (g .exit)) (now (tr .exit)) (now (ls .exit)) r ⌝ }
 {
     let mut m = k;
     let mut i: usize = 0;
     while i < n {
-        let d = turn_at(file, ix, g, tr, w, m, i);
+        let d = turn_at(file, ix, g, tr, ls, m, i);
         match d {
             Turn::Refused(q, z) => {
                 let p = number(i);
@@ -136,14 +136,14 @@ fn build_core(
 }
 
 // Unresolved may go, then the chains, then 9.
-fn finish(g: &mut [u64; 1152], w: &mut [u16; 3456], s: Size) -> Drawing
+fn finish(g: &mut [u64; 1152], ls: &mut [u16; 3456], s: Size) -> Drawing
     requires { ⌜ Growing (now g) s ⌝ }
-    requires { ⌜ length (now w) ≡ 3456 ⌝ }
-    ensures { λ r. ⌜ Drew (finished (settle (graphIn (now (g .entry)) s))) (settle (graphIn (now (g .entry)) s)) (now (g .exit)) (now (w .exit)) r ⌝ }
+    requires { ⌜ length (now ls) ≡ 3456 ⌝ }
+    ensures { λ r. ⌜ Drew (finished (settle (graphIn (now (g .entry)) s))) (settle (graphIn (now (g .entry)) s)) (now (g .exit)) (now (ls .exit)) r ⌝ }
 {
     let t = store::settle(g, s);
-    links::chain(g, t, w);
-    let u = reach::lowest_unreached(g, t, w);
+    links::chain(g, t, ls);
+    let u = reach::lowest_unreached(g, t, ls);
     if u == 0 {
         return Drawing::Whole(t);
     }
@@ -151,33 +151,33 @@ fn finish(g: &mut [u64; 1152], w: &mut [u16; 3456], s: Size) -> Drawing
     Drawing::Refused(9, p, t)
 }
 
-// The graph of a file with n clauses. The tables come as fresh arrays; w holds the chains of a graph that is drawn.
+// The graph of a file with n clauses. The tables come as fresh arrays; ls holds the chains of a graph that is drawn.
 pub fn build(
     file: &[u8],
     ix: &[u16; 10432],
     n: usize,
     g: &mut [u64; 1152],
     tr: &mut [u64; 1280],
-    w: &mut [u16; 3456],
+    ls: &mut [u16; 3456],
 ) -> Drawing
     requires { ⌜ Loaded (now file) (now ix) ⌝ }
     requires { ⌜ n ≡ length (tablesOf (now file) .clauses) ⌝ }
     requires { ⌜ now g ≡ replicate 1152 0 ⌝ }
     requires { ⌜ length (now tr) ≡ 1280 ⌝ }
-    requires { ⌜ now w ≡ replicate 3456 0 ⌝ }
-    ensures { λ r. ⌜ Drew (graphOf (tablesOf (now (file .entry)))) (leftOf (tablesOf (now (file .entry)))) (now (g .exit)) (now (w .exit)) r ⌝ }
+    requires { ⌜ now ls ≡ replicate 3456 0 ⌝ }
+    ensures { λ r. ⌜ Drew (graphOf (tablesOf (now (file .entry)))) (leftOf (tablesOf (now (file .entry)))) (now (g .exit)) (now (ls .exit)) r ⌝ }
 {
     let s = store::start(g);
     let k = Work {
         size: s,
         triples: 0,
     };
-    let r = build_core(file, ix, n, g, tr, w, k);
+    let r = build_core(file, ix, n, g, tr, ls, k);
     match r {
         Core::Refused(q, i, z) => Drawing::Refused(q, i, z),
         Core::Whole(m) => {
             let z = m.size;
-            finish(g, w, z)
+            finish(g, ls, z)
         }
     }
 }

@@ -118,29 +118,29 @@ fn sizes(file: &[u8], ix: &[u16; 10432], p: &mut [u64; 1280], count: usize)
     add_sizes(p, &sz, count);
 }
 
-// What `fmt_graph` shows of the graph: `ms` are the labels, `ld` each node's lead, `gr` room for the groups.
+// What `fmt_graph` shows of the graph: `marks` are the labels, `leads` each node's lead, `gr` room for the groups.
 pub fn build_plan(
     file: &[u8],
     ix: &[u16; 10432],
     g: &[u64; 1152],
     s: Size,
     ls: &[u16; 3456],
-    ms: &[u16; 128],
-    ld: &[u16; 128],
+    marks: &[u16; 128],
+    leads: &[u16; 128],
     gr: &mut [u16; 128],
     p: &mut [u64; 1280],
     k: &mut [u16; 1024],
 )
     requires { ⌜ Loaded (now file) (now ix) ⌝ }
     requires { ⌜ Chains (now g) s (now ls) ⌝ }
-    requires { ⌜ Labelled (tablesOf (now file)) (now g) s (now ms) (now ld) ⌝ }
+    requires { ⌜ Labelled (tablesOf (now file)) (now g) s (now marks) (now leads) ⌝ }
     requires { ⌜ length (now gr) ≡ 128 ⌝ }
     requires { ⌜ FreshPlan (now p) (now k) ⌝ }
     ensures { λ _. ⌜ Planned (shownOf (tablesOf (now (file .entry))) (graphIn (now (g .entry)) s)) (now (p .exit)) (now (k .exit)) ⌝ }
-    ensures { λ _. ⌜ PlanMade (tablesOf (now (file .entry))) (now (g .entry)) (now (ls .entry)) (now (ms .entry)) (now (ld .entry)) (s .nodes) (now (gr .entry)) (now (p .entry)) (now (k .entry)) (now (gr .exit)) (now (p .exit)) (now (k .exit)) ⌝ }
+    ensures { λ _. ⌜ PlanMade (tablesOf (now (file .entry))) (now (g .entry)) (now (ls .entry)) (now (marks .entry)) (now (leads .entry)) (s .nodes) (now (gr .entry)) (now (p .entry)) (now (k .entry)) (now (gr .exit)) (now (p .exit)) (now (k .exit)) ⌝ }
 {
     let count = s.nodes;
-    planning::mates::group_words(ld, gr, count);
-    planning::nodes(g, s, ls, ms, gr, p, k);
+    planning::mates::group_words(leads, gr, count);
+    planning::nodes(g, s, ls, marks, gr, p, k);
     sizes(file, ix, p, count);
 }

@@ -90,12 +90,12 @@ fn words_in(
     ix: &mut [u16; 10432],
     g: &mut [u64; 1152],
     tr: &mut [u64; 1280],
-    w: &mut [u16; 3456],
+    ls: &mut [u16; 3456],
 ) -> Counted
     requires { ⌜ Blank (now ix) ⌝ }
     requires { ⌜ now g ≡ replicate 1152 0 ⌝ }
     requires { ⌜ length (now tr) ≡ 1280 ⌝ }
-    requires { ⌜ now w ≡ replicate 3456 0 ⌝ }
+    requires { ⌜ now ls ≡ replicate 3456 0 ⌝ }
     requires { ⌜ length (now words) ≡ 128 ⌝ }
     ensures { λ r. ⌜ Listed (nodesOf (now (file .entry))) room (now (words .entry)) r (now (words .exit)) ⌝ }
 {
@@ -104,10 +104,10 @@ fn words_in(
         records::Answer::Refused { number, place } => refusal(number, place),
         records::Answer::Accepted(c) => {
             let n = c.clauses;
-            let d = graph::build(file, ix, n, g, tr, w);
+            let d = graph::build(file, ix, n, g, tr, ls);
             match d {
                 Drawing::Refused(k, i, _) => refusal(k, i),
-                Drawing::Whole(s) => list_drawn(file, ix, g, s, w, words, room),
+                Drawing::Whole(s) => list_drawn(file, ix, g, s, ls, words, room),
             }
         }
     }
@@ -121,6 +121,6 @@ pub fn node_words(file: &[u8], words: &mut [u64; 128], room: usize) -> Counted
     let mut ix = [0u16; 10432];
     let mut g = [0u64; 1152];
     let mut tr = [0u64; 1280];
-    let mut w = [0u16; 3456];
-    words_in(file, words, room, &mut ix, &mut g, &mut tr, &mut w)
+    let mut ls = [0u16; 3456];
+    words_in(file, words, room, &mut ix, &mut g, &mut tr, &mut ls)
 }

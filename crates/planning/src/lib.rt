@@ -13,14 +13,14 @@ pub fn nodes(
     g: &[u64; 1152],
     s: Size,
     ls: &[u16; 3456],
-    ms: &[u16; 128],
+    marks: &[u16; 128],
     gr: &[u16; 128],
     p: &mut [u64; 1280],
     k: &mut [u16; 1024],
 )
     requires { ⌜ Chains (now g) s (now ls) ⌝ }
     requires { ⌜ FreshPlan (now p) (now k) ⌝ }
-    ensures { λ _. ⌜ NodesDone (now (g .entry)) (now (ls .entry)) (now (ms .entry)) (now (gr .entry)) (s .nodes) (now (p .entry)) (now (k .entry)) (now (p .exit)) (now (k .exit)) ⌝ }
+    ensures { λ _. ⌜ NodesDone (now (g .entry)) (now (ls .entry)) (now (marks .entry)) (now (gr .entry)) (s .nodes) (now (p .entry)) (now (k .entry)) (now (p .exit)) (now (k .exit)) ⌝ }
 {
     let count = s.nodes;
     let mut n: usize = 0;
@@ -28,7 +28,7 @@ pub fn nodes(
     let mut kc: usize = 1024;
     while n < count {
         let e = links::first_out(ls, n);
-        let r = node::node(g, ls, ms, gr, p, k, n, e, rc, kc);
+        let r = node::node(g, ls, marks, gr, p, k, n, e, rc, kc);
         rc = r.run;
         kc = r.kid;
         n += 1;

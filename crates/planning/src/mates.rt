@@ -19,14 +19,14 @@ fn group_word(l: usize, i: usize, x: usize) -> usize
 }
 
 // From the last node down; `last` holds the lowest member so far of each lead.
-fn group_all(ld: &[u16; 128], gr: &mut [u16; 128], last: &mut [u16; 128], count: usize)
-    requires { ⌜ Grouping (now ld) (now gr) (now gr) (now last) count count ⌝ }
-    ensures { λ _. ⌜ GroupsDone (now (ld .entry)) (now (gr .entry)) (now (gr .exit)) count ⌝ }
+fn group_all(leads: &[u16; 128], gr: &mut [u16; 128], last: &mut [u16; 128], count: usize)
+    requires { ⌜ Grouping (now leads) (now gr) (now gr) (now last) count count ⌝ }
+    ensures { λ _. ⌜ GroupsDone (now (leads .entry)) (now (gr .entry)) (now (gr .exit)) count ⌝ }
 {
     let mut n = count;
     while 0 < n {
         let i = n - 1;
-        let l = basis::wide16(basis::get16(ld, i));
+        let l = basis::wide16(basis::get16(leads, i));
         let x = basis::wide16(basis::get16(last, l));
         let w = group_word(l, i, x);
         gr[i] = w as u16;
@@ -36,11 +36,11 @@ fn group_all(ld: &[u16; 128], gr: &mut [u16; 128], last: &mut [u16; 128], count:
 }
 
 // Each of the first `count` nodes.
-pub fn group_words(ld: &[u16; 128], gr: &mut [u16; 128], count: usize)
-    requires { ⌜ LeadsOk (now ld) count ⌝ }
+pub fn group_words(leads: &[u16; 128], gr: &mut [u16; 128], count: usize)
+    requires { ⌜ LeadsOk (now leads) count ⌝ }
     requires { ⌜ length (now gr) ≡ 128 ⌝ }
-    ensures { λ _. ⌜ GroupsDone (now (ld .entry)) (now (gr .entry)) (now (gr .exit)) count ⌝ }
+    ensures { λ _. ⌜ GroupsDone (now (leads .entry)) (now (gr .entry)) (now (gr .exit)) count ⌝ }
 {
     let mut last = [0u16; 128];
-    group_all(ld, gr, &mut last, count);
+    group_all(leads, gr, &mut last, count);
 }

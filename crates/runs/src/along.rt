@@ -25,10 +25,10 @@ pub struct Cut {
     pub found: Found,
 }
 
-pub fn marked(ms: &[u16; 128], t: usize) -> bool
-    ensures { λ r. ⌜ r ≡ markedIn (now (ms .entry)) t ⌝ }
+pub fn marked(marks: &[u16; 128], t: usize) -> bool
+    ensures { λ r. ⌜ r ≡ markedIn (now (marks .entry)) t ⌝ }
 {
-    basis::get16(ms, t) % 2 == 1
+    basis::get16(marks, t) % 2 == 1
 }
 
 pub fn lead_at(gr: &[u16; 128], t: usize) -> u16
@@ -73,15 +73,15 @@ fn ends_run(g: &[u64; 1152], i: usize, x: u64) -> bool
 }
 
 // With edge i's target, if it has a key.
-pub fn find_edge(g: &[u64; 1152], ms: &[u16; 128], o: Found, i: usize) -> Found
-    ensures { λ r. ⌜ r ≡ found (now (ms .entry)) o (targetOf (edgeIn (now (g .entry)) i)) ⌝ }
+pub fn find_edge(g: &[u64; 1152], marks: &[u16; 128], o: Found, i: usize) -> Found
+    ensures { λ r. ⌜ r ≡ found (now (marks .entry)) o (targetOf (edgeIn (now (g .entry)) i)) ⌝ }
 {
     let k = store::requires_at(g, i);
     if k == 0 {
         return o;
     }
     let t = store::target_at(g, i);
-    let m = marked(ms, t);
+    let m = marked(marks, t);
     let b = either(o.installable, m);
     Found {
         some: true,
@@ -94,14 +94,14 @@ pub fn find_edge(g: &[u64; 1152], ms: &[u16; 128], o: Found, i: usize) -> Found
 pub fn scan(
     g: &[u64; 1152],
     ls: &[u16; 3456],
-    ms: &[u16; 128],
+    marks: &[u16; 128],
     n: usize,
     x: u64,
     e1: usize,
     o1: Found,
 ) -> Cut
     requires { ⌜ Way (now g) (now ls) n e1 ⌝ }
-    ensures { λ r. ⌜ Scanned (now (g .entry)) (now (ls .entry)) (now (ms .entry)) n x e1 o1 (r .next) (r .found) ⌝ }
+    ensures { λ r. ⌜ Scanned (now (g .entry)) (now (ls .entry)) (now (marks .entry)) n x e1 o1 (r .next) (r .found) ⌝ }
 {
     let mut e = e1;
     let mut o = o1;
@@ -111,16 +111,16 @@ pub fn scan(
         if b {
             return Cut { next: e, found: o };
         }
-        o = find_edge(g, ms, o, i);
+        o = find_edge(g, marks, o, i);
         e = links::next_out(ls, i);
     }
     Cut { next: e, found: o }
 }
 
-fn wanted(ms: &[u16; 128], t: usize, want: bool) -> bool
-    ensures { λ r. ⌜ r ≡ not want || markedIn (now (ms .entry)) t ⌝ }
+fn wanted(marks: &[u16; 128], t: usize, want: bool) -> bool
+    ensures { λ r. ⌜ r ≡ not want || markedIn (now (marks .entry)) t ⌝ }
 {
-    if want { marked(ms, t) } else { true }
+    if want { marked(marks, t) } else { true }
 }
 
 // One of the kids from place c to the end is of the group of l.
@@ -141,7 +141,7 @@ fn shown(gr: &[u16; 128], k: &[u16; 1024], c: usize, end: usize, l: u16) -> bool
 
 fn takes_kid(
     g: &[u64; 1152],
-    ms: &[u16; 128],
+    marks: &[u16; 128],
     gr: &[u16; 128],
     k: &[u16; 1024],
     t: usize,
@@ -149,13 +149,13 @@ fn takes_kid(
     c: usize,
     end: usize,
 ) -> bool
-    ensures { λ r. ⌜ r ≡ takes (now (g .entry)) (now (ms .entry)) (now (gr .entry)) want (kidsFrom (now (k .entry)) c end) t ⌝ }
+    ensures { λ r. ⌜ r ≡ takes (now (g .entry)) (now (marks .entry)) (now (gr .entry)) want (kidsFrom (now (k .entry)) c end) t ⌝ }
 {
     let a = solvable_node(g, t);
     if !a {
         return false;
     }
-    let b = wanted(ms, t, want);
+    let b = wanted(marks, t, want);
     if !b {
         return false;
     }
@@ -171,7 +171,7 @@ fn takes_kid(
 // Edge i's target becomes a kid below place c, if it is one.
 fn kid_edge(
     g: &[u64; 1152],
-    ms: &[u16; 128],
+    marks: &[u16; 128],
     gr: &[u16; 128],
     k: &mut [u16; 1024],
     i: usize,
@@ -180,14 +180,14 @@ fn kid_edge(
     end: usize,
 ) -> usize
     requires { ⌜ KidReady (now g) (now k) i c end ⌝ }
-    ensures { λ r. ⌜ KidStep (now (g .entry)) (now (ms .entry)) (now (gr .entry)) (now (k .entry)) (now (k .exit)) want (targetOf (edgeIn (now (g .entry)) i)) c r end ⌝ }
+    ensures { λ r. ⌜ KidStep (now (g .entry)) (now (marks .entry)) (now (gr .entry)) (now (k .entry)) (now (k .exit)) want (targetOf (edgeIn (now (g .entry)) i)) c r end ⌝ }
 {
     let key = store::requires_at(g, i);
     if key == 0 {
         return c;
     }
     let t = store::target_at(g, i);
-    let b = takes_kid(g, ms, gr, k, t, want, c, end);
+    let b = takes_kid(g, marks, gr, k, t, want, c, end);
     if b {
         let d = c - 1;
         k[d] = t as u16;
@@ -200,7 +200,7 @@ fn kid_edge(
 pub fn kids(
     g: &[u64; 1152],
     ls: &[u16; 3456],
-    ms: &[u16; 128],
+    marks: &[u16; 128],
     gr: &[u16; 128],
     k: &mut [u16; 1024],
     n: usize,
@@ -210,7 +210,7 @@ pub fn kids(
     end: usize,
 ) -> usize
     requires { ⌜ KidsReady (now g) (now ls) (now k) n x e1 end ⌝ }
-    ensures { λ r. ⌜ KidsDone (now (g .entry)) (now (ms .entry)) (now (gr .entry)) want (targetsIn x (outLeft (now (g .entry)) n e1)) (now (k .entry)) end (now (k .exit)) r ⌝ }
+    ensures { λ r. ⌜ KidsDone (now (g .entry)) (now (marks .entry)) (now (gr .entry)) want (targetsIn x (outLeft (now (g .entry)) n e1)) (now (k .entry)) end (now (k .exit)) r ⌝ }
 {
     let mut e = e1;
     let mut c = end;
@@ -220,7 +220,7 @@ pub fn kids(
         if b {
             return c;
         }
-        c = kid_edge(g, ms, gr, k, i, want, c, end);
+        c = kid_edge(g, marks, gr, k, i, want, c, end);
         e = links::next_out(ls, i);
     }
     c

@@ -56,7 +56,7 @@ fn kids_unless(
     lone: bool,
     g: &[u64; 1152],
     ls: &[u16; 3456],
-    ms: &[u16; 128],
+    marks: &[u16; 128],
     gr: &[u16; 128],
     k: &mut [u16; 1024],
     n: usize,
@@ -66,19 +66,19 @@ fn kids_unless(
     end: usize,
 ) -> usize
     requires { ⌜ KidsReady (now g) (now ls) (now k) n x e end ⌝ }
-    ensures { λ r. ⌜ KidsMaybe (now (g .entry)) (now (ms .entry)) (now (gr .entry)) lone want (targetsIn x (outLeft (now (g .entry)) n e)) (now (k .entry)) end (now (k .exit)) r ⌝ }
+    ensures { λ r. ⌜ KidsMaybe (now (g .entry)) (now (marks .entry)) (now (gr .entry)) lone want (targetsIn x (outLeft (now (g .entry)) n e)) (now (k .entry)) end (now (k .exit)) r ⌝ }
 {
     if lone {
         return end;
     }
-    runs::along::kids(g, ls, ms, gr, k, n, x, want, e, end)
+    runs::along::kids(g, ls, marks, gr, k, n, x, want, e, end)
 }
 
 // The run with key x that begins at edge e (as a chain stores it) becomes run rc - 1. Where its kids begin.
 pub fn write_run(
     g: &[u64; 1152],
     ls: &[u16; 3456],
-    ms: &[u16; 128],
+    marks: &[u16; 128],
     gr: &[u16; 128],
     p: &mut [u64; 1280],
     k: &mut [u16; 1024],
@@ -90,12 +90,12 @@ pub fn write_run(
     rc: usize,
     kc: usize,
 ) -> usize
-    requires { ⌜ WriteReady (now g) (now ls) (now ms) (now p) (now k) n x e many want rc kc ⌝ }
-    ensures { λ r. ⌜ RunPut (now (g .entry)) (now (ms .entry)) (now (gr .entry)) (now (p .entry)) (now (k .entry)) (now (p .exit)) (now (k .exit)) rc kc r (runOf (x - 1) (targetsIn x (outLeft (now (g .entry)) n e))) ⌝ }
+    requires { ⌜ WriteReady (now g) (now ls) (now marks) (now p) (now k) n x e many want rc kc ⌝ }
+    ensures { λ r. ⌜ RunPut (now (g .entry)) (now (marks .entry)) (now (gr .entry)) (now (p .entry)) (now (k .entry)) (now (p .exit)) (now (k .exit)) rc kc r (runOf (x - 1) (targetsIn x (outLeft (now (g .entry)) n e))) ⌝ }
 {
     let i = e - 1;
     let lone = alone(g, i, many);
-    let d = kids_unless(lone, g, ls, ms, gr, k, n, x, want, e, kc);
+    let d = kids_unless(lone, g, ls, marks, gr, k, n, x, want, e, kc);
     let w = wording(lone, want);
     let v = run_word(d, kc, x - 1, w);
     let r = rc - 1;

@@ -37,19 +37,19 @@ fn hash(t: u64) -> usize
     (t % 2039) as usize
 }
 
-fn first(w: &[u16; 3456], n: usize) -> usize
+fn first(ls: &[u16; 3456], n: usize) -> usize
     requires { ⌜ n < 2048 ⌝ }
-    ensures { λ r. ⌜ r ≡ getD (now (w .entry)) (1024 + n) 0 ⌝ }
+    ensures { λ r. ⌜ r ≡ getD (now (ls .entry)) (1024 + n) 0 ⌝ }
 {
     let at = 1024 + n;
-    basis::wide16(w[at])
+    basis::wide16(ls[at])
 }
 
-fn next(w: &[u16; 3456], i: usize) -> usize
+fn next(ls: &[u16; 3456], i: usize) -> usize
     requires { ⌜ i < 1024 ⌝ }
-    ensures { λ r. ⌜ r ≡ getD (now (w .entry)) i 0 ⌝ }
+    ensures { λ r. ⌜ r ≡ getD (now (ls .entry)) i 0 ⌝ }
 {
-    basis::wide16(w[i])
+    basis::wide16(ls[i])
 }
 
 fn word_is(tr: &[u64; 1280], t: u64, i: usize) -> bool
@@ -60,57 +60,57 @@ fn word_is(tr: &[u64; 1280], t: u64, i: usize) -> bool
 }
 
 // Word t is among the first n.
-pub fn made(tr: &[u64; 1280], w: &[u16; 3456], n: usize, t: u64) -> bool
-    requires { ⌜ Triples (now tr) (now w) n ⌝ }
+pub fn made(tr: &[u64; 1280], ls: &[u16; 3456], n: usize, t: u64) -> bool
+    requires { ⌜ Triples (now tr) (now ls) n ⌝ }
     ensures { λ r. ⌜ r ≡ any (eqb t) (take n (now (tr .entry))) ⌝ }
 {
     let h = hash(t);
-    let mut e = first(w, h);
+    let mut e = first(ls, h);
     while 0 < e {
         let i = e - 1;
         if word_is(tr, t, i) {
             return true;
         }
-        e = next(w, i);
+        e = next(ls, i);
     }
     false
 }
 
-fn chain(w: &mut [u16; 3456], n: usize, h: usize)
+fn chain(ls: &mut [u16; 3456], n: usize, h: usize)
     requires { ⌜ (n < 1024) × (h < 2048) ⌝ }
-    ensures { λ _. ⌜ now (w .exit) ≡ linked tripleLay (now (w .entry)) n h ⌝ }
+    ensures { λ _. ⌜ now (ls .exit) ≡ linked tripleLay (now (ls .entry)) n h ⌝ }
 {
     let at = 1024 + h;
-    let head = w[at];
-    w[n] = head;
-    w[at] = (n + 1) as u16;
+    let head = ls[at];
+    ls[n] = head;
+    ls[at] = (n + 1) as u16;
 }
 
 // Word t is put behind the n that are there.
-pub fn make(tr: &mut [u64; 1280], w: &mut [u16; 3456], n: usize, t: u64)
+pub fn make(tr: &mut [u64; 1280], ls: &mut [u16; 3456], n: usize, t: u64)
     requires { ⌜ n < 1024 ⌝ }
     ensures { λ _. ⌜ now (tr .exit) ≡ set (now (tr .entry)) n t ⌝ }
-    ensures { λ _. ⌜ now (w .exit) ≡ linked tripleLay (now (w .entry)) n (hashOf t) ⌝ }
+    ensures { λ _. ⌜ now (ls .exit) ≡ linked tripleLay (now (ls .entry)) n (hashOf t) ⌝ }
 {
     let h = hash(t);
     tr[n] = t;
-    chain(w, n, h);
+    chain(ls, n, h);
 }
 
 // One more than the last solvable under a name, or 0.
-pub fn last_under(w: &[u16; 3456], name: usize) -> u16
+pub fn last_under(ls: &[u16; 3456], name: usize) -> u16
     requires { ⌜ name < 128 ⌝ }
-    ensures { λ r. ⌜ r ≡ getD (lastIn (now (w .entry))) name 0 ⌝ }
+    ensures { λ r. ⌜ r ≡ getD (lastIn (now (ls .entry))) name 0 ⌝ }
 {
     let at = 3072 + name;
-    w[at]
+    ls[at]
 }
 
 // Solvable s is the last one under a name.
-pub fn note_last(w: &mut [u16; 3456], name: usize, s: u16)
+pub fn note_last(ls: &mut [u16; 3456], name: usize, s: u16)
     requires { ⌜ (name < 128) × (s < 256) ⌝ }
-    ensures { λ _. ⌜ now (w .exit) ≡ set (now (w .entry)) (3072 + name) (s + 1) ⌝ }
+    ensures { λ _. ⌜ now (ls .exit) ≡ set (now (ls .entry)) (3072 + name) (s + 1) ⌝ }
 {
     let at = 3072 + name;
-    w[at] = s + 1;
+    ls[at] = s + 1;
 }

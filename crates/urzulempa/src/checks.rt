@@ -41,12 +41,12 @@ pub fn check_in(
     ix: &mut [u16; 10432],
     g: &mut [u64; 1152],
     tr: &mut [u64; 1280],
-    w: &mut [u16; 3456],
+    ls: &mut [u16; 3456],
 ) -> Answer
     requires { ⌜ Blank (now ix) ⌝ }
     requires { ⌜ now g ≡ replicate 1152 0 ⌝ }
     requires { ⌜ length (now tr) ≡ 1280 ⌝ }
-    requires { ⌜ now w ≡ replicate 3456 0 ⌝ }
+    requires { ⌜ now ls ≡ replicate 3456 0 ⌝ }
     ensures { λ r. ⌜ r ≡ checkOf (now (file .entry)) ⌝ }
 {
     let a = index::load(file, ix);
@@ -54,7 +54,7 @@ pub fn check_in(
         records::Answer::Refused { number, place } => refusal(number, place),
         records::Answer::Accepted(c) => {
             let n = c.clauses;
-            let d = graph::build(file, ix, n, g, tr, w);
+            let d = graph::build(file, ix, n, g, tr, ls);
             drawn(d)
         }
     }

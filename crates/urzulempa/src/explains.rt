@@ -26,21 +26,21 @@ fn plan_of(
     ix: &[u16; 10432],
     g: &[u64; 1152],
     s: Size,
-    w: &[u16; 3456],
+    ls: &[u16; 3456],
     p: &mut [u64; 1280],
     k: &mut [u16; 1024],
 )
     requires { ⌜ Loaded (now file) (now ix) ⌝ }
-    requires { ⌜ Chains (now g) s (now w) ⌝ }
+    requires { ⌜ Chains (now g) s (now ls) ⌝ }
     requires { ⌜ FreshPlan (now p) (now k) ⌝ }
     ensures { λ _. ⌜ Planned (shownOf (tablesOf (now (file .entry))) (graphIn (now (g .entry)) s)) (now (p .exit)) (now (k .exit)) ⌝ }
 {
-    let mut ms = [0u16; 128];
-    labels::label(g, s, w, &mut ms);
-    let mut ld = [0u16; 128];
-    naming::group_named(file, ix, g, s, w, &mut ld);
+    let mut marks = [0u16; 128];
+    labels::label(g, s, ls, &mut marks);
+    let mut leads = [0u16; 128];
+    naming::group_named(file, ix, g, s, ls, &mut leads);
     let mut gr = [0u16; 128];
-    measuring::build_plan(file, ix, g, s, w, &ms, &ld, &mut gr, p, k);
+    measuring::build_plan(file, ix, g, s, ls, &marks, &leads, &mut gr, p, k);
 }
 
 fn told(t: Told) -> Answer
@@ -61,19 +61,19 @@ fn explain_whole(
     ix: &[u16; 10432],
     g: &[u64; 1152],
     s: Size,
-    w: &[u16; 3456],
+    ls: &[u16; 3456],
     p: &mut [u64; 1280],
     top: bool,
     room: &mut [u8],
 ) -> Answer
     requires { ⌜ Loaded (now file) (now ix) ⌝ }
-    requires { ⌜ Chains (now g) s (now w) ⌝ }
+    requires { ⌜ Chains (now g) s (now ls) ⌝ }
     requires { ⌜ graphOf (tablesOf (now file)) ≡ drawn (graphIn (now g) s) ⌝ }
     ensures { λ r. ⌜ Says (now (file .entry)) (optionOf top) (now (room .entry)) (now (room .exit)) r ⌝ }
 {
     *p = [0u64; 1280];
     let mut k = [0u16; 1024];
-    plan_of(file, ix, g, s, w, p, &mut k);
+    plan_of(file, ix, g, s, ls, p, &mut k);
     let t = explanation::walk::explain_plan(file, ix, p, &k, room, top);
     told(t)
 }
@@ -83,19 +83,19 @@ fn explain_built(
     file: &[u8],
     ix: &[u16; 10432],
     g: &[u64; 1152],
-    w: &[u16; 3456],
+    ls: &[u16; 3456],
     p: &mut [u64; 1280],
     d: Drawing,
     top: bool,
     room: &mut [u8],
 ) -> Answer
     requires { ⌜ Loaded (now file) (now ix) ⌝ }
-    requires { ⌜ Drew (graphOf (tablesOf (now file))) (leftOf (tablesOf (now file))) (now g) (now w) d ⌝ }
+    requires { ⌜ Drew (graphOf (tablesOf (now file))) (leftOf (tablesOf (now file))) (now g) (now ls) d ⌝ }
     ensures { λ r. ⌜ Says (now (file .entry)) (optionOf top) (now (room .entry)) (now (room .exit)) r ⌝ }
 {
     match d {
         Drawing::Refused(k, i, _) => refusal(k, i),
-        Drawing::Whole(s) => explain_whole(file, ix, g, s, w, p, top, room),
+        Drawing::Whole(s) => explain_whole(file, ix, g, s, ls, p, top, room),
     }
 }
 
@@ -105,13 +105,13 @@ pub fn explain_in(
     ix: &mut [u16; 10432],
     g: &mut [u64; 1152],
     tr: &mut [u64; 1280],
-    w: &mut [u16; 3456],
+    ls: &mut [u16; 3456],
     room: &mut [u8],
 ) -> Answer
     requires { ⌜ Blank (now ix) ⌝ }
     requires { ⌜ now g ≡ replicate 1152 0 ⌝ }
     requires { ⌜ length (now tr) ≡ 1280 ⌝ }
-    requires { ⌜ now w ≡ replicate 3456 0 ⌝ }
+    requires { ⌜ now ls ≡ replicate 3456 0 ⌝ }
     ensures { λ r. ⌜ Says (now (file .entry)) (optionOf top) (now (room .entry)) (now (room .exit)) r ⌝ }
 {
     let a = index::load(file, ix);
@@ -119,8 +119,8 @@ pub fn explain_in(
         records::Answer::Refused { number, place } => refusal(number, place),
         records::Answer::Accepted(c) => {
             let n = c.clauses;
-            let d = graph::build(file, ix, n, g, tr, w);
-            explain_built(file, ix, g, w, tr, d, top, room)
+            let d = graph::build(file, ix, n, g, tr, ls);
+            explain_built(file, ix, g, ls, tr, d, top, room)
         }
     }
 }

@@ -36,18 +36,18 @@ fn draw_whole(
     ix: &[u16; 10432],
     g: &[u64; 1152],
     s: Size,
-    w: &[u16; 3456],
+    ls: &[u16; 3456],
     simplify: bool,
-    out: &mut [u8],
+    room: &mut [u8],
 ) -> Answer
     requires { ⌜ Loaded (now file) (now ix) ⌝ }
-    requires { ⌜ Chains (now g) s (now w) ⌝ }
-    ensures { λ r. ⌜ r ≡ resultAnswer (drawShown (drawnOf (optionOf simplify) (tablesOf (now (file .entry))) (graphIn (now (g .entry)) s)) (length (now (out .entry)))) ⌝ }
-    ensures { λ _. ⌜ now (out .exit) ≡ over (drawShown (drawnOf (optionOf simplify) (tablesOf (now (file .entry))) (graphIn (now (g .entry)) s)) (length (now (out .entry))) .text) (now (out .entry)) ⌝ }
+    requires { ⌜ Chains (now g) s (now ls) ⌝ }
+    ensures { λ r. ⌜ r ≡ resultAnswer (drawShown (drawnOf (optionOf simplify) (tablesOf (now (file .entry))) (graphIn (now (g .entry)) s)) (length (now (room .entry)))) ⌝ }
+    ensures { λ _. ⌜ now (room .exit) ≡ over (drawShown (drawnOf (optionOf simplify) (tablesOf (now (file .entry))) (graphIn (now (g .entry)) s)) (length (now (room .entry))) .text) (now (room .entry)) ⌝ }
 {
     let mut leads = [0u16; 128];
-    naming::group_named(file, ix, g, s, w, &mut leads);
-    let d = drawing::draw(file, ix, g, s, w, &leads, simplify, out);
+    naming::group_named(file, ix, g, s, ls, &mut leads);
+    let d = drawing::draw(file, ix, g, s, ls, &leads, simplify, room);
     answer(d)
 }
 
@@ -56,19 +56,19 @@ fn draw_built(
     file: &[u8],
     ix: &[u16; 10432],
     g: &[u64; 1152],
-    w: &[u16; 3456],
+    ls: &[u16; 3456],
     d: Drawing,
     simplify: bool,
-    out: &mut [u8],
+    room: &mut [u8],
 ) -> Answer
     requires { ⌜ Loaded (now file) (now ix) ⌝ }
-    requires { ⌜ Drew (graphOf (tablesOf (now file))) (leftOf (tablesOf (now file))) (now g) (now w) d ⌝ }
-    ensures { λ r. ⌜ r ≡ resultAnswer (drawBy (optionOf simplify) (length (now (out .entry))) (tablesOf (now (file .entry))) (graphOf (tablesOf (now (file .entry))))) ⌝ }
-    ensures { λ _. ⌜ now (out .exit) ≡ over (drawBy (optionOf simplify) (length (now (out .entry))) (tablesOf (now (file .entry))) (graphOf (tablesOf (now (file .entry)))) .text) (now (out .entry)) ⌝ }
+    requires { ⌜ Drew (graphOf (tablesOf (now file))) (leftOf (tablesOf (now file))) (now g) (now ls) d ⌝ }
+    ensures { λ r. ⌜ r ≡ resultAnswer (drawBy (optionOf simplify) (length (now (room .entry))) (tablesOf (now (file .entry))) (graphOf (tablesOf (now (file .entry))))) ⌝ }
+    ensures { λ _. ⌜ now (room .exit) ≡ over (drawBy (optionOf simplify) (length (now (room .entry))) (tablesOf (now (file .entry))) (graphOf (tablesOf (now (file .entry)))) .text) (now (room .entry)) ⌝ }
 {
     match d {
         Drawing::Refused(k, i, _) => refusal(k, i),
-        Drawing::Whole(s) => draw_whole(file, ix, g, s, w, simplify, out),
+        Drawing::Whole(s) => draw_whole(file, ix, g, s, ls, simplify, room),
     }
 }
 
@@ -78,23 +78,23 @@ pub fn draw_in(
     ix: &mut [u16; 10432],
     g: &mut [u64; 1152],
     tr: &mut [u64; 1280],
-    w: &mut [u16; 3456],
-    out: &mut [u8],
+    ls: &mut [u16; 3456],
+    room: &mut [u8],
 ) -> Answer
     requires { ⌜ Blank (now ix) ⌝ }
     requires { ⌜ now g ≡ replicate 1152 0 ⌝ }
     requires { ⌜ length (now tr) ≡ 1280 ⌝ }
-    requires { ⌜ now w ≡ replicate 3456 0 ⌝ }
-    ensures { λ r. ⌜ r ≡ resultAnswer (drawBytes (optionOf simplify) (length (now (out .entry))) (now (file .entry))) ⌝ }
-    ensures { λ _. ⌜ now (out .exit) ≡ over (drawBytes (optionOf simplify) (length (now (out .entry))) (now (file .entry)) .text) (now (out .entry)) ⌝ }
+    requires { ⌜ now ls ≡ replicate 3456 0 ⌝ }
+    ensures { λ r. ⌜ r ≡ resultAnswer (drawBytes (optionOf simplify) (length (now (room .entry))) (now (file .entry))) ⌝ }
+    ensures { λ _. ⌜ now (room .exit) ≡ over (drawBytes (optionOf simplify) (length (now (room .entry))) (now (file .entry)) .text) (now (room .entry)) ⌝ }
 {
     let a = index::load(file, ix);
     match a {
         records::Answer::Refused { number, place } => refusal(number, place),
         records::Answer::Accepted(c) => {
             let n = c.clauses;
-            let d = graph::build(file, ix, n, g, tr, w);
-            draw_built(file, ix, g, w, d, simplify, out)
+            let d = graph::build(file, ix, n, g, tr, ls);
+            draw_built(file, ix, g, ls, d, simplify, room)
         }
     }
 }

@@ -30,8 +30,8 @@ pub extern "C" fn urzulempa_check(file: &[u8]) -> Answer
     let mut ix = [0u16; 10432];
     let mut g = [0u64; 1152];
     let mut tr = [0u64; 1280];
-    let mut w = [0u16; 3456];
-    checks::check_in(file, &mut ix, &mut g, &mut tr, &mut w)
+    let mut ls = [0u16; 3456];
+    checks::check_in(file, &mut ix, &mut g, &mut tr, &mut ls)
 }
 
 // The graph in the DOT language; option 1 simplifies.
@@ -46,8 +46,8 @@ pub extern "C" fn urzulempa_graphviz(file: &[u8], option: u64, room: &mut [u8]) 
     let mut ix = [0u16; 10432];
     let mut g = [0u64; 1152];
     let mut tr = [0u64; 1280];
-    let mut w = [0u16; 3456];
-    graphs::draw_in(file, option == 1, &mut ix, &mut g, &mut tr, &mut w, room)
+    let mut ls = [0u16; 3456];
+    graphs::draw_in(file, option == 1, &mut ix, &mut g, &mut tr, &mut ls, room)
 }
 
 // The explanation; option 1 indents the top level.
@@ -61,8 +61,8 @@ pub extern "C" fn urzulempa_explain(file: &[u8], option: u64, room: &mut [u8]) -
     let mut ix = [0u16; 10432];
     let mut g = [0u64; 1152];
     let mut tr = [0u64; 1280];
-    let mut w = [0u16; 3456];
-    explains::explain_in(file, option == 1, &mut ix, &mut g, &mut tr, &mut w, room)
+    let mut ls = [0u16; 3456];
+    explains::explain_in(file, option == 1, &mut ix, &mut g, &mut tr, &mut ls, room)
 }
 
 // The explanation by a plain call, which means option 0.
