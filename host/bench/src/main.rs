@@ -24,7 +24,7 @@ const OWNED: usize = 58_496;
 
 /// The least time of one call: each round repeats it for at least this long.
 const ROUND: Duration = Duration::from_millis(40);
-const ROUNDS: usize = 5;
+const ROUNDS: usize = 15;
 
 fn once(call: &mut dyn FnMut()) -> f64 {
     let start = Instant::now();
