@@ -41,7 +41,7 @@ abbrev pub kept : Build → Linked → Step
 kept b (more g) = on (record { graph = g; last = b .last; made = b .made })
 kept b (short g) = stop g
 
--- "Each triple .. makes one edge"
+-- "Each triple .. makes one edge" (`constrains_edges.insert`, conflict.rs, lines 291 and 319)
 abbrev pub noted : Build → Triple → Added → Step
 noted b t (added i g) = on (record { graph = g; last = b .last; made = snoc (b .made) t })
 noted b t (full g) = stop g
@@ -73,12 +73,12 @@ unfolding partnersOr auxPartners parentReason excludedReason
 others T Parent v = partnersOr T (auxPartners T 24 v) (excludedReason T v)
 others T Candidate v = partnersOr T (auxPartners T 23 v) (parentReason T v)
 
--- clauses 23 and 24: the clause's own node with each of the other side
+-- clauses 23 and 24: the clause's own node with each of the other side (conflict.rs, lines 281 to 336)
 abbrev pub pairAll : Tables → Side → ℕ → ℕ → Party → Build → Step
 pairAll T side b v Neither d = on d
 pairAll T side b v (Node n) d = onceAll (triplesOf side n v (others T side b)) d
 
--- the solvable is now the last one under the name
+-- the solvable is now the last one under the name (`last_node_by_name.insert`, conflict.rs, line 255)
 abbrev pub lastly : Build → ℕ → ℕ → Linked → Step
 lastly b n s (more g) = on (record { graph = g; last = set (b .last) n (suc s); made = b .made })
 lastly b n s (short g) = stop g
@@ -96,7 +96,7 @@ unfoldable pub pair : Tables → Side → ℕ → ℕ → ℕ → Build → Step
 unfolding onceAll triplesOf others partyOf
 pair T side a b v d = pairAll T side b v (partyOf T a) d
 
--- one clause of the core; Learnt is refused before
+-- one clause of the core (the match of `Conflict::graph`, conflict.rs, lines 168 to 350); Learnt is refused before
 abbrev pub expandBy : Tables → Build → Clause → Step
 expandBy T d C.InstallRoot = on d
 expandBy T d (C.Excluded a r) = kept d (linkAll (excludedLinks T a r) (d .graph))

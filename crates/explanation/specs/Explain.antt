@@ -17,13 +17,15 @@ use Rattle.lines.specs.Lines.{linesOf}
 abbrev pub refusal : ℕ → ℕ → Result
 refusal k p = record { number = k; place = p; bytes = 0; units = 0; depth = 0; text = [] }
 
--- what is shown of a labelled graph, if n turns are enough
+-- what is shown of a labelled graph, if n turns are enough: `fmt_graph` (conflict.rs, lines 893 to 1186) on the root's edges, with 10 and 11
 abbrev pub explainShown : ℕ → Shown → ℕ → ℕ → Option Result
 explainShown n S opt room = explain (planOf S) (linesOf S opt) (solvableOf S) n (startOf S) room
 
+-- "then core clauses in order (7, 8), then 9"
 abbrev pub explainTables : ℕ → Tables → ℕ → ℕ → Option Result
 explainTables n T opt room = elim (graphOf T) [ refused k p ↦ some (refusal k p) | drawn G ↦ explainShown n (shownOf T G) opt room ]
 
+-- "12 is tested first, then 1, then record by record in the table's order"
 abbrev pub explainFile : ℕ → List ℕ → ℕ → ℕ → Option Result
 explainFile n file opt room =
     elim (leb opt 1) [

@@ -32,7 +32,7 @@ abbrev pub expanded : Step → Turned
 expanded (on b) = go b
 expanded (stop g) = halt 8 g
 
--- 7: "Learnt in the core"
+-- 7: "Learnt in the core" (`unreachable!()`, conflict.rs, line 186)
 abbrev pub coreTurn : Tables → Clause → Build → Turned
 coreTurn T c b = elim (isLearnt c) [ true ↦ halt 7 (b .graph) | false ↦ expanded (expand T c b) ]
 
@@ -51,6 +51,7 @@ unfolding turnAt
 buildFrom zero T i b = built b
 buildFrom (suc n) T i b = elim (turnAt T i b) [ halt k g ↦ stopped k i g | go d ↦ buildFrom n T (suc i) d ]
 
+-- "Core clauses go in file order, as in the Rust" (the loop of `Conflict::graph`, conflict.rs, line 165 on)
 unfoldable pub buildOf : Tables → Built
 unfolding buildFrom
 buildOf T = buildFrom (length (T .clauses)) T 0 startBuild
@@ -60,11 +61,12 @@ pub data Outcome : Type 0 where
   drawn : Graph → Outcome
   refused : ℕ → ℕ → Outcome
 
--- 9: "lowest such node, numbered after unresolved may have gone"
+-- 9: "lowest such node, numbered after unresolved may have gone" (`Bfs` and the assert, conflict.rs, lines 367 to 371)
 unfoldable pub finished : Graph → Outcome
 unfolding unreached reached
 finished g = elim (unreached g) [ none ↦ drawn g | some n ↦ refused 9 n ]
 
+-- `Conflict::graph` (conflict.rs, lines 44 to 378): the core, the removal of unresolved (line 359), reachability
 unfoldable pub graphOf : Tables → Outcome
 unfolding buildOf finished settle
 graphOf T = elim (buildOf T) [ stopped k i g ↦ refused k i | built b ↦ finished (settle (b .graph)) ]

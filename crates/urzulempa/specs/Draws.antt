@@ -29,21 +29,19 @@ use Rattle.drawing.specs.declared.Answer as Drawn
 use Rattle.drawing.specs.Draw.{drawnOf}
 use Rattle.drawing.specs.Graphviz.{drawShown, answerIn}
 use Rattle.drawing.specs.Same.{Leading, Given, optionOf}
+use Rattle.explanation.specs.Explain.{refusal}
 use Rattle.urzulempa.specs.declared.Answer.{Answer}
 use Rattle.urzulempa.specs.Answers.{refusalOf, read-bad, read-good}
 
 -- ---- what is right
 
--- a refusal writes nothing: "the last three are 0 for 1 to 9 and 12"
-abbrev pub refusalResult : ℕ → ℕ → Result
-refusalResult k p = record { number = k; place = p; bytes = 0; units = 0; depth = 0; text = [] }
-
+-- a refusal writes nothing, in the explanation and here
 abbrev pub drawBy : ℕ → ℕ → Tables → Outcome → Result
-drawBy opt room T (refused k p) = refusalResult k p
+drawBy opt room T (refused k p) = refusal k p
 drawBy opt room T (drawn G) = drawShown (drawnOf opt T G) room
 
 abbrev drawRead : ℕ → ℕ → Reading → Result
-drawRead opt room (bad k p) = refusalResult k p
+drawRead opt room (bad k p) = refusal k p
 drawRead opt room (good T) = drawBy opt room T (graphOf T)
 
 -- once the option is known to be 0 or 1
@@ -53,7 +51,7 @@ drawBytes opt room file = drawRead opt room (readOf file)
 -- "12 is tested first"
 unfoldable pub drawFile : List ℕ → ℕ → ℕ → Result
 unfolding drawBytes
-drawFile file opt room = cond (leb opt 1) (drawBytes opt room file) (refusalResult 12 0)
+drawFile file opt room = cond (leb opt 1) (drawBytes opt room file) (refusal 12 0)
 
 -- the answer: all of the result but the text
 abbrev pub resultAnswer : Result → Answer
