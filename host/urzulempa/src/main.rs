@@ -89,14 +89,16 @@ fn text(file: &[u8], (answer, text): (Answer, Vec<u8>)) -> Result<ExitCode, Stri
     Ok(told(file, &answer))
 }
 
+/// No node has this kind: an entry that still holds it was not filled.
+const UNFILLED: Node = Node { kind: u16::MAX, number: 0, group: 0, installable: 0, missing: 0 };
+
 fn list(file: &[u8]) -> Result<ExitCode, String> {
-    let mut list = [Node::default(); MOST_NODES];
+    let mut list = [UNFILLED; MOST_NODES];
     let answer = nodes(file, &mut list);
     if answer.is_done() {
-        let count = count_nodes(file);
         let kinds = ["root", "solvable", "unresolved", "excluded"];
         let mut out = String::from("node kind number group installable missing what\n");
-        for (n, node) in list.iter().take(count).enumerate() {
+        for (n, node) in list.iter().take_while(|node| node.kind != UNFILLED.kind).enumerate() {
             let kind = kinds.get(usize::from(node.kind)).unwrap_or(&"?");
             let what = match node.kind {
                 0 => Some("<root>".into()),
@@ -109,11 +111,6 @@ fn list(file: &[u8]) -> Result<ExitCode, String> {
         print(out.as_bytes())?;
     }
     Ok(told(file, &answer))
-}
-
-/// The shortest list that the library fills has one entry a node.
-fn count_nodes(file: &[u8]) -> usize {
-    (0..MOST_NODES).find(|&n| nodes(file, &mut vec![Node::default(); n]).is_done()).unwrap_or(MOST_NODES)
 }
 
 /// Says a refusal in a sentence, with the record that it points at, decoded.

@@ -2,6 +2,7 @@
 
 use std::io::Write;
 use std::process::{Command, Output, Stdio};
+use urzulempa::{nodes, Node, MOST_NODES};
 
 fn run(words: &[&str], file: &[u8]) -> Output {
     let mut child = Command::new(env!("CARGO_BIN_EXE_urzulempa"))
@@ -22,6 +23,7 @@ fn said(bytes: &[u8]) -> String {
 
 const REPLAY: &[u8] = include_bytes!("../../../samples/replay.rec");
 const DECK_PANEL: &[u8] = include_bytes!("../../../samples/deck-panel.rec");
+const RACK: &[u8] = include_bytes!("../../../samples/rack.rec");
 
 #[test]
 fn explain_prints_the_text_and_nothing_else() {
@@ -74,6 +76,38 @@ fn the_byte_or_field_that_is_wrong_is_named() {
 fn nodes_are_listed_with_what_they_are() {
     let out = run(&["nodes", "-"], REPLAY);
     assert_eq!(said(&out.stdout).lines().last(), Some("3 solvable 1 2 0 1 replay 1"));
+    // the root alone, and as many as the shortest list that the library fills
+    assert_eq!(said(&run(&["nodes", "-"], &[]).stdout).lines().skip(1).collect::<Vec<_>>(), ["0 root 0 0 1 0 <root>"]);
+    let full = most_nodes();
+    for file in [REPLAY, DECK_PANEL, RACK, &full] {
+        let count = (0..=MOST_NODES).find(|&n| nodes(file, &mut vec![Node::default(); n]).is_done());
+        assert_eq!(said(&run(&["nodes", "-"], file).stdout).lines().skip(1).count(), count.expect("a length that does"));
+    }
+    assert_eq!(said(&run(&["nodes", "-"], &full).stdout).lines().last(), Some("127 solvable 125 3 1 0 p 1"));
+}
+
+/// A file whose graph has as many nodes as a graph can have: the root, unresolved and 126 solvables, of which the first lacks something.
+fn most_nodes() -> Vec<u8> {
+    let record = |kind: u8, first: u8, fields: [u16; 3], text: &str| {
+        let mut bytes = vec![kind, first];
+        fields.iter().for_each(|x| bytes.extend(x.to_le_bytes()));
+        bytes.extend(text.bytes());
+        bytes.resize(32, 0);
+        bytes
+    };
+    let each = |one: &dyn Fn(u16) -> Vec<u8>| (0..126).flat_map(one).collect::<Vec<u8>>();
+    [
+        record(1, 1, [0; 3], "p"),
+        each(&|i| record(2, 1, [i, 0, 0], "1")),
+        record(4, 3, [0; 3], "p *"),
+        record(4, 1, [1, 0, 0], "q"),
+        each(&|i| record(5, 0, [0, i, 0], "")),
+        record(7, 0, [0; 3], ""),
+        each(&|i| record(7, 0, [i + 1, 1, i], "")),
+        record(19, 1, [0; 3], ""),
+        record(19, 1, [1, 1, 0], ""),
+    ]
+    .concat()
 }
 
 #[test]
