@@ -1,0 +1,49 @@
+/* Urzulempa: why a load of packages has no solution, from a file of 32-byte clause records.
+ *
+ * Any file, any room and any option get an answer. `number` is 0 when the text is whole, else a refusal:
+ *   1 length    2 kind      3 shape       4 number or reference  5 origin  6 table full   (place: the record)
+ *   7 Learnt in the core    8 graph full                                                  (place: the clause)
+ *   9 a node is not reached from the root                                                 (place: the node)
+ *  10 the next unit does not fit the room                                                 (place: units written)
+ *  11 an unmerged package comes to be opened below itself: the Rust would never end       (place: the solvable)
+ *  12 option not 0 or 1
+ * Refusals 1 to 9 and 12 leave the room and the list as they were; 10 and 11 leave the whole units written before the stop.
+ * `bytes` and `units` say what was written, `depth` how many packages are opened on the deepest branch of it.
+ */
+#ifndef URZULEMPA_H
+#define URZULEMPA_H
+
+#include <stddef.h>
+#include <stdint.h>
+
+#ifdef __cplusplus
+extern "C" {
+#endif
+
+typedef struct {
+    uint64_t number, place, bytes, units, depth;
+} urzulempa_answer;
+
+/* kind: 0 root, 1 solvable, 2 unresolved, 3 excluded; number: of the solvable or the reason, else 0;
+ * group: the node number of its group's first member, its own if it is in none. */
+typedef struct {
+    uint16_t kind, number, group;
+    uint8_t installable, missing;
+} urzulempa_node;
+
+/* The explanation; option 1 indents the top level. */
+urzulempa_answer urzulempa_explain(const uint8_t *file, size_t file_len, uint64_t option, uint8_t *room, size_t room_len);
+/* The same with option 0. */
+urzulempa_answer urzulempa_explain_plain(const uint8_t *file, size_t file_len, uint8_t *room, size_t room_len);
+/* The graph in the DOT language; option 1 draws each merge group once. */
+urzulempa_answer urzulempa_graphviz(const uint8_t *file, size_t file_len, uint64_t option, uint8_t *room, size_t room_len);
+/* Refusals 1 to 9, and no text. */
+urzulempa_answer urzulempa_check(const uint8_t *file, size_t file_len);
+/* One entry a node; 10 with place 0 and nothing written if the list is shorter than the nodes (at most 128). */
+urzulempa_answer urzulempa_nodes(const uint8_t *file, size_t file_len, urzulempa_node *list, size_t list_len);
+
+#ifdef __cplusplus
+}
+#endif
+
+#endif
