@@ -1,62 +1,118 @@
-//! Makes the proved static library with `rt staticlib urzulempa` when it is missing or was made from other sources, and links it.
+//! Links the library: that of dist/, or, with URZULEMPA_FROM_SOURCE=1, one made by `rt staticlib urzulempa` from the proved sources.
 //!
-//! The archive is kept under host/target, named by a hash of crates/ and crates.txt, since `rt ci` removes the root's target/.
+//! `./test` holds the two to be the same bytes. A dist/ that was made from other sources than those in crates/ is not linked. An archive
+//! made here is kept under host/target, named by a sum of the sources and the toolchain's version, since `rt ci` removes the root's target/.
 
+use std::env;
 use std::fs;
 use std::path::{Path, PathBuf};
-use std::process::{exit, Command};
+use std::process::{exit, Command, Output};
+
+const ARCHIVE: &str = "liburzulempa.a";
 
 fn main() {
     let root = Path::new(env!("CARGO_MANIFEST_DIR")).join("../..");
+    let root = fs::canonicalize(&root).unwrap_or(root);
+    println!("cargo:rerun-if-env-changed=URZULEMPA_FROM_SOURCE");
+    println!("cargo:rerun-if-changed=build.rs");
     println!("cargo:rerun-if-changed={}", root.join("crates").display());
-    println!("cargo:rerun-if-changed={}", root.join("crates.txt").display());
-    let mut sources = vec![root.join("crates.txt")];
-    gather(&root.join("crates"), &mut sources);
-    sources.sort();
-    let mut hash: u64 = 0xcbf2_9ce4_8422_2325;
-    for path in &sources {
-        let name = path.strip_prefix(&root).unwrap_or(path).to_string_lossy().into_owned();
-        let bytes = fs::read(path).unwrap_or_default();
-        for byte in name.bytes().chain([0]).chain(bytes) {
-            hash = (hash ^ u64::from(byte)).wrapping_mul(0x0000_0100_0000_01b3);
-        }
-    }
-    let kept = root.join("host/target/library").join(format!("{hash:016x}"));
-    let archive = kept.join("liburzulempa.a");
-    if !archive.is_file() {
-        make(&root, &kept, &archive);
-    }
-    let kept = fs::canonicalize(&kept).unwrap_or(kept);
-    println!("cargo:rustc-link-search=native={}", kept.display());
+    on_its_machine();
+    let asked = env::var("URZULEMPA_FROM_SOURCE").unwrap_or_default();
+    let folder = if ["", "0"].contains(&asked.as_str()) { from_dist(&root) } else { from_source(&root) };
+    println!("cargo:rustc-link-search=native={}", folder.display());
     println!("cargo:rustc-link-lib=static=urzulempa");
 }
 
-fn gather(folder: &Path, into: &mut Vec<PathBuf>) {
-    let Ok(entries) = fs::read_dir(folder) else { return };
-    for entry in entries.flatten() {
-        let path = entry.path();
-        if path.is_dir() {
-            gather(&path, into);
-        } else if path.extension().is_some_and(|e| e == "rt" || e == "antt") {
-            into.push(path);
-        }
+/// The library is machine code.
+fn on_its_machine() {
+    let said = |name: &str| env::var(name).unwrap_or_default();
+    let (arch, os) = (said("CARGO_CFG_TARGET_ARCH"), said("CARGO_CFG_TARGET_OS"));
+    if (arch.as_str(), os.as_str()) != ("x86_64", "linux") {
+        stop(&format!("the proved library is for x86-64 Linux, and this build is for {arch} {os}: build on x86-64 Linux, or with --target x86_64-unknown-linux-gnu"));
     }
 }
 
-fn make(root: &Path, kept: &Path, archive: &Path) {
-    let ran = Command::new("rt").args(["staticlib", "urzulempa"]).current_dir(root).output();
-    let ran = match ran {
+/// dist/x86_64-linux, unless its library was made from other sources than those that lie here.
+fn from_dist(root: &Path) -> PathBuf {
+    let folder = root.join("dist/x86_64-linux");
+    println!("cargo:rerun-if-changed={}", folder.display());
+    let ways = "run tools/dist, which renews it, or set URZULEMPA_FROM_SOURCE=1; both need rt, the Rattle toolchain";
+    let sums = fs::read_to_string(folder.join("SHA256SUMS")).unwrap_or_default();
+    if !folder.join(ARCHIVE).is_file() {
+        stop(&format!("{} has no {ARCHIVE}: {ways}", folder.display()));
+    }
+    let made_from = sums.lines().find_map(|line| line.strip_prefix("# sources: ")).unwrap_or("unknown");
+    let here = sum_of(root, &["rt"], "");
+    if root.join("crates").is_dir() && made_from != here {
+        stop(&format!("the library in dist/ was made from other sources than those in crates/ (their sum is {here}, in SHA256SUMS it is {made_from}): {ways}"));
+    }
+    folder
+}
+
+/// A folder with the library that the sources give, made unless one was kept.
+fn from_source(root: &Path) -> PathBuf {
+    println!("cargo:rerun-if-changed={}", root.join("crates.txt").display());
+    for name in ["PATH", "RATTLE_HOME"] {
+        println!("cargo:rerun-if-env-changed={name}");
+    }
+    let version = rt(root, &["version"]);
+    let version = String::from_utf8_lossy(&version.stdout).into_owned();
+    let crates = fs::read_to_string(root.join("crates.txt")).unwrap_or_default();
+    let kept = root.join("host/target/library").join(sum_of(root, &["rt", "antt"], &(version + &crates)));
+    if !kept.join(ARCHIVE).is_file() {
+        rt(root, &["staticlib", "urzulempa"]);
+        let made = root.join("target/staticlib").join(ARCHIVE);
+        // a copy that was cut short has another name
+        let part = kept.join(format!("{ARCHIVE}.part"));
+        let copied = fs::create_dir_all(&kept).and_then(|()| fs::copy(&made, &part)).and_then(|_| fs::rename(&part, kept.join(ARCHIVE)));
+        if let Err(e) = copied {
+            stop(&format!("{} could not be copied to {}: {e}", made.display(), kept.display()));
+        }
+    }
+    kept
+}
+
+/// Runs the toolchain; where it fails, all that it said is passed on.
+fn rt(root: &Path, words: &[&str]) -> Output {
+    let said = words.join(" ");
+    let ran = match Command::new("rt").args(words).current_dir(root).output() {
         Ok(ran) => ran,
-        Err(e) => stop(&format!("`rt`, the Rattle toolchain, could not be run ({e}): put it on PATH")),
+        Err(e) => stop(&format!("URZULEMPA_FROM_SOURCE is set, and `rt {said}` could not be run ({e}): put rt, the Rattle toolchain, on PATH, or unset the variable to link dist/")),
     };
     if !ran.status.success() {
-        let said = String::from_utf8_lossy(&ran.stdout);
-        let last: Vec<&str> = said.lines().rev().take(5).collect();
-        stop(&format!("`rt staticlib urzulempa` failed: {}", last.into_iter().rev().collect::<Vec<_>>().join(" / ")));
+        eprint!("{}{}", String::from_utf8_lossy(&ran.stderr), String::from_utf8_lossy(&ran.stdout));
+        stop(&format!("`rt {said}` failed ({}); above is what it said", ran.status));
     }
-    let made = root.join("target/staticlib/liburzulempa.a");
-    if let Err(e) = fs::create_dir_all(kept).and_then(|()| fs::copy(&made, archive).map(|_| ())) {
-        stop(&format!("{} could not be copied to {}: {e}", made.display(), archive.display()));
+    ran
+}
+
+/// A sum of the names and bytes of the files below crates/ with these endings, and of a text: FNV-1a, as in tools/dist.
+fn sum_of(root: &Path, endings: &[&str], text: &str) -> String {
+    let mut names = Vec::new();
+    gather(root, "crates", endings, &mut names);
+    names.sort();
+    let mut sum: u64 = 0xcbf2_9ce4_8422_2325;
+    let mut add = |bytes: &[u8]| bytes.iter().for_each(|&byte| sum = (sum ^ u64::from(byte)).wrapping_mul(0x0000_0100_0000_01b3));
+    for name in names {
+        add(name.as_bytes());
+        add(&[0]);
+        add(&fs::read(root.join(&name)).unwrap_or_default());
+    }
+    add(text.as_bytes());
+    format!("{sum:016x}")
+}
+
+/// The files below a folder, by their names from the root, with `/` between the parts.
+fn gather(root: &Path, folder: &str, endings: &[&str], into: &mut Vec<String>) {
+    let Ok(entries) = fs::read_dir(root.join(folder)) else { return };
+    for entry in entries.flatten() {
+        let path = entry.path();
+        let name = format!("{folder}/{}", entry.file_name().to_string_lossy());
+        if path.is_dir() {
+            gather(root, &name, endings, into);
+        } else if path.extension().is_some_and(|e| endings.iter().any(|ending| e == *ending)) {
+            into.push(name);
+        }
     }
 }
 
