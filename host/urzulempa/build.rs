@@ -28,7 +28,7 @@ fn on_its_machine() {
     let said = |name: &str| env::var(name).unwrap_or_default();
     let (arch, os) = (said("CARGO_CFG_TARGET_ARCH"), said("CARGO_CFG_TARGET_OS"));
     if (arch.as_str(), os.as_str()) != ("x86_64", "linux") {
-        stop(&format!("the proved library is for x86-64 Linux, and this build is for {arch} {os}: build on x86-64 Linux, or with --target x86_64-unknown-linux-gnu"));
+        stop(&format!("the proved library is for x86-64 Linux, and this build is for {arch} {os}: build for --target x86_64-unknown-linux-gnu"));
     }
 }
 
@@ -55,6 +55,11 @@ fn from_source(root: &Path) -> PathBuf {
     for name in ["PATH", "RATTLE_HOME"] {
         println!("cargo:rerun-if-env-changed={name}");
     }
+    // another toolchain comes with another rt
+    let path = env::var_os("PATH").unwrap_or_default();
+    if let Some(rt) = env::split_paths(&path).find_map(|folder| fs::canonicalize(folder.join("rt")).ok()) {
+        println!("cargo:rerun-if-changed={}", rt.display());
+    }
     let version = rt(root, &["version"]);
     let version = String::from_utf8_lossy(&version.stdout).into_owned();
     let crates = fs::read_to_string(root.join("crates.txt")).unwrap_or_default();
@@ -75,10 +80,10 @@ fn from_source(root: &Path) -> PathBuf {
 /// Runs the toolchain; where it fails, all that it said is passed on.
 fn rt(root: &Path, words: &[&str]) -> Output {
     let said = words.join(" ");
-    let ran = match Command::new("rt").args(words).current_dir(root).output() {
-        Ok(ran) => ran,
-        Err(e) => stop(&format!("URZULEMPA_FROM_SOURCE is set, and `rt {said}` could not be run ({e}): put rt, the Rattle toolchain, on PATH, or unset the variable to link dist/")),
-    };
+    let ran = Command::new("rt").args(words).current_dir(root).output().unwrap_or_else(|e| {
+        let ways = "put rt, the Rattle toolchain, on PATH, or unset the variable to link dist/";
+        stop(&format!("URZULEMPA_FROM_SOURCE is set, and `rt {said}` could not be run ({e}): {ways}"))
+    });
     if !ran.status.success() {
         eprint!("{}{}", String::from_utf8_lossy(&ran.stderr), String::from_utf8_lossy(&ran.stdout));
         stop(&format!("`rt {said}` failed ({}); above is what it said", ran.status));
