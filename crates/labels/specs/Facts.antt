@@ -116,10 +116,10 @@ module _ {A : Type 0} where
   back-reverse x (y ∷ l) acc i =
       back-reverse x l (y ∷ acc) (either i (λ j. either j (λ e. inr (inl e)) (λ k. inl k)) (λ j. inr (inr j)))
 
-  reverse-in : (x : A) (l : List A) → In x l → In x (reverse l)
+  pub reverse-in : (x : A) (l : List A) → In x l → In x (reverse l)
   reverse-in x l i = back-reverse x l [] (inl i)
 
-in-map : {A B : Type 0} (f : A → B) (l : List A) (y : B) → In y (map f l) → (x : A) × In x l × (y ≡ f x)
+pub in-map : {A B : Type 0} (f : A → B) (l : List A) (y : B) → In y (map f l) → (x : A) × In x l × (y ≡ f x)
 in-map f [] y i = absurd i
 in-map f (x ∷ l) y (inl e) = (x, inl refl, e)
 in-map f (x ∷ l) y (inr i) = let r = in-map f l y i in (r .0, inr (r .1), r .2)

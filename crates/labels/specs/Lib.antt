@@ -10,3 +10,4 @@ pub mod Frames
 pub mod Scan
 pub mod Marks
 pub mod Passes
+pub mod Laws

@@ -1,4 +1,4 @@
--- What `reached` means: a node is reached just where a path of edges leads to it from node 0.
+-- Paths of edges from any node, and what `reached` means: a node is reached just where a path leads to it from node 0.
 use mathlib.Core.Path.{_≡_, refl, ap}
 use mathlib.Core.Logic.{_⊎_, inl, inr}
 use mathlib.Core.Bool.{Bool, true, false, _&&_, _||_, false≢true}
@@ -13,10 +13,17 @@ use Rattle.basis.specs.Members.{split, either, In, Distinct, in-filter, filter-
 use Rattle.store.specs.declared.Edge.{Edge}
 use Rattle.store.specs.Graph.{Graph, spread, rounds, reached}
 
--- a path of edges from node 0
-pub data Path (G : Graph) : ℕ → Type 0 where
-  here : Path G 0
-  along : (e : Edge) → In e (G .edges) → Path G (e .source) → Path G (e .target)
+-- a path from node a, of no edge or more
+pub data Path (G : Graph) (a : ℕ) : ℕ → Type 0 where
+  here : Path G a a
+  along : (e : Edge) → In e (G .edges) → Path G a (e .source) → Path G a (e .target)
+
+-- a path from node a to node b of one edge or more, by its last edge
+pub record Way (G : Graph) (a b : ℕ) : Type 0 where
+  pub last : Edge
+  pub there : In last (G .edges)
+  pub before : Path G a (last .source)
+  pub end : last .target ≡ b
 
 -- every edge leads to a node, and there is a root
 pub record Whole (G : Graph) : Type 0 where
@@ -33,6 +40,10 @@ pub upto-in : (k a n : ℕ) → In n (upto k a) → (a ≤ n) × (n < a + k)
 upto-in zero a n i = absurd i
 upto-in (suc k) a n (inl q) = (omega arith, omega arith)
 upto-in (suc k) a n (inr i) = let r = upto-in k (suc a) n i in (omega (arith, r .0), omega (arith, r .1))
+
+pub length-upto : (k a : ℕ) → length (upto k a) ≡ k
+length-upto zero a = refl
+length-upto (suc k) a = ap suc (length-upto k (suc a))
 
 upto-distinct : (k a : ℕ) → Distinct (upto k a)
 upto-distinct zero a = tt
@@ -63,7 +74,7 @@ and-true : (a b : Bool) → a && b ≡ true → (a ≡ true) × (b ≡ true)
 and-true true b e = (refl, e)
 and-true false b e = absurd (false≢true e)
 
-module _ (G : Graph) where
+module _ (G : Graph) (a : ℕ) where
   abbrev count : ℕ
   count = length (G .nodes)
 
@@ -73,7 +84,7 @@ module _ (G : Graph) where
   abbrev joins : List ℕ → ℕ → Bool
   joins seen n = has n seen || any (leads seen n) (G .edges)
 
-  spread-path : (seen : List ℕ) → ((n : ℕ) → In n seen → Path G n) → (n : ℕ) → In n (spread G seen) → Path G n
+  spread-path : (seen : List ℕ) → ((n : ℕ) → In n seen → Path G a n) → (n : ℕ) → In n (spread G seen) → Path G a n
   spread-path seen f n i =
       either (or-true (has n seen) (any (leads seen n) (G .edges)) (in-filter (joins seen) n (upto count 0) i .0))
       (λ t. f n (has-in n seen t))
@@ -97,25 +108,25 @@ module _ (G : Graph) where
 
   -- ---- every round
 
-  rounds-path : (k : ℕ) (seen : List ℕ) → ((n : ℕ) → In n seen → Path G n) → (n : ℕ) → In n (rounds k G seen) → Path G n
+  rounds-path : (k : ℕ) (seen : List ℕ) → ((n : ℕ) → In n seen → Path G a n) → (n : ℕ) → In n (rounds k G seen) → Path G a n
   rounds-path zero seen f n i = f n i
   rounds-path (suc k) seen f n i =
       split (eqb (length (spread G seen)) (length seen))
       (λ t. f n (rw (t, rounds) at i))
       (λ t. rounds-path k (spread G seen) (spread-path seen f) n (rw (t, rounds) at i))
 
-  -- l holds node 0, and what an edge leads to from l
+  -- l holds node a, and what an edge leads to from l
   record Closed (l : List ℕ) : Type 0 where
-    root : In 0 l
+    root : In a l
     next : (e : Edge) → In e (G .edges) → In (e .source) l → In (e .target) l
 
-  closed-path : (l : List ℕ) → Closed l → {n : ℕ} → Path G n → In n l
+  closed-path : (l : List ℕ) → Closed l → {n : ℕ} → Path G a n → In n l
   closed-path l C here = C .root
   closed-path l C (along e i p) = C .next e i (closed-path l C p)
 
-  module _ (W : Whole G) where
+  module _ (W : Whole G) (small : a < length (G .nodes)) where
     -- a round that adds nothing: no edge leads out of what is seen
-    still : (seen : List ℕ) → Distinct seen → ((n : ℕ) → In n seen → n < count) → In 0 seen → length (spread G seen) ≡ length seen → Closed seen
+    still : (seen : List ℕ) → Distinct seen → ((n : ℕ) → In n seen → n < count) → In a seen → length (spread G seen) ≡ length seen → Closed seen
     still seen d b z q = record { root = z; next = onward }
       where
         onward : (e : Edge) → In e (G .edges) → In (e .source) seen → In (e .target) seen
@@ -135,11 +146,7 @@ module _ (G : Graph) where
     spread-distinct : (seen : List ℕ) → Distinct (spread G seen)
     spread-distinct seen = filter-distinct (joins seen) (upto count 0) (upto-distinct count 0)
 
-    length-upto : (k a : ℕ) → length (upto k a) ≡ k
-    length-upto zero a = refl
-    length-upto (suc k) a = ap suc (length-upto k (suc a))
-
-    rounds-closed : (k : ℕ) (seen : List ℕ) → Distinct seen → ((n : ℕ) → In n seen → n < count) → In 0 seen → count < k + length seen → Closed (rounds k G seen)
+    rounds-closed : (k : ℕ) (seen : List ℕ) → Distinct seen → ((n : ℕ) → In n seen → n < count) → In a seen → count < k + length seen → Closed (rounds k G seen)
     rounds-closed zero seen d b z h =
         let m : length seen ≤ length (upto count 0) = pigeon seen (upto count 0) d (λ n i. in-upto count 0 n (omega arith) (omega (arith, b n i))) in
         let f : ⊥ = omega (arith, length-upto count 0) in
@@ -150,23 +157,33 @@ module _ (G : Graph) where
         (λ t. let m : length seen ≤ length (spread G seen) = pigeon seen (spread G seen) d (λ n i. spread-keeps seen n i (b n i)) in
         let u : length (spread G seen) ≡ length seen → ⊥ = eqb-false (length (spread G seen)) (length seen) t in
         rw (t, rounds)
-        (rounds-closed k (spread G seen) (spread-distinct seen) (spread-below seen) (spread-keeps seen 0 z (W .some)) (omega (arith, u))))
+        (rounds-closed k (spread G seen) (spread-distinct seen) (spread-below seen) (spread-keeps seen a z small) (omega (arith, u))))
 
-    pub path-reached : (n : ℕ) → Path G n → has n (reached G) ≡ true
-    unfolding reached
-    path-reached n p =
-        in-has n (rounds count G (0 ∷ []))
-        (closed-path (rounds count G (0 ∷ []))
-        (rounds-closed count (0 ∷ []) ((λ i. i), tt) below (inl refl) (omega arith)) p)
+    -- from a in as many rounds as there are nodes: what a path leads to
+    pub path-rounds : (n : ℕ) → Path G a n → has n (rounds count G (a ∷ [])) ≡ true
+    path-rounds n p =
+        in-has n (rounds count G (a ∷ []))
+        (closed-path (rounds count G (a ∷ []))
+        (rounds-closed count (a ∷ []) ((λ i. i), tt) below (inl refl) (omega arith)) p)
       where
-        below : (n : ℕ) → In n (0 ∷ []) → n < count
-        below n (inl q) = rw q (W .some)
+        below : (n : ℕ) → In n (a ∷ []) → n < count
+        below n (inl q) = rw q small
         below n (inr i) = absurd i
 
-  pub reached-path : (n : ℕ) → has n (reached G) ≡ true → Path G n
-  unfolding reached
-  reached-path n h = rounds-path count (0 ∷ []) first n (has-in n (rounds count G (0 ∷ [])) h)
+  pub rounds-reach : (n : ℕ) → has n (rounds count G (a ∷ [])) ≡ true → Path G a n
+  rounds-reach n h = rounds-path count (a ∷ []) first n (has-in n (rounds count G (a ∷ [])) h)
     where
-      first : (n : ℕ) → In n (0 ∷ []) → Path G n
+      first : (n : ℕ) → In n (a ∷ []) → Path G a n
       first n (inl q) = rw q here
       first n (inr i) = absurd i
+
+-- ---- from the root
+
+module _ (G : Graph) where
+  pub path-reached : (W : Whole G) (n : ℕ) → Path G 0 n → has n (reached G) ≡ true
+  unfolding reached
+  path-reached W n p = path-rounds G 0 W (W .some) n p
+
+  pub reached-path : (n : ℕ) → has n (reached G) ≡ true → Path G 0 n
+  unfolding reached
+  reached-path n h = rounds-reach G 0 n h

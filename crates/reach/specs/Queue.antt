@@ -1,4 +1,5 @@
--- The queue by which the reached nodes are found: a work table of 256 numbers, the queue below 128, a mark for each node from 128 on.
+-- The queue by which the nodes are found that paths reach from node a: a work table of 256 numbers, the queue below 128, a mark for
+-- each node from 128 on.
 -- Every node that was ever put in stays in the queue; those before place h have been looked at.
 use mathlib.Core.Path.{_≡_, refl, sym, ap, _∙_}
 use mathlib.Core.Logic.{_⊎_, inl, inr}
@@ -9,7 +10,7 @@ use Prim.Native.Nat.{ℕ, zero, suc, _+_, _-_, _<_, _≤_}
 use native.Mathlib.Nat.{not-suc-le-zero}
 use native.Mathlib.Numerals.{add-one}
 use native.Mathlib.Omega.{arith}
-use lib.ListN.{length, getD, take, set, replicate, length-set}
+use lib.ListN.{length, getD, take, set, replicate, length-set, length-replicate}
 use lib.Seq.{take-suc-set, take-set-le, getD-set-same, getD-set-other, length-take-le}
 use lib.Dec.{eqb}
 use borrow.Author.Tests.{eqb-true, eqb-false, eq-eqb, ne-eqb}
@@ -21,7 +22,7 @@ use Rattle.store.specs.Graph.{out, reached, unreached}
 use Rattle.store.specs.Table.{graphIn, edgeIn, noEdge, Stored, nodes-count, edges-count, edge-in, target-below}
 use Rattle.links.specs.Build.{Chains}
 use Rattle.links.specs.Walk.{Out, outLeft, firstOut, nextOut, out-start, out-all, out-next, out-less, out-cons, out-end, out-edge, out-source, out-target}
-use Rattle.reach.specs.Paths.{Path, here, along, Whole, in-upto, upto-in, path-reached, reached-path}
+use Rattle.reach.specs.Paths.{Path, here, along, Whole, in-upto, length-upto, path-reached, reached-path}
 
 -- ---- places and elements
 
@@ -57,15 +58,15 @@ distinct-snoc (y ∷ l) x d o = (fresh, distinct-snoc l x (d .1) (λ i. o (inr i
 
 -- ---- the promise
 
-pub record Seen (g : List ℕ) (s : Size) (w : List ℕ) (h t : ℕ) : Type 0 where
+pub record Seen (g : List ℕ) (s : Size) (a : ℕ) (w : List ℕ) (h t : ℕ) : Type 0 where
   pub stored : Stored g s
   pub wide : length w ≡ 256
   pub low : h ≤ t
   pub high : t ≤ 128
-  pub own : (n : ℕ) → In n (take t w) → (n < s .nodes) × (getD w (128 + n) 0 ≡ 1) × Path (graphIn g s) n
-  pub back : (n : ℕ) → n < s .nodes → (getD w (128 + n) 0 ≡ 0 → ⊥) → In n (take t w)
+  pub own : (n : ℕ) → In n (take t w) → (n < s .nodes) × (getD w (128 + n) 0 ≡ 1) × Path (graphIn g s) a n
+  pub back : (n : ℕ) → (getD w (128 + n) 0 ≡ 0 → ⊥) → In n (take t w)
   pub distinct : Distinct (take t w)
-  pub root : In 0 (take t w)
+  pub root : In a (take t w)
   pub done : (i : ℕ) → i < h → (e : Edge) → In e (graphIn g s .edges) → e .source ≡ getD w i 0 → In (e .target) (take t w)
 
 -- ---- node x goes behind the others if it has no mark yet
@@ -103,16 +104,16 @@ noted-to-via w t x y r q e = rw e at q
 pub ruleset notes = (noted-new, noted-more, noted-old, noted-same)
 
 -- what it leaves: the queue as it was, with x in it
-record Noted (g : List ℕ) (s : Size) (w : List ℕ) (h t x : ℕ) (v : List ℕ) (k : ℕ) : Type 0 where
-  seen : Seen g s v h k
+record Noted (g : List ℕ) (s : Size) (a : ℕ) (w : List ℕ) (h t x : ℕ) (v : List ℕ) (k : ℕ) : Type 0 where
+  seen : Seen g s a v h k
   more : t ≤ k
   in-it : In x (take k v)
   still : (y : ℕ) → In y (take t w) → In y (take k v)
   place : (i : ℕ) → i < t → getD v i 0 ≡ getD w i 0
 
-module _ (g : List ℕ) (s : Size) (w : List ℕ) (h t x : ℕ) (S : Seen g s w h t) (small : x < s .nodes) (P : Path (graphIn g s) x) where
-  old-noted : (getD w (128 + x) 0 ≡ 0 → ⊥) → Noted g s w h t x w t
-  old-noted d = record { seen = S; more = omega arith; in-it = S .back x small d; still = λ y i. i; place = λ i l. refl }
+module _ (g : List ℕ) (s : Size) (a : ℕ) (w : List ℕ) (h t x : ℕ) (S : Seen g s a w h t) (small : x < s .nodes) (P : Path (graphIn g s) a x) where
+  old-noted : (getD w (128 + x) 0 ≡ 0 → ⊥) → Noted g s a w h t x w t
+  old-noted d = record { seen = S; more = omega arith; in-it = S .back x d; still = λ y i. i; place = λ i l. refl }
 
   module _ (q : getD w (128 + x) 0 ≡ 0) where
     fresh : In x (take t w) → ⊥
@@ -120,10 +121,6 @@ module _ (g : List ℕ) (s : Size) (w : List ℕ) (h t x : ℕ) (S : Seen g s w 
 
     long : length (take t w) ≡ t
     long = length-take-le t w (omega (arith, S .wide, S .high))
-
-    length-upto : (k a : ℕ) → length (upto k a) ≡ k
-    length-upto zero a = refl
-    length-upto (suc k) a = ap suc (length-upto k (suc a))
 
     -- the queue holds different nodes, so there is room
     room : t < 128
@@ -157,39 +154,39 @@ module _ (g : List ℕ) (s : Size) (w : List ℕ) (h t x : ℕ) (S : Seen g s w 
         getD-set-other (set w (128 + x) 1) t (128 + n) x 0 (λ z. omega (arith, room))
         ∙ getD-set-other w (128 + x) (128 + n) 1 0 (λ z. d (omega arith))
 
-    new-seen : Seen g s v h (t + 1)
+    new-seen : Seen g s a v h (t + 1)
     new-seen =
-        record { stored = S .stored; wide = rw (length-set, length-set) (S .wide); low = omega (arith, S .low); high = omega (arith, room); own = own; back = back; distinct = rw queue (distinct-snoc (take t w) x (S .distinct) fresh); root = rw queue (in-left 0 (take t w) (x ∷ []) (S .root)); done = done }
+        record { stored = S .stored; wide = rw (length-set, length-set) (S .wide); low = omega (arith, S .low); high = omega (arith, room); own = own; back = back; distinct = rw queue (distinct-snoc (take t w) x (S .distinct) fresh); root = rw queue (in-left a (take t w) (x ∷ []) (S .root)); done = done }
       where
-        mine : (n : ℕ) → In n (take t w ++ (x ∷ [])) → (n < s .nodes) × (getD v (128 + n) 0 ≡ 1) × Path (graphIn g s) n
+        mine : (n : ℕ) → In n (take t w ++ (x ∷ [])) → (n < s .nodes) × (getD v (128 + n) 0 ≡ 1) × Path (graphIn g s) a n
         mine n i =
             split (eqb n x)
             (λ u. rw (eqb-true n x u) (small, mark-x, P))
             (λ u. let d : n ≡ x → ⊥ = eqb-false n x u in
-            let j : In n (take t w) = either (in-append n (take t w) (x ∷ []) i) (λ a. a) (λ a. either a (λ e. absurd (d e)) (λ z. absurd z)) in
+            let j : In n (take t w) = either (in-append n (take t w) (x ∷ []) i) (λ j. j) (λ j. either j (λ e. absurd (d e)) (λ z. absurd z)) in
             let r = S .own n j in
             (r .0, mark-other n d ∙ r .1, r .2))
 
-        own : (n : ℕ) → In n (take (t + 1) v) → (n < s .nodes) × (getD v (128 + n) 0 ≡ 1) × Path (graphIn g s) n
+        own : (n : ℕ) → In n (take (t + 1) v) → (n < s .nodes) × (getD v (128 + n) 0 ≡ 1) × Path (graphIn g s) a n
         own n i = mine n (rw queue at i)
 
-        back : (n : ℕ) → n < s .nodes → (getD v (128 + n) 0 ≡ 0 → ⊥) → In n (take (t + 1) v)
-        back n l o =
+        back : (n : ℕ) → (getD v (128 + n) 0 ≡ 0 → ⊥) → In n (take (t + 1) v)
+        back n o =
             rw queue
             (split (eqb n x)
             (λ u. in-right n (take t w) (x ∷ []) (inl (eqb-true n x u)))
             (λ u. let d : n ≡ x → ⊥ = eqb-false n x u in
-            in-left n (take t w) (x ∷ []) (S .back n l (λ z. o (mark-other n d ∙ z)))))
+            in-left n (take t w) (x ∷ []) (S .back n (λ z. o (mark-other n d ∙ z)))))
 
         done : (i : ℕ) → i < h → (e : Edge) → In e (graphIn g s .edges) → e .source ≡ getD v i 0 → In (e .target) (take (t + 1) v)
         done i l e j z =
             rw queue (in-left (e .target) (take t w) (x ∷ []) (S .done i l e j (z ∙ before i (omega (arith, S .low)))))
 
-    new-noted : Noted g s w h t x v (t + 1)
+    new-noted : Noted g s a w h t x v (t + 1)
     new-noted =
         record { seen = new-seen; more = omega arith; in-it = rw queue (in-right x (take t w) (x ∷ []) (inl refl)); still = λ y i. rw queue (in-left y (take t w) (x ∷ []) i); place = before }
 
-  noted : Noted g s w h t x (notedIn w t x) (notedTo w t x)
+  noted : Noted g s a w h t x (notedIn w t x) (notedTo w t x)
   noted =
       split (eqb (getD w (128 + x) 0) 0)
       (λ u. let q : getD w (128 + x) 0 ≡ 0 = eqb-true (getD w (128 + x) 0) 0 u in rw (← noted-new w t x q, ← noted-more w t x q) (new-noted q))
@@ -197,41 +194,41 @@ module _ (g : List ℕ) (s : Size) (w : List ℕ) (h t x : ℕ) (S : Seen g s w 
 
 -- ---- along the edges of the node at place h: n is that node, e the stored value where the walk stands
 
-pub record Spreading (g : List ℕ) (s : Size) (ls w : List ℕ) (h t n e : ℕ) : Type 0 where
-  pub seen : Seen g s w h t
+pub record Spreading (g : List ℕ) (s : Size) (a : ℕ) (ls w : List ℕ) (h t n e : ℕ) : Type 0 where
+  pub seen : Seen g s a w h t
   pub ahead : h < t
   pub at : Out g s ls n e
   pub node : getD w h 0 ≡ n
   pub left : (x : Edge) → In x (out (graphIn g s) n) → In x (outLeft g n e) ⊎ In (x .target) (take t w)
 
-module _ (g : List ℕ) (s : Size) (ls w : List ℕ) (h t n : ℕ) where
-  pub seen-node : Seen g s w h t → h < t → n ≡ getD w h 0 → n < s .nodes
+module _ (g : List ℕ) (s : Size) (a : ℕ) (ls w : List ℕ) (h t n : ℕ) where
+  pub seen-node : Seen g s a w h t → h < t → n ≡ getD w h 0 → n < s .nodes
   seen-node S l q = rw q (S .own (getD w h 0) (take-in 0 w t h l (omega (arith, S .wide, S .high))) .0)
 
-  pub spread-start : (r : ℕ) → Seen g s w h t → Chains g s ls → h < t → n ≡ getD w h 0 → r ≡ firstOut ls n → Spreading g s ls w h t n r
+  pub spread-start : (r : ℕ) → Seen g s a w h t → Chains g s ls → h < t → n ≡ getD w h 0 → r ≡ firstOut ls n → Spreading g s a ls w h t n r
   spread-start r S C l q f =
       let small : n < s .nodes = seen-node S l q in
       record { seen = S; ahead = l; at = out-start g s ls n r C small f; node = sym q; left = λ x i. inl (rw (out-all g s ls n r C small f) i) }
 
-  module _ (e : ℕ) (D : Spreading g s ls w h t n e) (p : 0 < e) where
+  module _ (e : ℕ) (D : Spreading g s a ls w h t n e) (p : 0 < e) where
     edge-there : In (edgeIn g (e - 1)) (graphIn g s .edges)
     edge-there =
         let S : Stored g s = D .seen .stored in
         let l : e - 1 < s .edges = out-edge g s ls n e (D .at) p in
         rw (edge-in g s S (e - 1) l) (at-in noEdge (graphIn g s .edges) (e - 1) (omega (arith, edges-count g s S)))
 
-    node-path : Path (graphIn g s) n
+    node-path : Path (graphIn g s) a n
     node-path = rw (← D .node) (D .seen .own (getD w h 0) (take-in 0 w t h (D .ahead) (omega (arith, D .seen .wide, D .seen .high))) .2)
 
-    target-path : Path (graphIn g s) (edgeIn g (e - 1) .target)
+    target-path : Path (graphIn g s) a (edgeIn g (e - 1) .target)
     target-path = along (edgeIn g (e - 1)) edge-there (rw (out-source g s ls n e (D .at) p) node-path)
 
-    noting : (x k r : ℕ) (v : List ℕ) → x ≡ edgeIn g (e - 1) .target → v ≡ notedIn w t x → k ≡ notedTo w t x → r ≡ nextOut ls (e - 1) → Spreading g s ls v h k n r
+    noting : (x k r : ℕ) (v : List ℕ) → x ≡ edgeIn g (e - 1) .target → v ≡ notedIn w t x → k ≡ notedTo w t x → r ≡ nextOut ls (e - 1) → Spreading g s a ls v h k n r
     noting x k r v qx qv qk qr =
-        let N : Noted g s w h t x (notedIn w t x) (notedTo w t x) = noted g s w h t x (D .seen) (out-target g s ls n e x (D .at) p qx) (rw qx target-path) in
+        let N : Noted g s a w h t x (notedIn w t x) (notedTo w t x) = noted g s a w h t x (D .seen) (out-target g s ls n e x (D .at) p qx) (rw qx target-path) in
         step (rw (← qv, ← qk) at N)
       where
-        step : Noted g s w h t x v k → Spreading g s ls v h k n r
+        step : Noted g s a w h t x v k → Spreading g s a ls v h k n r
         step N =
             record { seen = N .seen; ahead = omega (arith, D .ahead, N .more); at = out-next g s ls n e r (D .at) p qr; node = N .place h (D .ahead) ∙ D .node; left = left }
           where
@@ -239,15 +236,15 @@ module _ (g : List ℕ) (s : Size) (ls w : List ℕ) (h t n : ℕ) where
             left y i =
                 either (D .left y i)
                 (λ j. either (rw (out-cons g s ls n e r (D .at) p qr) at j)
-                (λ z. inr (rw (ap (λ (a : Edge). a .target) z ∙ sym qx) (N .in-it)))
+                (λ z. inr (rw (ap (λ (b : Edge). b .target) z ∙ sym qx) (N .in-it)))
                 (λ m. inl m))
                 (λ j. inr (N .still (y .target) j))
 
     -- v and k are what noting the target left
-    pub spread-next : (k r : ℕ) (v : List ℕ) → v ≡ notedIn w t (edgeIn g (e - 1) .target) → k ≡ notedTo w t (edgeIn g (e - 1) .target) → r ≡ nextOut ls (e - 1) → Spreading g s ls v h k n r
+    pub spread-next : (k r : ℕ) (v : List ℕ) → v ≡ notedIn w t (edgeIn g (e - 1) .target) → k ≡ notedTo w t (edgeIn g (e - 1) .target) → r ≡ nextOut ls (e - 1) → Spreading g s a ls v h k n r
     spread-next k r v qv qk qr = noting (edgeIn g (e - 1) .target) k r v refl qv qk qr
 
-  pub spread-end : (e : ℕ) → Spreading g s ls w h t n e → e ≤ 0 → Seen g s w (h + 1) t
+  pub spread-end : (e : ℕ) → Spreading g s a ls w h t n e → e ≤ 0 → Seen g s a w (h + 1) t
   unfolding out
   spread-end e D z =
       record { stored = D .seen .stored; wide = D .seen .wide; low = omega (arith, D .ahead); high = D .seen .high; own = D .seen .own; back = D .seen .back; distinct = D .seen .distinct; root = D .seen .root; done = done }
@@ -263,54 +260,94 @@ module _ (g : List ℕ) (s : Size) (ls w : List ℕ) (h t n : ℕ) where
       done i l x j q =
           split (eqb i h)
           (λ u. let y : x .source ≡ n = q ∙ ap (λ (k : ℕ). getD w k 0) (eqb-true i h u) ∙ D .node in
-          gone x (D .left x (filter-in (λ (a : Edge). eqb (a .source) n) x (reverse (graphIn g s .edges)) (eq-eqb (x .source) n y) (turned x j))))
+          gone x (D .left x (filter-in (λ (b : Edge). eqb (b .source) n) x (reverse (graphIn g s .edges)) (eq-eqb (x .source) n y) (turned x j))))
           (λ u. D .seen .done i (omega (arith, eqb-false i h u)) x j q)
 
-pub spread-less : (g : List ℕ) (s : Size) (ls w : List ℕ) (h t n e r : ℕ) → Spreading g s ls w h t n e → 0 < e → r ≡ nextOut ls (e - 1) → r < e
-spread-less g s ls w h t n e r D p q = out-less g s ls n e r (D .at) p q
+pub spread-less : (g : List ℕ) (s : Size) (a : ℕ) (ls w : List ℕ) (h t n e r : ℕ) → Spreading g s a ls w h t n e → 0 < e → r ≡ nextOut ls (e - 1) → r < e
+spread-less g s a ls w h t n e r D p q = out-less g s ls n e r (D .at) p q
 
-pub spread-edge : (g : List ℕ) (s : Size) (ls w : List ℕ) (h t n e : ℕ) → Spreading g s ls w h t n e → 0 < e → e - 1 < s .edges
-spread-edge g s ls w h t n e D p = out-edge g s ls n e (D .at) p
+pub spread-edge : (g : List ℕ) (s : Size) (a : ℕ) (ls w : List ℕ) (h t n e : ℕ) → Spreading g s a ls w h t n e → 0 < e → e - 1 < s .edges
+spread-edge g s a ls w h t n e D p = out-edge g s ls n e (D .at) p
 
--- ---- the first table: node 0 marked, and alone in the queue
+-- ---- the first table: the start marked, and alone in the queue
 
 abbrev blank : List ℕ
 blank = replicate 256 0
 
-abbrev rooted : List ℕ
-rooted = set blank 128 1
+abbrev begun : ℕ → List ℕ
+begun a = set (set blank (128 + a) 1) 0 a
 
 zeros : (k i : ℕ) → _≡_ {A = ℕ} (getD (replicate k 0) i 0) 0
 zeros zero i = refl
 zeros (suc k) zero = refl
 zeros (suc k) (suc i) = zeros k i
 
-rooted-other : (n : ℕ) → (n ≡ 0 → ⊥) → getD rooted (128 + n) 0 ≡ 0
-rooted-other n d = getD-set-other blank 128 (128 + n) 1 0 (λ y. d (omega arith)) ∙ zeros 256 (128 + n)
+begun-own : (a : ℕ) → a < 128 → getD (begun a) (128 + a) 0 ≡ 1
+begun-own a h =
+    getD-set-other (set blank (128 + a) 1) 0 (128 + a) a 0 (λ y. omega arith)
+    ∙ getD-set-same blank (128 + a) 1 0 (omega (arith, length-replicate {A = ℕ} 256 0))
 
-pub seen-start : (g : List ℕ) (s : Size) (w v : List ℕ) → v ≡ replicate 256 0 → Stored g s → w ≡ set v 128 1 → Seen g s w 0 1
-seen-start g s w u z S q = rw (q, z) start
+begun-other : (a n : ℕ) → (n ≡ a → ⊥) → getD (begun a) (128 + n) 0 ≡ 0
+begun-other a n d =
+    getD-set-other (set blank (128 + a) 1) 0 (128 + n) a 0 (λ y. omega arith)
+    ∙ getD-set-other blank (128 + a) (128 + n) 1 0 (λ y. d (omega arith))
+    ∙ zeros 256 (128 + n)
+
+pub seen-start : (g : List ℕ) (s : Size) (a : ℕ) (w v : List ℕ) → v ≡ replicate 256 0 → Stored g s → a < s .nodes → w ≡ set (set v (128 + a) 1) 0 a → Seen g s a w 0 1
+seen-start g s a w u z S l q = rw (q, z) start
   where
-    own : (n : ℕ) → In n (0 ∷ []) → (n < s .nodes) × (getD rooted (128 + n) 0 ≡ 1) × Path (graphIn g s) n
-    own n (inl e) = rw e (S .some, refl, here)
+    small : a < 128
+    small = omega (arith, S .nodes-most)
+
+    queue : take 1 (begun a) ≡ a ∷ []
+    queue = take-suc-set (set blank (128 + a) 1) 0 a (rw length-set (omega (arith, length-replicate {A = ℕ} 256 0)))
+
+    own : (n : ℕ) → In n (a ∷ []) → (n < s .nodes) × (getD (begun a) (128 + n) 0 ≡ 1) × Path (graphIn g s) a n
+    own n (inl e) = rw e (l, begun-own a small, here)
     own n (inr i) = absurd i
 
-    back : (n : ℕ) → n < s .nodes → (getD rooted (128 + n) 0 ≡ 0 → ⊥) → In n (0 ∷ [])
-    back n l o = split (eqb n 0) (λ t. inl (eqb-true n 0 t)) (λ t. absurd (o (rooted-other n (eqb-false n 0 t))))
+    back : (n : ℕ) → (getD (begun a) (128 + n) 0 ≡ 0 → ⊥) → In n (a ∷ [])
+    back n o = split (eqb n a) (λ t. inl (eqb-true n a t)) (λ t. absurd (o (begun-other a n (eqb-false n a t))))
 
-    start : Seen g s rooted 0 1
+    start : Seen g s a (begun a) 0 1
     start =
-        record { stored = S; wide = refl; low = omega arith; high = omega arith; own = own; back = back; distinct = ((λ i. i), tt); root = inl refl; done = λ i l. absurd (not-suc-le-zero l) }
+        record { stored = S; wide = rw (length-set, length-set) (length-replicate {A = ℕ} 256 0); low = omega arith; high = omega arith; own = λ n i. own n (rw queue at i); back = λ n o. rw queue (back n o); distinct = rw queue ((λ i. i), tt); root = rw queue (inl refl); done = λ i h. absurd (not-suc-le-zero h) }
 
--- ---- the queue is through: the marks are the reached nodes
+-- ---- the queue is through: a mark where a path leads from a
 
 -- node n has no mark
 unfoldable pub unmarked : List ℕ → ℕ → Bool
 unmarked w n = eqb (getD w (128 + n) 0) 0
 
-pub record Marked (g : List ℕ) (s : Size) (w : List ℕ) : Type 0 where
+pub record Marked (g : List ℕ) (s : Size) (a : ℕ) (w : List ℕ) : Type 0 where
   pub stored : Stored g s
-  pub marks : (n : ℕ) → n < s .nodes → unmarked w n ≡ not (has n (reached (graphIn g s)))
+  pub yes : (n : ℕ) → (getD w (128 + n) 0 ≡ 0 → ⊥) → Path (graphIn g s) a n
+  pub no : (n : ℕ) → getD w (128 + n) 0 ≡ 0 → Path (graphIn g s) a n → ⊥
+  pub one : (n : ℕ) → (getD w (128 + n) 0 ≡ 0 → ⊥) → getD w (128 + n) 0 ≡ 1
+
+module _ (g : List ℕ) (s : Size) (a : ℕ) (w : List ℕ) (h t : ℕ) (S : Seen g s a w h t) (l : t ≤ h) where
+  queued : {n : ℕ} → Path (graphIn g s) a n → In n (take t w)
+  queued here = S .root
+  queued (along e i p) = let r = in-take 0 w t (e .source) (queued p) in S .done (r .0) (omega (arith, r .1)) e i (sym (r .2))
+
+  pub seen-all : Marked g s a w
+  seen-all = record { stored = S .stored; yes = λ n o. S .own n (S .back n o) .2; no = dark; one = λ n o. S .own n (S .back n o) .1 }
+    where
+      dark : (n : ℕ) → getD w (128 + n) 0 ≡ 0 → Path (graphIn g s) a n → ⊥
+      dark n z p = let q : getD w (128 + n) 0 ≡ 1 = S .own n (queued p) .1 in let f : _≡_ {A = ℕ} 0 1 = sym z ∙ q in omega arith
+
+-- the marks are determined, whatever the queue before them is
+pub marked-one : (g : List ℕ) (s : Size) (a : ℕ) (w v : List ℕ) → Marked g s a w → Marked g s a v → (n : ℕ) → getD w (128 + n) 0 ≡ getD v (128 + n) 0
+marked-one g s a w v M N n =
+    split (eqb (getD w (128 + n) 0) 0)
+    (λ u. let x : getD w (128 + n) 0 ≡ 0 = eqb-true (getD w (128 + n) 0) 0 u in
+    split (eqb (getD v (128 + n) 0) 0)
+    (λ y. x ∙ sym (eqb-true (getD v (128 + n) 0) 0 y))
+    (λ y. absurd (M .no n x (N .yes n (eqb-false (getD v (128 + n) 0) 0 y)))))
+    (λ u. let x : getD w (128 + n) 0 ≡ 0 → ⊥ = eqb-false (getD w (128 + n) 0) 0 u in
+    split (eqb (getD v (128 + n) 0) 0)
+    (λ y. absurd (N .no n (eqb-true (getD v (128 + n) 0) 0 y) (M .yes n x)))
+    (λ y. M .one n x ∙ sym (N .one n (eqb-false (getD v (128 + n) 0) 0 y))))
 
 module _ (g : List ℕ) (s : Size) (S : Stored g s) where
   pub whole : Whole (graphIn g s)
@@ -324,25 +361,19 @@ module _ (g : List ℕ) (s : Size) (S : Stored g s) where
           let b : edgeIn g (r .0) .target < s .nodes = target-below g s S (r .0) l in
           omega (arith, nodes-count g s S, ap (λ (x : Edge). x .target) q)
 
-module _ (g : List ℕ) (s : Size) (w : List ℕ) (h t : ℕ) (S : Seen g s w h t) (l : t ≤ h) where
-  queued : {n : ℕ} → Path (graphIn g s) n → In n (take t w)
-  queued here = S .root
-  queued (along e i p) = let r = in-take 0 w t (e .source) (queued p) in S .done (r .0) (omega (arith, r .1)) e i (sym (r .2))
+-- from the root the marks are the reached nodes
+marks-reached : (g : List ℕ) (s : Size) (w : List ℕ) → Marked g s 0 w → (n : ℕ) → unmarked w n ≡ not (has n (reached (graphIn g s)))
+unfolding unmarked
+marks-reached g s w M n =
+    split (eqb (getD w (128 + n) 0) 0)
+    (λ u. split (has n (reached (graphIn g s)))
+    (λ r. absurd (M .no n (eqb-true (getD w (128 + n) 0) 0 u) (reached-path (graphIn g s) n r)))
+    (λ r. rw (u, r)))
+    (λ u. rw (u, path-reached (graphIn g s) (whole g s (M .stored)) n (M .yes n (eqb-false (getD w (128 + n) 0) 0 u))))
 
-  pub seen-all : Marked g s w
-  unfolding unmarked
-  seen-all = record { stored = S .stored; marks = marks }
-    where
-      marks : (n : ℕ) → n < s .nodes → unmarked w n ≡ not (has n (reached (graphIn g s)))
-      marks n b =
-          split (eqb (getD w (128 + n) 0) 0)
-          (λ u. split (has n (reached (graphIn g s)))
-          (λ r. let q : getD w (128 + n) 0 ≡ 1 = S .own n (queued (reached-path (graphIn g s) n r)) .1 in
-          let z : _≡_ {A = ℕ} 0 1 = sym (eqb-true (getD w (128 + n) 0) 0 u) ∙ q in
-          let f : ⊥ = omega arith in absurd f)
-          (λ r. rw (u, r)))
-          (λ u. let i : In n (take t w) = S .back n b (eqb-false (getD w (128 + n) 0) 0 u) in
-          rw (u, path-reached (graphIn g s) (whole g s (S .stored)) n (S .own n i .2)))
+-- there is a root to start from
+pub root-there : (g : List ℕ) (s : Size) (ls : List ℕ) → Chains g s ls → 0 < s .nodes
+root-there g s ls C = C .stored .some
 
 -- ---- the lowest node without a mark
 
@@ -389,9 +420,9 @@ first-same p q (n ∷ l) f =
     (λ t. let u : p n ≡ true = e ∙ t in rw (u, t, first))
     (λ t. let u : p n ≡ false = e ∙ t in rw (u, t, first) (first-same p q l (λ m i. f m (inr i))))
 
-pub lowest-unreached : (g : List ℕ) (s : Size) (w : List ℕ) (r : ℕ) → Marked g s w → r ≡ lowestIn w (s .nodes) → r ≡ lowestOf (unreached (graphIn g s))
+pub lowest-unreached : (g : List ℕ) (s : Size) (w : List ℕ) (r : ℕ) → Marked g s 0 w → r ≡ lowestIn w (s .nodes) → r ≡ lowestOf (unreached (graphIn g s))
 unfolding lowestIn unreached
 lowest-unreached g s w r M q =
     q ∙ ap lowestOf
-    (first-same (unmarked w) (λ n. not (has n (reached (graphIn g s)))) (upto (s .nodes) 0) (λ n i. M .marks n (omega (arith, upto-in (s .nodes) 0 n i .1)))
+    (first-same (unmarked w) (λ n. not (has n (reached (graphIn g s)))) (upto (s .nodes) 0) (λ n i. marks-reached g s w M n)
     ∙ ap (λ (k : ℕ). first (λ n. not (has n (reached (graphIn g s)))) (upto k 0)) (sym (nodes-count g s (M .stored))))

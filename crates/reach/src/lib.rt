@@ -1,5 +1,5 @@
-// Reachability from the root (conflict.rs: the breadth-first walk behind "all nodes are reachable from root"), by an explicit
-// queue over the chains of outgoing edges.
+// Reachability from a node, and from the root (conflict.rs: the breadth-first walk behind "all nodes are reachable from root"), by
+// an explicit queue over the chains of outgoing edges.
 ghost use mathlib.Core.Path.{_≡_};
 ghost use Prim.Native.Nat.{_+_, _<_, _≤_};
 ghost use lib.ListN.{replicate};
@@ -31,19 +31,20 @@ fn look(g: &[u64; 1152], s: store::Size, w: &mut [u16; 256], t: usize, e: usize)
     note(w, t, x)
 }
 
-// The targets of the node at place h.
+// The targets of the node at place h of the queue that began with node a.
 fn visit(
     g: &[u64; 1152],
     s: store::Size,
     ls: &[u16; 3456],
     w: &mut [u16; 256],
+    a: usize,
     h: usize,
     t: usize,
 ) -> usize
     requires { ⌜ Chains (now g) s (now ls) ⌝ }
-    requires { ⌜ Seen (now g) s (now w) h t ⌝ }
+    requires { ⌜ Seen (now g) s a (now w) h t ⌝ }
     requires { ⌜ h < t ⌝ }
-    ensures { λ r. ⌜ Seen (now (g .entry)) s (now (w .exit)) (h + 1) r ⌝ }
+    ensures { λ r. ⌜ Seen (now (g .entry)) s a (now (w .exit)) (h + 1) r ⌝ }
 {
     let n = basis::wide16(w[h]);
     let mut e = links::first_out(ls, n);
@@ -55,17 +56,19 @@ fn visit(
     k
 }
 
-// Marks every node that the root reaches.
-fn mark(g: &[u64; 1152], s: store::Size, ls: &[u16; 3456], w: &mut [u16; 256])
+// Marks node a and every node that a path reaches from it, node n at 128 + n.
+pub fn mark(g: &[u64; 1152], s: store::Size, ls: &[u16; 3456], w: &mut [u16; 256], a: usize)
     requires { ⌜ Chains (now g) s (now ls) ⌝ }
+    requires { ⌜ a < s .nodes ⌝ }
     requires { ⌜ now w ≡ replicate 256 0 ⌝ }
-    ensures { λ _. ⌜ Marked (now (g .entry)) s (now (w .exit)) ⌝ }
+    ensures { λ _. ⌜ Marked (now (g .entry)) s a (now (w .exit)) ⌝ }
 {
-    w[128] = 1;
+    w[128 + a] = 1;
+    w[0] = a as u16;
     let mut h: usize = 0;
     let mut t: usize = 1;
     while h < t {
-        t = visit(g, s, ls, w, h, t);
+        t = visit(g, s, ls, w, a, h, t);
         h += 1;
     }
 }
@@ -91,6 +94,6 @@ pub fn lowest_unreached(g: &[u64; 1152], s: store::Size, ls: &[u16; 3456]) -> us
     ensures { λ r. ⌜ r ≡ lowestOf (unreached (graphIn (now (g .entry)) s)) ⌝ }
 {
     let mut w = [0u16; 256];
-    mark(g, s, ls, &mut w);
+    mark(g, s, ls, &mut w, 0);
     lowest(&w, s.nodes)
 }

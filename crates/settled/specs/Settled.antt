@@ -1,21 +1,19 @@
 -- "no node has both labels; where the graph has no cycle, 'already' may be dropped from both rules", for every node of every graph that
 -- is drawn: since 9 was not given, each node stands in the post-order.
 use mathlib.Core.Path.{_≡_, refl, sym, subst}
-use mathlib.Core.Logic.{_⊎_, inl, inr}
+use mathlib.Core.Logic.{inl}
 use mathlib.Core.Bool.{Bool, true, false, not, _||_}
-use mathlib.Core.List.{List, [], _∷_, reverse, reverseAux}
+use mathlib.Core.List.{List, [], _∷_}
 use mathlib.Core.Option.{Option, none, some}
 use Prim.Native.Nat.{ℕ, _<_, _≤_}
 use native.Mathlib.Omega.{arith}
 use lib.ListN.{length, getD, replicate, length-replicate}
 use lib.Dec.{eqb}
-use borrow.Author.Tests.{eq-eqb}
 use Rattle.basis.specs.Lists.{first, has, upto}
-use Rattle.basis.specs.Members.{In, split, either, no-both, clash, in-append, in-left, in-right, filter-in, map-in, all-in}
+use Rattle.basis.specs.Members.{In, split, either, no-both, clash, in-append, in-left, in-right, all-in}
 use Rattle.records.specs.Tables.{Tables}
 use Rattle.index.specs.Promise.{Valid}
-use Rattle.store.specs.declared.Edge.{Edge}
-use Rattle.store.specs.Graph.{Graph, out, reached, unreached}
+use Rattle.store.specs.Graph.{Graph, reached, unreached}
 use Rattle.reach.specs.Paths.{Path, here, along, in-upto, reached-path}
 use Rattle.graph.specs.Graphs.{drawn, graphOf}
 use Rattle.shape.specs.Graphed.{Graphed, graphed}
@@ -23,6 +21,7 @@ use Rattle.labels.specs.Order.{Walk, mark, through, visit, postorder}
 use Rattle.labels.specs.Walks.{Inner, unseen-le, visit-new}
 use Rattle.labels.specs.Ordered.{Acyclic, Ordered, none, more}
 use Rattle.labels.specs.Labels.{targets, orderOf, canInstall, isLacking, installable, missing, hasUnresolved}
+use Rattle.labels.specs.Laws.Paths.{edge-target}
 use Rattle.labels.specs.Facts.{Sound, inner, blank, order-ordered, installable-settled, missing-settled, not-both}
 
 -- ---- the post-order has the root, and with a node all its targets
@@ -45,35 +44,21 @@ behind to late z l (more {l = k} n o once after) m i t j =
     (λ h. behind to late z k o m h t j)
     (λ h. either h (λ q. after z t (rw q at j)) (λ x. absurd x)))
 
-module _ {A : Type 0} where
-  back : (x : A) (l acc : List A) → In x l ⊎ In x acc → In x (reverseAux l acc)
-  back x [] acc i = either i (λ z. absurd z) (λ j. j)
-  back x (y ∷ l) acc i = back x l (y ∷ acc) (either i (λ j. either j (λ e. inr (inl e)) (λ k. inl k)) (λ j. inr (inr j)))
-
-  reverse-in : (x : A) (l : List A) → In x l → In x (reverse l)
-  reverse-in x l i = back x l [] (inl i)
-
-edge-target : (G : Graph) (e : Edge) → In e (G .edges) → In (e .target) (targets G (e .source))
-unfolding targets out
-edge-target G e i =
-    map-in (λ (x : Edge). x .target) e (reverse (out G (e .source)))
-    (reverse-in e (out G (e .source)) (filter-in (λ (x : Edge). eqb (x .source) (e .source)) e (reverse (G .edges)) (eq-eqb (e .source) (e .source) refl) (reverse-in e (G .edges) i)))
-
-path-ordered : (G : Graph) → Sound G → Acyclic (targets G) → (n : ℕ) → Path G n → In n (orderOf G)
+pub path-ordered : (G : Graph) → Sound G → Acyclic (targets G) → (n : ℕ) → Path G 0 n → In n (orderOf G)
 path-ordered G s a n here = order-root G s
 path-ordered G s a n (along e i p) =
     behind (targets G) (Acyclic (targets G)) a (orderOf G) (order-ordered G s) (e .source) (path-ordered G s a (e .source) p) (e .target) (edge-target G e i)
 
 -- ---- a graph that is drawn
 
-first-none : (p : ℕ → Bool) (l : List ℕ) → first p l ≡ none → (n : ℕ) → In n l → p n ≡ false
+pub first-none : (p : ℕ → Bool) (l : List ℕ) → first p l ≡ none → (n : ℕ) → In n l → p n ≡ false
 first-none p [] e n i = absurd i
 first-none p (x ∷ l) e n i =
     split (p x)
     (λ t. let f : _≡_ {A = Option ℕ} (some x) none = rw (t, first) at e in clash cc)
     (λ t. either i (λ q. rw q t) (λ j. first-none p l (rw (t, first) at e) n j))
 
-not-false : (b : Bool) → not b ≡ false → b ≡ true
+pub not-false : (b : Bool) → not b ≡ false → b ≡ true
 not-false true e = refl
 not-false false e = no-both (not false) refl e
 
@@ -81,14 +66,14 @@ module _ (T : Tables) (v : Valid T) (G : Graph) (d : graphOf T ≡ drawn G) wher
   shape : Graphed T G
   shape = graphed T v G d .0
 
-  sound : Sound G
+  pub sound : Sound G
   sound = record {
     some = rw (shape .nodes-are) (omega arith);
     most = shape .nodes-most;
     ends = λ e i. all-in _ (G .edges) e (shape .edges) i .to;
   }
 
-  all-reached : (n : ℕ) → n < length (G .nodes) → Path G n
+  pub all-reached : (n : ℕ) → n < length (G .nodes) → Path G 0 n
   unfolding unreached
   all-reached n h =
       reached-path G n

@@ -5,15 +5,19 @@ use Rattle.reach.proofs.mark.Statement.{statement}
 use Rattle.reach.proofs.mark.Tie as tie
 
 abbrev Inv-loop : tie.InvT-loop
-Inv-loop g s ls w₀ h₀ t₀ w h t = Seen g s w h t
+Inv-loop g s ls w₀ a h₀ t₀ w h t = Seen g s a w h t
 
 abbrev μ-loop : tie.MeasureT-loop
-μ-loop g s ls w₀ h₀ t₀ w h t = 128 - h
+μ-loop g s ls w₀ a h₀ t₀ w h t = 128 - h
 
 pub mark-spec : {M : Type 1} → statement M
 mark-spec =
     tie.close
     (tie.spec Inv-loop μ-loop
+    (λ c. search needs)
+    (λ c. search needs)
+    (λ c. search needs)
+    (λ c. search needs)
     (λ c. search needs)
     (λ c. search (needs, seen-start))
     (λ c κs. search needs)

@@ -4,10 +4,10 @@ use Rattle.reach.proofs.visit.Statement.{statement}
 use Rattle.reach.proofs.visit.Tie as tie
 
 abbrev Inv-loop : tie.InvT-loop
-Inv-loop g s ls w₀ h t n e₀ k₀ w e k = Spreading g s ls w h k n e
+Inv-loop g s ls w₀ a h t n e₀ k₀ w e k = Spreading g s a ls w h k n e
 
 abbrev μ-loop : tie.MeasureT-loop
-μ-loop g s ls w₀ h t n e₀ k₀ w e k = e
+μ-loop g s ls w₀ a h t n e₀ k₀ w e k = e
 
 pub visit-spec : {M : Type 1} → statement M
 visit-spec =
