@@ -30,7 +30,7 @@ use Rattle.records.specs.Pass.{foundAt, foundOf, countPass, limitPass, w
 
 -- ---- counts
 
-count-is : (t : Table) (T : Tables) → countPass t (countsOf T) ≡ length (tableOf t T)
+pub count-is : (t : Table) (T : Tables) → countPass t (countsOf T) ≡ length (tableOf t T)
 unfolding countPass
 count-is Names T = refl
 count-is Solvables T = refl
@@ -61,7 +61,7 @@ before-is-good : (t : Table) (T : Tables) (x : ℕ) → isBefore t (countsOf T) 
 unfolding isBefore
 before-is-good t T x = ap (ltb x) (count-is t T)
 
-room-is-good : (t : Table) (T : Tables) → hasRoom t (countsOf T) ≡ ltb (length (tableOf t T)) (limit t)
+pub room-is-good : (t : Table) (T : Tables) → hasRoom t (countsOf T) ≡ ltb (length (tableOf t T)) (limit t)
 unfolding hasRoom limitPass
 room-is-good t T = ap (λ (n : ℕ). ltb n (limit t)) (count-is t T)
 
@@ -80,7 +80,7 @@ with-is-good Variables T r = rw (length-snoc (T .variables) r)
 with-is-good Assigned T r = rw (length-snoc (T .assigned) r)
 with-is-good Clauses T r = rw (length-snoc (T .clauses) r)
 
-more-is-good : (t : Table) (T : Tables) (r : Rec) → ltb (length (tableOf t T)) (limit t) ≡ true → moreOf t (countsOf T) ≡ countsOf (put t r T)
+pub more-is-good : (t : Table) (T : Tables) (r : Rec) → ltb (length (tableOf t T)) (limit t) ≡ true → moreOf t (countsOf T) ≡ countsOf (put t r T)
 unfolding moreOf guard
 more-is-good t T r h =
     let l : length (tableOf t T) < limit t = ltb-true _ _ h in
@@ -91,7 +91,7 @@ more-is-good t T r h =
 -- ---- marks
 
 -- a record 8 names variable v
-abbrev taken : Tables → ℕ → Bool
+abbrev pub taken : Tables → ℕ → Bool
 taken T v = any (λ g. eqb (g .a) v) (T .assigned)
 
 -- the marks m are those of the tables T
@@ -161,7 +161,7 @@ module _ (T : Tables) (m : List ℕ) (h : Marked T m) where
 
 -- ---- one record
 
-abbrev stepOf : ℕ → Table → Step
+abbrev pub stepOf : ℕ → Table → Step
 stepOf zero t = Next t
 stepOf (suc n) t = No (suc n)
 
@@ -313,15 +313,15 @@ module _ (T : Tables) (m : List ℕ) (h : Marked T m) (r : Rec) (a b : Slot) whe
 -- ---- all records
 
 module _ (T : Tables) (m : List ℕ) (h : Marked T m) (r : Rec) where
-  check-none : shapeOf (r .kind) ≡ none → checkPass (countsOf T) m r ≡ No 2
+  pub check-none : shapeOf (r .kind) ≡ none → checkPass (countsOf T) m r ≡ No 2
   unfolding checkPass foundAt
   check-none e = rw e
 
-  check-some : (s : Shape) → shapeOf (r .kind) ≡ some s → checkPass (countsOf T) m r ≡ stepOf (refusalIn T s r) (s .table)
+  pub check-some : (s : Shape) → shapeOf (r .kind) ≡ some s → checkPass (countsOf T) m r ≡ stepOf (refusalIn T s r) (s .table)
   unfolding checkPass foundAt
   check-some s e = ap (λ (o : Option Shape). checkAt (countsOf T) m r (foundOf o)) e ∙ admit-is-good T m h s r
 
-  next-marked : (s : Shape) → shapeOf (r .kind) ≡ some s → Fine T s r → Marked (put (s .table) r T) (noted (s .table) r m)
+  pub next-marked : (s : Shape) → shapeOf (r .kind) ≡ some s → Fine T s r → Marked (put (s .table) r T) (noted (s .table) r m)
   next-marked s e f =
       noted-marked T m h r (s .a) (s .b) (s .table) (shape-fit (r .kind) s e) (f .room)
       (both-left (fieldGood (s .b) r (r .b)) _ (both-right (fieldGood (s .a) r (r .a)) _ (both-right (firstGood (s .first) r) _ (f .shape))))
@@ -357,7 +357,7 @@ fresh zero v = refl
 fresh (suc n) zero = refl
 fresh (suc n) (suc v) = fresh n v
 
-none-marked : Marked noTables (replicate 1024 0)
+pub none-marked : Marked noTables (replicate 1024 0)
 none-marked =
     record { mark = λ v. fresh 1024 v; low = λ v. omega arith; past = λ v g. refl; few = omega arith; size = length-replicate {A = ℕ} 1024 0 }
 

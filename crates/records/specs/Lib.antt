@@ -9,3 +9,4 @@ pub mod Steps
 pub mod Agree
 pub mod Limits
 pub mod Cases
+pub mod Laws

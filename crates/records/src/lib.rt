@@ -1,15 +1,18 @@
 // The record file (document 01, "The record file", "Refusal numbers"): the shapes of the records and the reader, which
-// answers the size of each table or a refusal from 1 to 6. It writes nothing; `fields` reads one record of a file.
+// answers the size of each table or a refusal from 1 to 6. It writes nothing; `fields` reads one record of a file. The step of one
+// record over the tables before it is public: `check` answers it, `pass` also notes its mark, specs/Laws/Step.antt says what it is.
 
-mod check;
+pub mod check;
 pub mod fields;
-mod kinds;
-mod pass;
+pub mod kinds;
+pub mod pass;
 mod text;
 
-use pass::run;
+use pass::turn;
 ghost use mathlib.Core.Path.{_≡_};
+ghost use Rattle.records.specs.Shapes.{recordsOf};
 ghost use Rattle.records.specs.Read.{readOf, answerOf};
+ghost use Rattle.records.specs.Pass.{passFrom, noCounts};
 
 // The nine tables.
 pub enum Table {
@@ -114,6 +117,34 @@ pub enum Found {
 pub enum Step {
     Next(Table),
     No(u64),
+}
+
+// All records in their order, with a mark of 0 for each variable at first.
+fn run(file: &[u8], m: &mut [u16]) -> Answer
+    ensures { λ r. ⌜ r ≡ passFrom (recordsOf (now (file .entry))) 0 noCounts (now (m .entry)) ⌝ }
+{
+    let n = file.len() / 32;
+    let mut c = Counts {
+        names: 0,
+        solvables: 0,
+        sets: 0,
+        requirements: 0,
+        candidates: 0,
+        reasons: 0,
+        variables: 0,
+        assigned: 0,
+        clauses: 0,
+    };
+    let mut i = 0;
+    while i < n {
+        let s = turn(file, i, c, m);
+        let Answer::Accepted(d) = s else {
+            return s;
+        };
+        c = d;
+        i += 1;
+    }
+    Answer::Accepted(c)
 }
 
 // Reads a file of records: how many each table has, or the first refusal (1 to 6) with its place.

@@ -1,4 +1,4 @@
-// The pass over all records of a file.
+// One record of a file: the counts and the marks after it.
 use crate::Answer;
 use crate::Counts;
 use crate::Step;
@@ -15,7 +15,7 @@ ghost use Prim.Native.Nat.{_+_};
 ghost use lib.ListN.{set};
 ghost use Rattle.records.specs.Shapes.{recordsOf};
 ghost use Rattle.records.specs.Tables.{at};
-ghost use Rattle.records.specs.Pass.{markOrigin, noted, turnPass, marksPass, passFrom, noCounts};
+ghost use Rattle.records.specs.Pass.{markOrigin, noted, turnPass, marksPass};
 
 // A variable: its mark is its origin.
 fn note_variable(file: &[u8], i: usize, m: &mut [u16])
@@ -38,7 +38,7 @@ fn note_assigned(file: &[u8], i: usize, m: &mut [u16])
 }
 
 // What record i, of table t, does to the marks.
-fn note(file: &[u8], i: usize, t: Table, m: &mut [u16])
+pub fn note(file: &[u8], i: usize, t: Table, m: &mut [u16])
     ensures { λ _. ⌜ now (m .exit) ≡ noted t (at (recordsOf (now (file .entry))) i) (now (m .entry)) ⌝ }
 {
     match t {
@@ -59,7 +59,7 @@ fn note(file: &[u8], i: usize, t: Table, m: &mut [u16])
 }
 
 // Record i: the counts after it, with its mark noted, or its refusal.
-fn turn(file: &[u8], i: usize, c: Counts, m: &mut [u16]) -> Answer
+pub fn turn(file: &[u8], i: usize, c: Counts, m: &mut [u16]) -> Answer
     ensures { λ r. ⌜ r ≡ turnPass c (now (m .entry)) (at (recordsOf (now (file .entry))) i) i ⌝ }
     ensures { λ r. ⌜ now (m .exit) ≡ marksPass c (now (m .entry)) (at (recordsOf (now (file .entry))) i) ⌝ }
 {
@@ -74,32 +74,4 @@ fn turn(file: &[u8], i: usize, c: Counts, m: &mut [u16]) -> Answer
             Answer::Accepted(more(t, c))
         }
     }
-}
-
-// All records in their order, with a mark of 0 for each variable at first.
-pub fn run(file: &[u8], m: &mut [u16]) -> Answer
-    ensures { λ r. ⌜ r ≡ passFrom (recordsOf (now (file .entry))) 0 noCounts (now (m .entry)) ⌝ }
-{
-    let n = file.len() / 32;
-    let mut c = Counts {
-        names: 0,
-        solvables: 0,
-        sets: 0,
-        requirements: 0,
-        candidates: 0,
-        reasons: 0,
-        variables: 0,
-        assigned: 0,
-        clauses: 0,
-    };
-    let mut i = 0;
-    while i < n {
-        let s = turn(file, i, c, m);
-        let Answer::Accepted(d) = s else {
-            return s;
-        };
-        c = d;
-        i += 1;
-    }
-    Answer::Accepted(c)
 }

@@ -4,8 +4,8 @@ use Prim.Native.Nat.{_≤_, _-_}
 use lib.ListN.{length}
 use Rattle.records.specs.Shapes.{recordsOf}
 use Rattle.records.specs.Pass.{leftPass, passFrom, noCounts, left-start, left-next, left-stop, left-end}
-use Rattle.records.proofs.pass.run.Statement.{statement}
-use Rattle.records.proofs.pass.run.Tie as tie
+use Rattle.records.proofs.run.Statement.{statement}
+use Rattle.records.proofs.run.Tie as tie
 
 abbrev Inv-loop : tie.InvT-loop
 Inv-loop file m₀ n c₀ i₀ m c i = (i ≤ n) × ((length m ≡ length m₀) × (leftPass file i c m ≡ passFrom (recordsOf file) 0 noCounts m₀))
