@@ -61,7 +61,7 @@ count-solvables (x ∷ ns) f a h =
     (λ q. rw (e, q, filter) (ap suc r))
     (λ q. rw (e, q, filter) r)
 
-solvables-most : (T : Tables) (G : Graph) → Graphed T G → length (solvables G) ≤ 126
+pub solvables-most : (T : Tables) (G : Graph) → Graphed T G → length (solvables G) ≤ 126
 unfolding solvables
 solvables-most T G g =
     let e = count-solvables (G .nodes) (nodeAt G) 0 (λ i l. let z : 0 + i ≡ i = omega arith in ap (nodeAt G) z) in
@@ -107,7 +107,7 @@ module _ (file : List ℕ) (opt : ℕ) (T : Tables) (G : Graph) (x : Drawn file 
   -- ---- the packed walk's answer is the file's
 
   module _ (p k : List ℕ) (g : Graphed T G) (z : Planned S p k) where
-    lines-alike : (e : Entry ℕ) (d : Entry Run) → Same (λ n. n < length (S .graph .nodes)) (RunIs S p k) e d → linesIn T p k (topOf opt) e ≡ linesOf S opt d
+    pub lines-alike : (e : Entry ℕ) (d : Entry Run) → Same (λ n. n < length (S .graph .nodes)) (RunIs S p k) e d → linesIn T p k (topOf opt) e ≡ linesOf S opt d
     unfolding shownOf
     lines-alike e d (same-run r q ms b i a) = run-same T G p k opt r q ms b i
     lines-alike e d (same-kid n ms b h a) = kid-same T G p k z opt n ms b h
@@ -178,7 +178,7 @@ by-outcome (refused k p) f g = f k p refl
 by-outcome (drawn G) f g = g G refl
 
 -- a file and an option are refused whatever the room, or drawn
-by-file : {X : Type 0} (file : List ℕ) (opt : ℕ) → ((r : Result) → ((n room : ℕ) → explainFile n file opt room ≡ some r) → X) → ((T : Tables) (G : Graph) → Drawn file opt T G → X) → X
+pub by-file : {X : Type 0} (file : List ℕ) (opt : ℕ) → ((r : Result) → ((n room : ℕ) → explainFile n file opt room ≡ some r) → X) → ((T : Tables) (G : Graph) → Drawn file opt T G → X) → X
 by-file file opt f g =
     split (leb opt 1)
     (λ o. by-reading (readOf file)

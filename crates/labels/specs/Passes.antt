@@ -168,7 +168,7 @@ unfoldable pub marksLeft : Graph → List ℕ → ℕ → List ℕ → ℕ → L
 marksLeft G os k ms i = marksAlong G (drop i (take k os)) ms
 
 module _ (g : List ℕ) (s : Size) (ls os : List ℕ) (k : ℕ) (L : Listed g s ls os k) where
-  taken : length (take k os) ≡ k
+  pub taken : length (take k os) ≡ k
   taken = length-take-le k os (omega (arith, L .few, L .long))
 
   pub along-start : (ms : List ℕ) → marksLeft (graphIn g s) os k ms 0 ≡ marksAlong (graphIn g s) (orderOf (graphIn g s)) ms

@@ -1,7 +1,7 @@
 // Both labels of a conflict graph (conflict.rs: `get_installable_set`, `get_missing_set`): post-order from the root, and one
 // pass along it.
-mod order;
-mod passes;
+pub mod order;
+pub mod passes;
 
 ghost use mathlib.Core.Path.{_≡_};
 ghost use Rattle.store.specs.Table.{graphIn};

@@ -62,7 +62,7 @@ module _ {R : Type 0} (P : Plan R) where
   came-next (candidate n) ms b es rep u us =
       split (skipped P rep n) (λ q. rw q us) (λ q. rw q (all-append Came (under P ms b n) es (came-under n ms b u) us))
 
-  came-turn : (es : List (Entry R)) (rep : List ℕ) → All Came es → All Came (next P (state es rep) .stack)
+  pub came-turn : (es : List (Entry R)) (rep : List ℕ) → All Came es → All Came (next P (state es rep) .stack)
   came-turn [] rep u = tt
   came-turn (x ∷ es) rep u = came-next (x .op) (x .marks) (x .branch) es rep (u .0) (u .1)
 

@@ -31,11 +31,11 @@ node-solvable (x ∷ xs) zero s = omega arith
 node-solvable (x ∷ xs) (suc n) s = omega (arith, node-solvable xs n s)
 
 module _ (T : Tables) (G : Graph) where
-  solvable-in : (n : ℕ) → n < length (G .nodes) → isSolvable (nodeAt G n) ≡ true → In n (solvables G)
+  pub solvable-in : (n : ℕ) → n < length (G .nodes) → isSolvable (nodeAt G n) ≡ true → In n (solvables G)
   unfolding solvables
   solvable-in n h s = filter-in (λ n. isSolvable (nodeAt G n)) n (upto (length (G .nodes)) 0) s (upto-in (length (G .nodes)) 0 n (omega arith) (omega arith))
 
-  in-solvable : (n : ℕ) → In n (solvables G) → (n < length (G .nodes)) × (isSolvable (nodeAt G n) ≡ true)
+  pub in-solvable : (n : ℕ) → In n (solvables G) → (n < length (G .nodes)) × (isSolvable (nodeAt G n) ≡ true)
   unfolding solvables
   in-solvable n i =
       let f = in-filter (λ n. isSolvable (nodeAt G n)) n (upto (length (G .nodes)) 0) i in
@@ -70,7 +70,7 @@ module _ (T : Tables) (G : Graph) where
   -- ---- the kids of any run are solvable nodes
 
   module _ (S : Shown) where
-    in-dedup : (ns seen : List ℕ) (n : ℕ) → In n (dedup S ns seen) → In n ns
+    pub in-dedup : (ns seen : List ℕ) (n : ℕ) → In n (dedup S ns seen) → In n ns
     in-dedup [] seen n i = i
     in-dedup (m ∷ ns) seen n i =
         split (has m seen)

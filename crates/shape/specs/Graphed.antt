@@ -54,14 +54,14 @@ at-in (x ∷ ns) zero h = inl refl
 at-in (x ∷ ns) (suc n) h = inr (at-in ns n (omega arith))
 
 -- a list that is not empty, cut before its last
-record Cut (l : List ConflictNode) : Type 0 where
-  ys : List ConflictNode
-  z : ConflictNode
-  whole : l ≡ snoc ys z
-  last-is : lastOf l ≡ z ∷ []
-  front-is : front l ≡ ys
+pub record Cut (l : List ConflictNode) : Type 0 where
+  pub ys : List ConflictNode
+  pub z : ConflictNode
+  pub whole : l ≡ snoc ys z
+  pub last-is : lastOf l ≡ z ∷ []
+  pub front-is : front l ≡ ys
 
-cut : (x : ConflictNode) (l : List ConflictNode) → Cut (x ∷ l)
+pub cut : (x : ConflictNode) (l : List ConflictNode) → Cut (x ∷ l)
 cut x [] = record { ys = []; z = x; whole = refl; last-is = refl; front-is = refl }
 cut x (y ∷ l) =
     let c = cut y l in
@@ -110,9 +110,9 @@ graphed-stays T G S =
 -- ---- unresolved goes, and the last node takes its number
 
 -- where the nodes ns stand among ms
-record Moves (ns ms : List ConflictNode) (last : ℕ) : Type 0 where
-  inside : (x : ℕ) → x < length ns → (x ≡ 1 → ⊥) → renumber last x < length ms
-  same : (x : ℕ) → x < length ns → (x ≡ 1 → ⊥) → getD ms (renumber last x) N.Root ≡ getD ns x N.Root
+pub record Moves (ns ms : List ConflictNode) (last : ℕ) : Type 0 where
+  pub inside : (x : ℕ) → x < length ns → (x ≡ 1 → ⊥) → renumber last x < length ms
+  pub same : (x : ℕ) → x < length ns → (x ≡ 1 → ⊥) → getD ms (renumber last x) N.Root ≡ getD ns x N.Root
 
 runs-moved : (ns ms : List ConflictNode) (last : ℕ) → Moves ns ms last → isEnd (getD ns 1 N.Root) ≡ false → (e : Edge) → Runs ns e → eqb (e .target) 1 ≡ false → Runs ms (renumberEdge last e)
 runs-moved ns ms last M f e R t =
@@ -136,7 +136,7 @@ all-moved ns ms last M f (e ∷ es) q R =
     (λ t. let z : true ≡ false = rw (t, any) at q in clash (cc))
     (λ t. (runs-moved ns ms last M f e (R .0) t, all-moved ns ms last M f es (rw (t, any) at q) (R .1)))
 
-moves-none : Moves (N.Root ∷ N.UnresolvedDependency ∷ []) (N.Root ∷ []) 1
+pub moves-none : Moves (N.Root ∷ N.UnresolvedDependency ∷ []) (N.Root ∷ []) 1
 moves-none = record { inside = inside; same = same }
   where
     inside : (x : ℕ) → x < 2 → (x ≡ 1 → ⊥) → renumber 1 x < 1
@@ -147,10 +147,10 @@ moves-none = record { inside = inside; same = same }
     same zero l n = refl
     same (suc x) l n = absurd (n (omega arith))
 
-length-snoc : (ys : List ConflictNode) (z : ConflictNode) → length (snoc ys z) ≡ suc (length ys)
+pub length-snoc : (ys : List ConflictNode) (z : ConflictNode) → length (snoc ys z) ≡ suc (length ys)
 length-snoc ys z = length-append ys (z ∷ []) ∙ omega arith
 
-moves-last : (ys : List ConflictNode) (z : ConflictNode) → Moves (N.Root ∷ N.UnresolvedDependency ∷ snoc ys z) (N.Root ∷ z ∷ ys) (suc (suc (length ys)))
+pub moves-last : (ys : List ConflictNode) (z : ConflictNode) → Moves (N.Root ∷ N.UnresolvedDependency ∷ snoc ys z) (N.Root ∷ z ∷ ys) (suc (suc (length ys)))
 moves-last ys z = record { inside = inside; same = same }
   where
     long : length (snoc ys z) ≡ suc (length ys)
@@ -232,7 +232,7 @@ gone-by T (x ∷ r) es k d l m q R =
     (subst (λ (l : List ConflictNode). Distinct (N.Root ∷ N.UnresolvedDependency ∷ l)) w d) (omega arith) m q
     (subst (λ (l : List ConflictNode). All (Runs (N.Root ∷ N.UnresolvedDependency ∷ l)) es) w R))
 
-graphed-settle : (T : Tables) (G : Graph) → Shaped T G → Graphed T (settle G)
+pub graphed-settle : (T : Tables) (G : Graph) → Shaped T G → Graphed T (settle G)
 unfolding settle
 graphed-settle T G S =
     split (any (λ e. eqb (e .target) 1) (G .edges))
@@ -261,7 +261,7 @@ module _ (T : Tables) (valid : Valid T) where
   build-step n i b d f P (go c) q e = f c (turn-sane i b c P q) (rw (q, buildFrom) at e)
   build-step n i b d f P (halt k g) q e = let z : stopped k i g ≡ built d = rw (q, buildFrom) at e in clash (cc)
 
-  build-sane : (n i : ℕ) (b d : Build) → Sane T b → buildFrom n T i b ≡ built d → Sane T d
+  pub build-sane : (n i : ℕ) (b d : Build) → Sane T b → buildFrom n T i b ≡ built d → Sane T d
   unfolding buildFrom
   build-sane zero i b d P e = let y : b ≡ d = cc in rw (← y) P
   build-sane (suc n) i b d P e = build-step n i b d (λ c Q z. build-sane n (suc i) c d Q z) P (turnAt T i b) refl e

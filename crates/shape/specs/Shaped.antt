@@ -73,7 +73,7 @@ shaped-start T =
 
 -- ---- a node at the end
 
-runs-more : (ns ys : List ConflictNode) (e : Edge) → Runs ns e → Runs (ns ++ ys) e
+pub runs-more : (ns ys : List ConflictNode) (e : Edge) → Runs ns e → Runs (ns ++ ys) e
 runs-more ns ys e R =
     record {
       from = rw length-append (omega (arith, R .from));
@@ -82,7 +82,7 @@ runs-more ns ys e R =
       target-fits = rw (List·getD-append ns ys N.Root (e .target) (R .to)) (R .target-fits);
     }
 
-place-some : (x : ConflictNode) (ns : List ConflictNode) (a i : ℕ) → place (sameNode x) ns a ≡ some i → (j : ℕ) × (i ≡ a + j) × (j < length ns) × (getD ns j N.Root ≡ x)
+pub place-some : (x : ConflictNode) (ns : List ConflictNode) (a i : ℕ) → place (sameNode x) ns a ≡ some i → (j : ℕ) × (i ≡ a + j) × (j < length ns) × (getD ns j N.Root ≡ x)
 place-some x [] a i e = clash (cc)
 place-some x (n ∷ ns) a i e =
     split (sameNode x n)
@@ -91,7 +91,7 @@ place-some x (n ∷ ns) a i e =
     let h : i ≡ suc a + r .0 = r .1 in let l : r .0 < length ns = r .2 in
     (suc (r .0), omega arith, omega arith, r .3))
 
-place-none : (x : ConflictNode) (ns : List ConflictNode) (a : ℕ) → place (sameNode x) ns a ≡ none → In x ns → ⊥
+pub place-none : (x : ConflictNode) (ns : List ConflictNode) (a : ℕ) → place (sameNode x) ns a ≡ none → In x ns → ⊥
 place-none x [] a e i = i
 place-none x (n ∷ ns) a e i =
     split (sameNode x n)
@@ -100,7 +100,7 @@ place-none x (n ∷ ns) a e i =
     (λ q. let z : true ≡ false = sym (same-refl x) ∙ ap (sameNode x) q ∙ t in clash (cc))
     (λ j. place-none x ns (suc a) (rw (t, place) at e) j))
 
-distinct-snoc : (l : List ConflictNode) (a : ConflictNode) → Distinct l → (In a l → ⊥) → Distinct (snoc l a)
+pub distinct-snoc : (l : List ConflictNode) (a : ConflictNode) → Distinct l → (In a l → ⊥) → Distinct (snoc l a)
 distinct-snoc [] a d h = (λ i. i, tt)
 distinct-snoc (x ∷ xs) a d h = (λ i. either (in-append x xs (a ∷ []) i) (d .0) (λ j. either j (λ e. h (inl (sym e))) (λ z. z)), distinct-snoc xs a (d .1) (λ i. h (inr i)))
 

@@ -19,7 +19,7 @@ use Rattle.shape.specs.Shaped.{Known, isEnd, fitsTarget, Runs}
 use Rattle.shape.specs.Graphed.{Graphed, at-in}
 
 -- no node stands at two numbers
-one-number : (ns : List ConflictNode) → Distinct ns → (n m : ℕ) → n < length ns → m < length ns → getD ns n N.Root ≡ getD ns m N.Root → n ≡ m
+pub one-number : (ns : List ConflictNode) → Distinct ns → (n m : ℕ) → n < length ns → m < length ns → getD ns n N.Root ≡ getD ns m N.Root → n ≡ m
 one-number [] d n m h k e = let f : ⊥ = omega arith in absurd f
 one-number (x ∷ ns) d zero zero h k e = refl
 one-number (x ∷ ns) d zero (suc m) h k e = absurd (d .0 (rw e (at-in ns m (omega arith))))
