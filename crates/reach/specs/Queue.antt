@@ -27,12 +27,12 @@ use Rattle.reach.specs.Paths.{Path, here, along, Whole, in-upto, length-
 -- ---- places and elements
 
 module _ {A : Type 0} (d : A) where
-  at-in : (l : List A) (i : ℕ) → i < length l → In (getD l i d) l
+  pub at-in : (l : List A) (i : ℕ) → i < length l → In (getD l i d) l
   at-in [] i h = absurd (not-suc-le-zero h)
   at-in (x ∷ l) zero h = inl refl
   at-in (x ∷ l) (suc i) h = inr (at-in l i (omega arith))
 
-  in-at : (l : List A) (x : A) → In x l → (i : ℕ) × (i < length l) × (getD l i d ≡ x)
+  pub in-at : (l : List A) (x : A) → In x l → (i : ℕ) × (i < length l) × (getD l i d ≡ x)
   in-at [] x j = absurd j
   in-at (y ∷ l) x (inl q) = (0, omega arith, sym q)
   in-at (y ∷ l) x (inr j) = let r = in-at l x j in (suc (r .0), omega (arith, r .1), r .2)
@@ -55,6 +55,18 @@ distinct-snoc (y ∷ l) x d o = (fresh, distinct-snoc l x (d .1) (λ i. o (inr i
   where
     fresh : In y (l ++ (x ∷ [])) → ⊥
     fresh i = either (in-append y l (x ∷ []) i) (d .0) (λ j. either j (λ q. o (inl (sym q))) (λ z. z))
+
+-- ---- edges by number
+
+module _ (g : List ℕ) (s : Size) (S : Stored g s) where
+  pub edge-there : (i : ℕ) → i < s .edges → In (edgeIn g i) (graphIn g s .edges)
+  edge-there i l = rw (edge-in g s S i l) (at-in noEdge (graphIn g s .edges) i (omega (arith, edges-count g s S)))
+
+  pub edge-place : (e : Edge) → In e (graphIn g s .edges) → (i : ℕ) × (i < s .edges) × (edgeIn g i ≡ e)
+  edge-place e j =
+      let r = in-at noEdge (graphIn g s .edges) e j in
+      let l : r .0 < s .edges = omega (arith, r .1, edges-count g s S) in
+      (r .0, l, edge-in g s S (r .0) l ∙ r .2)
 
 -- ---- the promise
 
@@ -211,17 +223,12 @@ module _ (g : List ℕ) (s : Size) (a : ℕ) (ls w : List ℕ) (h t n : ℕ) whe
       record { seen = S; ahead = l; at = out-start g s ls n r C small f; node = sym q; left = λ x i. inl (rw (out-all g s ls n r C small f) i) }
 
   module _ (e : ℕ) (D : Spreading g s a ls w h t n e) (p : 0 < e) where
-    edge-there : In (edgeIn g (e - 1)) (graphIn g s .edges)
-    edge-there =
-        let S : Stored g s = D .seen .stored in
-        let l : e - 1 < s .edges = out-edge g s ls n e (D .at) p in
-        rw (edge-in g s S (e - 1) l) (at-in noEdge (graphIn g s .edges) (e - 1) (omega (arith, edges-count g s S)))
-
     node-path : Path (graphIn g s) a n
     node-path = rw (← D .node) (D .seen .own (getD w h 0) (take-in 0 w t h (D .ahead) (omega (arith, D .seen .wide, D .seen .high))) .2)
 
     target-path : Path (graphIn g s) a (edgeIn g (e - 1) .target)
-    target-path = along (edgeIn g (e - 1)) edge-there (rw (out-source g s ls n e (D .at) p) node-path)
+    target-path =
+        along (edgeIn g (e - 1)) (edge-there g s (D .seen .stored) (e - 1) (out-edge g s ls n e (D .at) p)) (rw (out-source g s ls n e (D .at) p) node-path)
 
     noting : (x k r : ℕ) (v : List ℕ) → x ≡ edgeIn g (e - 1) .target → v ≡ notedIn w t x → k ≡ notedTo w t x → r ≡ nextOut ls (e - 1) → Spreading g s a ls v h k n r
     noting x k r v qx qv qk qr =
@@ -355,11 +362,9 @@ module _ (g : List ℕ) (s : Size) (S : Stored g s) where
     where
       ends : (e : Edge) → In e (graphIn g s .edges) → e .target < length (graphIn g s .nodes)
       ends e i =
-          let r = in-at noEdge (graphIn g s .edges) e i in
-          let l : r .0 < s .edges = omega (arith, r .1, edges-count g s S) in
-          let q : edgeIn g (r .0) ≡ e = edge-in g s S (r .0) l ∙ r .2 in
-          let b : edgeIn g (r .0) .target < s .nodes = target-below g s S (r .0) l in
-          omega (arith, nodes-count g s S, ap (λ (x : Edge). x .target) q)
+          let r = edge-place g s S e i in
+          let b : edgeIn g (r .0) .target < s .nodes = target-below g s S (r .0) (r .1) in
+          omega (arith, nodes-count g s S, ap (λ (x : Edge). x .target) (r .2))
 
 -- from the root the marks are the reached nodes
 marks-reached : (g : List ℕ) (s : Size) (w : List ℕ) → Marked g s 0 w → (n : ℕ) → unmarked w n ≡ not (has n (reached (graphIn g s)))
