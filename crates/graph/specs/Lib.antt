@@ -2,3 +2,4 @@ pub mod Graphs
 pub mod Drawing
 pub mod Exact
 pub mod Cases
+pub mod Files

@@ -4,12 +4,13 @@ ghost use mathlib.Core.Path.{_≡_};
 ghost use Prim.Native.Nat.{_<_, _≤_};
 ghost use lib.ListN.{length, replicate};
 ghost use Rattle.records.specs.Read.{tablesOf};
-ghost use Rattle.index.specs.Index.{Loaded};
+ghost use Rattle.index.specs.Index.{Loaded, Blank};
 ghost use Rattle.store.specs.Graph.{settle};
 ghost use Rattle.store.specs.Table.{graphIn, Growing};
 ghost use Rattle.expansion.specs.Pairing.{buildIn, Holds};
 ghost use Rattle.graph.specs.Graphs.{isLearnt, coreTurn, turnAt, buildFrom, finished, graphOf, leftOf};
 ghost use Rattle.graph.specs.Drawing.{Turns, Builds, Drew};
+ghost use Rattle.graph.specs.Files.{Makes, madeOf};
 use expansion::Progress;
 use expansion::Work;
 use records::Clause;
@@ -31,6 +32,12 @@ pub enum Core {
 pub enum Drawing {
     Whole(Size),
     Refused(u64, u64, Size),
+}
+
+// What a file makes: its graph, or one of the refusals 1 to 9 with its place.
+pub enum Made {
+    Whole(Size),
+    Refused(u64, u64),
 }
 
 // A number as an answer holds it.
@@ -178,6 +185,40 @@ pub fn build(
         Core::Whole(m) => {
             let z = m.size;
             finish(g, ls, z)
+        }
+    }
+}
+
+fn made_of(d: Drawing) -> Made
+    ensures { λ r. ⌜ r ≡ madeOf d ⌝ }
+{
+    match d {
+        Drawing::Whole(s) => Made::Whole(s),
+        Drawing::Refused(k, i, _) => Made::Refused(k, i),
+    }
+}
+
+// From bytes to the graph: every call begins here. The tables come as fresh arrays; on a refusal they are of no use.
+pub fn of_file(
+    file: &[u8],
+    ix: &mut [u16; 10432],
+    g: &mut [u64; 1152],
+    tr: &mut [u64; 1280],
+    ls: &mut [u16; 3456],
+) -> Made
+    requires { ⌜ Blank (now ix) ⌝ }
+    requires { ⌜ now g ≡ replicate 1152 0 ⌝ }
+    requires { ⌜ length (now tr) ≡ 1280 ⌝ }
+    requires { ⌜ now ls ≡ replicate 3456 0 ⌝ }
+    ensures { λ r. ⌜ Makes (now (file .entry)) (now (ix .exit)) (now (g .exit)) (now (ls .exit)) r ⌝ }
+{
+    let a = index::load(file, ix);
+    match a {
+        records::Answer::Refused { number, place } => Made::Refused(number, place),
+        records::Answer::Accepted(c) => {
+            let n = c.clauses;
+            let d = build(file, ix, n, g, tr, ls);
+            made_of(d)
         }
     }
 }

@@ -9,21 +9,16 @@ use lib.Seq.{drop-cons, append-snoc, set-at}
 use lib.Dec.{ltb}
 use borrow.Author.Tests.{lt-ltb, le-ltb}
 use Rattle.basis.specs.Lists.{upto}
-use Rattle.basis.specs.Members.{clash}
-use Rattle.records.specs.declared.Answer.the-variants.{Accepted, Refused}
-use Rattle.records.specs.declared.Counts.{Counts}
-use Rattle.records.specs.declared.Answer.{Answer}
 use Rattle.records.specs.Tables.{Tables}
-use Rattle.records.specs.Read.{Reading, good, bad, readOf, answerOf, tablesIn, tablesOf}
+use Rattle.records.specs.Read.{readOf, tablesOf}
 use Rattle.store.specs.declared.ConflictNode.{ConflictNode}
 use Rattle.store.specs.declared.Size.{Size}
 use Rattle.store.specs.Graph.{Graph, nodeAt}
 use Rattle.store.specs.Table.{graphIn, Stored, nodes-count, number-fits}
 use Rattle.links.specs.Build.{Chains}
-use Rattle.graph.specs.declared.Drawing.{Drawing}
-use Rattle.graph.specs.declared.Drawing.the-variants as D
-use Rattle.graph.specs.Graphs.{Outcome, graphOf}
-use Rattle.graph.specs.Drawing.{Drew, drawingIn}
+use Rattle.graph.specs.declared.Made.{Made}
+use Rattle.graph.specs.declared.Made.the-variants as M
+use Rattle.graph.specs.Files.{Makes, makes-good, makes-graph, makes-refused}
 use Rattle.labels.specs.Labels.{installable, missing}
 use Rattle.labels.specs.Marks.{bitsOf, marksOf, marks-at}
 use Rattle.groups.specs.Groups.{titleOf, leadBy, leadOf}
@@ -179,35 +174,17 @@ module _ (T : Tables) (g : List ℕ) (s : Size) (ls l : List ℕ) (room : ℕ) (
 denied-listed : (X : Nodes) (room : ℕ) (l : List ℕ) (r : Counted) (k p : ℕ) → X ≡ denied k p → r ≡ refusalOf k p → Listed X room l r l
 denied-listed X room l r k p e q = rw e (record { counted = q; written = refl; few = rw q (omega arith); narrow = tt })
 
-pub listed-refused : (file : List ℕ) (a : Answer) (room : ℕ) (l : List ℕ) (r : Counted) (k p : ℕ) → a ≡ Refused k p → a ≡ answerOf (readOf file) → r ≡ refusalOf k p → Listed (nodesOf file) room l r l
-unfolding nodesOf
-listed-refused file a room l r k p e q h = denied-listed (nodesOf file) room l r k p (go (readOf file) (sym e ∙ q)) h
-  where
-    go : (y : Reading) → Refused k p ≡ answerOf y → nodesRead y ≡ denied k p
-    go (bad i j) f = let u : i ≡ k = cc in let v : j ≡ p = cc in rw (u, v)
-    go (good T) f = clash (cc)
+-- m is what the file makes
+module _ (file ix g w : List ℕ) (m : Made) (R : Makes file ix g w m) (room : ℕ) (l : List ℕ) (r : Counted) where
+  pub listed-refused : (k p : ℕ) → m ≡ M.Refused k p → r ≡ refusalOf k p → Listed (nodesOf file) room l r l
+  unfolding nodesOf
+  listed-refused k p e h =
+      denied-listed (nodesOf file) room l r k p
+      (makes-refused file ix g w m R nodesRead denied (λ i j. refl) (λ T i j z. ap (nodesDrawn T) z) k p e)
+      h
 
--- an accepted file's nodes are its graph's
-accepted-nodes : (file : List ℕ) (a : Answer) (c : Counts) → a ≡ Accepted c → a ≡ answerOf (readOf file) → nodesOf file ≡ nodesDrawn (tablesOf file) (graphOf (tablesOf file))
-unfolding nodesOf tablesOf
-accepted-nodes file a c e q = go (readOf file) refl (sym e ∙ q)
-  where
-    go : (y : Reading) → readOf file ≡ y → Accepted c ≡ answerOf y → nodesRead y ≡ nodesDrawn (tablesIn (readOf file)) (graphOf (tablesIn (readOf file)))
-    go (bad k i) f h = clash (cc)
-    go (good T) f h = ap (λ (z : Reading). nodesDrawn (tablesIn z) (graphOf (tablesIn z))) (sym f)
-
-module _ (file : List ℕ) (a : Answer) (c : Counts) (G : Graph) (g w : List ℕ) (d : Drawing) (R : Drew (graphOf (tablesOf file)) G g w d) where
-  drew-nodes : a ≡ Accepted c → a ≡ answerOf (readOf file) → nodesOf file ≡ nodesDrawn (tablesOf file) (drawingIn g d)
-  drew-nodes e q = accepted-nodes file a c e q ∙ ap (nodesDrawn (tablesOf file)) (sym (R .is))
-
-  pub listed-halted : (room : ℕ) (l : List ℕ) (r : Counted) (k p : ℕ) (s : Size) → d ≡ D.Refused k p s → a ≡ Accepted c → a ≡ answerOf (readOf file) → r ≡ refusalOf k p → Listed (nodesOf file) room l r l
-  listed-halted room l r k p s f e q h =
-      denied-listed (nodesOf file) room l r k p (drew-nodes e q ∙ ap (λ (x : Drawing). nodesDrawn (tablesOf file) (drawingIn g x)) f) h
-
-  pub listed-drawn : (room : ℕ) (l : List ℕ) (r : Counted) (ws : List ℕ) (s : Size) → d ≡ D.Whole s → a ≡ Accepted c → a ≡ answerOf (readOf file) → Listed (entered (nodeEntries (tablesOf file) (graphIn g s))) room l r ws → Listed (nodesOf file) room l r ws
-  listed-drawn room l r ws s f e q L =
-      let x : nodesOf file ≡ entered (nodeEntries (tablesOf file) (graphIn g s)) = drew-nodes e q ∙ ap (λ (x : Drawing). nodesDrawn (tablesOf file) (drawingIn g x)) f in
+  pub listed-drawn : (ws : List ℕ) (s : Size) → m ≡ M.Whole s → Listed (entered (nodeEntries (tablesOf file) (graphIn g s))) room l r ws → Listed (nodesOf file) room l r ws
+  unfolding nodesOf
+  listed-drawn ws s e L =
+      let x : nodesOf file ≡ entered (nodeEntries (tablesOf file) (graphIn g s)) = rw (makes-good file ix g w m R s e, makes-graph file ix g w m R s e) in
       rw x L
-
-pub drawn-chained : (X : Outcome) (G : Graph) (g w : List ℕ) (d : Drawing) (s : Size) → Drew X G g w d → d ≡ D.Whole s → Chains g s w
-drawn-chained X G g w d s R f = rw f at (R .chained)

@@ -8,7 +8,7 @@ ghost use Rattle.store.specs.Table.{graphIn};
 ghost use Rattle.links.specs.Build.{Chains};
 ghost use Rattle.nodelist.specs.Nodes.{nodeEntries, entered, nodesOf, refusalOf};
 ghost use Rattle.nodelist.specs.Listed.{Listed};
-use graph::Drawing;
+use graph::Made;
 use store::Size;
 
 // An answer about the node list, and how many entries it fills: none on every refusal.
@@ -99,17 +99,10 @@ fn words_in(
     requires { ⌜ length (now words) ≡ 128 ⌝ }
     ensures { λ r. ⌜ Listed (nodesOf (now (file .entry))) room (now (words .entry)) r (now (words .exit)) ⌝ }
 {
-    let a = index::load(file, ix);
-    match a {
-        records::Answer::Refused { number, place } => refusal(number, place),
-        records::Answer::Accepted(c) => {
-            let n = c.clauses;
-            let d = graph::build(file, ix, n, g, tr, ls);
-            match d {
-                Drawing::Refused(k, i, _) => refusal(k, i),
-                Drawing::Whole(s) => list_drawn(file, ix, g, s, ls, words, room),
-            }
-        }
+    let m = graph::of_file(file, ix, g, tr, ls);
+    match m {
+        Made::Refused(k, p) => refusal(k, p),
+        Made::Whole(s) => list_drawn(file, ix, g, s, ls, words, room),
     }
 }
 

@@ -7,11 +7,8 @@ use native.Mathlib.Omega.{arith}
 use lib.ListN.{length, replicate, getD}
 use lib.Dec.{leb, eqb}
 use borrow.Author.Tests.{le-leb, lt-leb, eq-eqb, ne-eqb, eqb-true, eqb-false}
-use Rattle.records.specs.declared.Answer as Reads
-use Rattle.records.specs.declared.Answer.the-variants.{Accepted, Refused}
-use Rattle.records.specs.declared.Counts.{Counts}
 use Rattle.records.specs.Tables.{Tables}
-use Rattle.records.specs.Read.{Reading, good, bad, readOf, answerOf, tablesOf}
+use Rattle.records.specs.Read.{Reading, good, bad, readOf, tablesOf}
 use Rattle.store.specs.declared.Size.{Size}
 use Rattle.store.specs.Graph.{Graph}
 use Rattle.store.specs.Table.{graphIn, nodes-count}
@@ -19,10 +16,10 @@ use Rattle.links.specs.Build.{Chains}
 use Rattle.groups.specs.Groups.{titleOf, leadOf}
 use Rattle.groups.specs.Leads.{leadsTo, leads-at}
 use Rattle.naming.specs.Naming.{nameOf}
-use Rattle.graph.specs.declared.Drawing.{Drawing}
-use Rattle.graph.specs.declared.Drawing.the-variants as D
+use Rattle.graph.specs.declared.Made.{Made}
+use Rattle.graph.specs.declared.Made.the-variants as M
 use Rattle.graph.specs.Graphs.{Outcome, drawn, refused, graphOf}
-use Rattle.graph.specs.Drawing.{Drew, drawingIn, Chained}
+use Rattle.graph.specs.Files.{Makes, makes-good, makes-graph, makes-refused}
 use Rattle.machine.specs.Units.{Result}
 use Rattle.texts.specs.Wrote.{over}
 use Rattle.drawing.specs.declared.Answer as Drawn
@@ -31,7 +28,7 @@ use Rattle.drawing.specs.Graphviz.{drawShown, answerIn}
 use Rattle.drawing.specs.Same.{Leading, Given, optionOf}
 use Rattle.explanation.specs.Explain.{refusal}
 use Rattle.urzulempa.specs.declared.Answer.{Answer}
-use Rattle.urzulempa.specs.Answers.{refusalOf, read-bad, read-good}
+use Rattle.urzulempa.specs.Answers.{refusalOf}
 
 -- ---- what is right
 
@@ -62,6 +59,10 @@ drawingAs r = record { number = r .number; place = r .place; bytes = r .bytes; u
 
 -- ---- the ways through the code
 
+pub draws-plain : (t : Bool) (T : Tables) (G : Graph) (leads : List ℕ) → t ≡ false → Given t T G leads
+unfolding Given
+draws-plain t T G leads e = rw e tt
+
 pub draws-given : (t : Bool) (T : Tables) (g : List ℕ) (s : Size) (w leads l : List ℕ) → leads ≡ leadsTo (titleOf (nameOf T) (graphIn g s)) (graphIn g s) (s .nodes) l → Chains g s w → length l ≡ 128 → Given t T (graphIn g s) leads
 unfolding Given leadOf
 draws-given false T g s w leads l e C h = tt
@@ -75,48 +76,27 @@ draws-given true T g s w leads l e C h =
 pub draws-answer : (x : Answer) (d : Drawn.Answer) (R : Result) → x ≡ drawingAs d → d ≡ answerIn R → x ≡ resultAnswer R
 draws-answer x d R q e = q ∙ ap drawingAs e
 
--- the graph's answer d taken apart
-module _ (T : Tables) (G : Graph) (g w : List ℕ) (d : Drawing) (X : Drew (graphOf T) G g w d) (opt room : ℕ) where
-  pub after-refused : (x : Answer) (k i : ℕ) (s : Size) → d ≡ D.Refused k i s → x ≡ refusalOf k i → x ≡ resultAnswer (drawBy opt room T (graphOf T))
-  after-refused x k i s e q =
-      let z : graphOf T ≡ refused k i = sym (X .is) ∙ ap (drawingIn g) e in
-      rw z q
-
-  pub after-refused-room : (a : List ℕ) (k i : ℕ) (s : Size) → d ≡ D.Refused k i s → a ≡ over (drawBy opt room T (graphOf T) .text) a
-  after-refused-room a k i s e =
-      let z : graphOf T ≡ refused k i = sym (X .is) ∙ ap (drawingIn g) e in
-      rw z refl
-
-  pub after-whole : (x : Answer) (s : Size) → d ≡ D.Whole s → x ≡ resultAnswer (drawShown (drawnOf opt T (graphIn g s)) room) → x ≡ resultAnswer (drawBy opt room T (graphOf T))
-  after-whole x s e q =
-      let z : graphOf T ≡ drawn (graphIn g s) = sym (X .is) ∙ ap (drawingIn g) e in
-      rw z q
-
-  pub after-whole-room : (a b : List ℕ) (s : Size) → d ≡ D.Whole s → b ≡ over (drawShown (drawnOf opt T (graphIn g s)) room .text) a → b ≡ over (drawBy opt room T (graphOf T) .text) a
-  after-whole-room a b s e q =
-      let z : graphOf T ≡ drawn (graphIn g s) = sym (X .is) ∙ ap (drawingIn g) e in
-      rw z q
-
-  pub after-chains : (s : Size) → d ≡ D.Whole s → Chains g s w
-  after-chains s e = rw e at (X .chained)
-
--- the reader's answer a taken apart
-module _ (file : List ℕ) (a : Reads.Answer) (q : a ≡ answerOf (readOf file)) (opt room : ℕ) where
-  pub bytes-refused : (x : Answer) (k p : ℕ) → a ≡ Refused k p → x ≡ refusalOf k p → x ≡ resultAnswer (drawBytes opt room file)
+-- m is what the file makes
+module _ (file ix g w : List ℕ) (m : Made) (R : Makes file ix g w m) (opt room : ℕ) where
+  unread : (k p : ℕ) → m ≡ M.Refused k p → drawBytes opt room file ≡ refusal k p
   unfolding drawBytes
-  bytes-refused x k p e h = rw (read-bad file a q k p e) h
+  unread k p e = makes-refused file ix g w m R (drawRead opt room) refusal (λ l i. refl) (λ T l i z. ap (drawBy opt room T) z) k p e
 
-  pub bytes-refused-room : (b : List ℕ) (k p : ℕ) → a ≡ Refused k p → b ≡ over (drawBytes opt room file .text) b
+  whole : (s : Size) → m ≡ M.Whole s → drawBytes opt room file ≡ drawShown (drawnOf opt (tablesOf file) (graphIn g s)) room
   unfolding drawBytes
-  bytes-refused-room b k p e = rw (read-bad file a q k p e) refl
+  whole s e = rw (makes-good file ix g w m R s e, makes-graph file ix g w m R s e)
 
-  pub bytes-accepted : (x : Answer) (c : Counts) → a ≡ Accepted c → x ≡ resultAnswer (drawBy opt room (tablesOf file) (graphOf (tablesOf file))) → x ≡ resultAnswer (drawBytes opt room file)
-  unfolding drawBytes
-  bytes-accepted x c e h = rw (read-good file a q c e) h
+  pub bytes-refused : (x : Answer) (k p : ℕ) → m ≡ M.Refused k p → x ≡ refusalOf k p → x ≡ resultAnswer (drawBytes opt room file)
+  bytes-refused x k p e h = rw (unread k p e) h
 
-  pub bytes-accepted-room : (l b : List ℕ) (c : Counts) → a ≡ Accepted c → b ≡ over (drawBy opt room (tablesOf file) (graphOf (tablesOf file)) .text) l → b ≡ over (drawBytes opt room file .text) l
-  unfolding drawBytes
-  bytes-accepted-room l b c e h = rw (read-good file a q c e) h
+  pub bytes-refused-room : (b : List ℕ) (k p : ℕ) → m ≡ M.Refused k p → b ≡ over (drawBytes opt room file .text) b
+  bytes-refused-room b k p e = rw (unread k p e)
+
+  pub bytes-whole : (x : Answer) (s : Size) → m ≡ M.Whole s → x ≡ resultAnswer (drawShown (drawnOf opt (tablesOf file) (graphIn g s)) room) → x ≡ resultAnswer (drawBytes opt room file)
+  bytes-whole x s e h = rw (whole s e) h
+
+  pub bytes-whole-room : (l b : List ℕ) (s : Size) → m ≡ M.Whole s → b ≡ over (drawShown (drawnOf opt (tablesOf file) (graphIn g s)) room .text) l → b ≡ over (drawBytes opt room file .text) l
+  bytes-whole-room l b s e h = rw (whole s e) h
 
 -- the option
 option-is : (opt : ℕ) → opt ≤ 1 → optionOf (eqb opt 1) ≡ opt

@@ -8,11 +8,8 @@ use native.Mathlib.Omega.{arith}
 use lib.ListN.{length, getD, length-set}
 use lib.Dec.{leb, eqb}
 use borrow.Author.Tests.{le-leb, lt-leb}
-use Rattle.records.specs.declared.Answer as Reads
-use Rattle.records.specs.declared.Answer.the-variants.{Accepted, Refused}
-use Rattle.records.specs.declared.Counts.{Counts}
 use Rattle.records.specs.Tables.{Tables}
-use Rattle.records.specs.Read.{readOf, answerOf, tablesOf}
+use Rattle.records.specs.Read.{Reading, good, bad, readOf, tablesOf}
 use Rattle.index.specs.Index.{Loaded}
 use Rattle.index.specs.Found.{loaded-valid, loaded-good}
 use Rattle.store.specs.declared.Size.{Size}
@@ -24,10 +21,10 @@ use Rattle.groups.specs.Groups.{titleOf}
 use Rattle.groups.specs.Groups as Groups
 use Rattle.groups.specs.Leads.{leadsTo, leads-at}
 use Rattle.naming.specs.Naming.{nameOf}
-use Rattle.graph.specs.declared.Drawing.{Drawing}
-use Rattle.graph.specs.declared.Drawing.the-variants as D
-use Rattle.graph.specs.Graphs.{Outcome, drawn, refused, graphOf}
-use Rattle.graph.specs.Drawing.{Drew, drawingIn}
+use Rattle.graph.specs.declared.Made.{Made}
+use Rattle.graph.specs.declared.Made.the-variants as M
+use Rattle.graph.specs.Graphs.{drawn, refused, graphOf}
+use Rattle.graph.specs.Files.{Makes, makes-refused}
 use Rattle.shape.specs.Graphed.{Graphed, graphed}
 use Rattle.machine.specs.Units.{Result}
 use Rattle.texts.specs.Wrote.{Wrote, over}
@@ -42,7 +39,7 @@ use Rattle.explanation.specs.Explain.{explainFile, explainTables, refusal}
 use Rattle.explanation.specs.Contract.{ExplainedFile, planned-ready, answered-file, file-unique}
 use Rattle.drawing.specs.Same.{optionOf}
 use Rattle.urzulempa.specs.declared.Answer.{Answer}
-use Rattle.urzulempa.specs.Answers.{refusalOf, read-bad}
+use Rattle.urzulempa.specs.Answers.{refusalOf}
 
 -- an answer with the text that it counts
 abbrev pub resultBy : Answer → List ℕ → Result
@@ -125,19 +122,19 @@ nothing file opt out k p h = record { text = []; is = record { turns = 0; so = h
 pub says-option : (file : List ℕ) (opt : ℕ) (out : List ℕ) (r : Answer) → 1 < opt → r ≡ refusalOf 12 0 → Says file opt out out r
 says-option file opt out r h q = rw q (nothing file opt out 12 0 (rw (lt-leb opt 1 h, explainFile)))
 
-module _ (file : List ℕ) (a : Reads.Answer) (q : a ≡ answerOf (readOf file)) where
-  pub says-read : (t : Bool) (out : List ℕ) (r : Answer) (k p : ℕ) → a ≡ Refused k p → r ≡ refusalOf k p → Says file (optionOf t) out out r
-  says-read t out r k p e h =
-      rw h (nothing file (optionOf t) out k p (rw (le-leb (optionOf t) 1 (option-low t), explainFile, read-bad file a q k p e)))
+-- what reading leads to, before a turn is taken
+abbrev explainRead : ℕ → ℕ → Reading → Option Result
+explainRead opt room (bad k p) = some (refusal k p)
+explainRead opt room (good T) = explainTables 0 T opt room
 
-module _ (file ix g w : List ℕ) (G : Graph) (d : Drawing) (L : Loaded file ix) (X : Drew (graphOf (tablesOf file)) G g w d) where
-  pub says-halted : (t : Bool) (out : List ℕ) (r : Answer) (k p : ℕ) (s : Size) → d ≡ D.Refused k p s → r ≡ refusalOf k p → Says file (optionOf t) out out r
-  says-halted t out r k p s e h =
-      let z : graphOf (tablesOf file) ≡ refused k p = sym (X .is) ∙ ap (drawingIn g) e in
-      rw h (nothing file (optionOf t) out k p (rw (le-leb (optionOf t) 1 (option-low t), explainFile, loaded-good file ix L, z, explainTables)))
-
-  pub halted-drawn : (s : Size) → d ≡ D.Whole s → graphOf (tablesOf file) ≡ drawn (graphIn g s)
-  halted-drawn s e = sym (X .is) ∙ ap (drawingIn g) e
+-- m is what the file makes
+module _ (file ix g w : List ℕ) (m : Made) (R : Makes file ix g w m) where
+  pub says-refused : (t : Bool) (out : List ℕ) (r : Answer) (k p : ℕ) → m ≡ M.Refused k p → r ≡ refusalOf k p → Says file (optionOf t) out out r
+  says-refused t out r k p e h =
+      rw h
+      (nothing file (optionOf t) out k p
+      (rw (le-leb (optionOf t) 1 (option-low t), explainFile)
+      (makes-refused file ix g w m R (explainRead (optionOf t) (length out)) (λ l i. some (refusal l i)) (λ l i. refl) (λ T l i z. rw (z, explainTables)) k p e)))
 
 -- ---- the option
 

@@ -2,9 +2,9 @@
 ghost use mathlib.Core.Path.{_≡_};
 ghost use lib.ListN.{length, replicate};
 ghost use Rattle.index.specs.Index.{Blank};
-ghost use Rattle.urzulempa.specs.Answers.{refusalOf, drawingAnswer, checkOf};
+ghost use Rattle.urzulempa.specs.Answers.{refusalOf, checkOf};
 use crate::Answer;
-use graph::Drawing;
+use graph::Made;
 
 // "the last three are 0 for 1 to 9 and 12"; 0 means done.
 pub fn refusal(number: u64, place: u64) -> Answer
@@ -26,16 +26,7 @@ pub fn wide(x: usize) -> u64
     x as u64
 }
 
-// A graph that is drawn is done; 7, 8 and 9 are as the graph says.
-pub fn drawn(d: Drawing) -> Answer
-    ensures { λ r. ⌜ r ≡ drawingAnswer d ⌝ }
-{
-    match d {
-        Drawing::Whole(_) => refusal(0, 0),
-        Drawing::Refused(k, i, _) => refusal(k, i),
-    }
-}
-
+// A graph that is drawn is done.
 pub fn check_in(
     file: &[u8],
     ix: &mut [u16; 10432],
@@ -49,13 +40,9 @@ pub fn check_in(
     requires { ⌜ now ls ≡ replicate 3456 0 ⌝ }
     ensures { λ r. ⌜ r ≡ checkOf (now (file .entry)) ⌝ }
 {
-    let a = index::load(file, ix);
-    match a {
-        records::Answer::Refused { number, place } => refusal(number, place),
-        records::Answer::Accepted(c) => {
-            let n = c.clauses;
-            let d = graph::build(file, ix, n, g, tr, ls);
-            drawn(d)
-        }
+    let m = graph::of_file(file, ix, g, tr, ls);
+    match m {
+        Made::Refused(k, p) => refusal(k, p),
+        Made::Whole(_) => refusal(0, 0),
     }
 }

@@ -6,8 +6,7 @@ ghost use Rattle.records.specs.Read.{tablesOf};
 ghost use Rattle.index.specs.Index.{Loaded, Blank};
 ghost use Rattle.store.specs.Table.{graphIn};
 ghost use Rattle.links.specs.Build.{Chains};
-ghost use Rattle.graph.specs.Graphs.{graphOf, leftOf, drawn};
-ghost use Rattle.graph.specs.Drawing.{Drew};
+ghost use Rattle.graph.specs.Graphs.{graphOf, drawn};
 ghost use Rattle.plan.specs.Plan.{shownOf};
 ghost use Rattle.plan.specs.Planned.{Planned};
 ghost use Rattle.planning.specs.Building.{FreshPlan};
@@ -17,7 +16,7 @@ use crate::Answer;
 use crate::checks::refusal;
 use crate::checks::wide;
 use explanation::walk::Told;
-use graph::Drawing;
+use graph::Made;
 use store::Size;
 
 // Labels, groups, then the plan.
@@ -78,27 +77,6 @@ fn explain_whole(
     told(t)
 }
 
-// What building answered.
-fn explain_built(
-    file: &[u8],
-    ix: &[u16; 10432],
-    g: &[u64; 1152],
-    ls: &[u16; 3456],
-    p: &mut [u64; 1280],
-    d: Drawing,
-    top: bool,
-    room: &mut [u8],
-) -> Answer
-    requires { ⌜ Loaded (now file) (now ix) ⌝ }
-    requires { ⌜ Drew (graphOf (tablesOf (now file))) (leftOf (tablesOf (now file))) (now g) (now ls) d ⌝ }
-    ensures { λ r. ⌜ Says (now (file .entry)) (optionOf top) (now (room .entry)) (now (room .exit)) r ⌝ }
-{
-    match d {
-        Drawing::Refused(k, i, _) => refusal(k, i),
-        Drawing::Whole(s) => explain_whole(file, ix, g, s, ls, p, top, room),
-    }
-}
-
 pub fn explain_in(
     file: &[u8],
     top: bool,
@@ -114,13 +92,9 @@ pub fn explain_in(
     requires { ⌜ now ls ≡ replicate 3456 0 ⌝ }
     ensures { λ r. ⌜ Says (now (file .entry)) (optionOf top) (now (room .entry)) (now (room .exit)) r ⌝ }
 {
-    let a = index::load(file, ix);
-    match a {
-        records::Answer::Refused { number, place } => refusal(number, place),
-        records::Answer::Accepted(c) => {
-            let n = c.clauses;
-            let d = graph::build(file, ix, n, g, tr, ls);
-            explain_built(file, ix, g, ls, tr, d, top, room)
-        }
+    let m = graph::of_file(file, ix, g, tr, ls);
+    match m {
+        Made::Refused(k, p) => refusal(k, p),
+        Made::Whole(s) => explain_whole(file, ix, g, s, ls, tr, top, room),
     }
 }

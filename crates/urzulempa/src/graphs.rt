@@ -6,16 +6,14 @@ ghost use Rattle.records.specs.Read.{tablesOf};
 ghost use Rattle.index.specs.Index.{Loaded, Blank};
 ghost use Rattle.store.specs.Table.{graphIn};
 ghost use Rattle.links.specs.Build.{Chains};
-ghost use Rattle.graph.specs.Graphs.{graphOf, leftOf};
-ghost use Rattle.graph.specs.Drawing.{Drew};
 ghost use Rattle.drawing.specs.Draw.{drawnOf};
 ghost use Rattle.drawing.specs.Graphviz.{drawShown};
-ghost use Rattle.drawing.specs.Same.{optionOf};
-ghost use Rattle.urzulempa.specs.Draws.{resultAnswer, drawingAs, drawBy, drawBytes};
+ghost use Rattle.drawing.specs.Same.{Given, optionOf};
+ghost use Rattle.urzulempa.specs.Draws.{resultAnswer, drawingAs, drawBytes};
 use crate::Answer;
 use crate::checks::refusal;
 use crate::checks::wide;
-use graph::Drawing;
+use graph::Made;
 use store::Size;
 
 fn answer(d: drawing::Answer) -> Answer
@@ -27,6 +25,27 @@ fn answer(d: drawing::Answer) -> Answer
         bytes: wide(d.bytes),
         units: wide(d.units),
         depth: wide(d.depth),
+    }
+}
+
+// The groups' first members, where they are asked for.
+fn lead_if(
+    file: &[u8],
+    ix: &[u16; 10432],
+    g: &[u64; 1152],
+    s: Size,
+    ls: &[u16; 3456],
+    simplify: bool,
+    leads: &mut [u16; 128],
+)
+    requires { ⌜ Loaded (now file) (now ix) ⌝ }
+    requires { ⌜ Chains (now g) s (now ls) ⌝ }
+    requires { ⌜ length (now leads) ≡ 128 ⌝ }
+    ensures { λ _. ⌜ Given simplify (tablesOf (now (file .entry))) (graphIn (now (g .entry)) s) (now (leads .exit)) ⌝ }
+{
+    if simplify {
+        naming::group_named(file, ix, g, s, ls, leads);
+        return;
     }
 }
 
@@ -46,30 +65,9 @@ fn draw_whole(
     ensures { λ _. ⌜ now (room .exit) ≡ over (drawShown (drawnOf (optionOf simplify) (tablesOf (now (file .entry))) (graphIn (now (g .entry)) s)) (length (now (room .entry))) .text) (now (room .entry)) ⌝ }
 {
     let mut leads = [0u16; 128];
-    naming::group_named(file, ix, g, s, ls, &mut leads);
+    lead_if(file, ix, g, s, ls, simplify, &mut leads);
     let d = drawing::draw(file, ix, g, s, ls, &leads, simplify, room);
     answer(d)
-}
-
-// What building answered.
-fn draw_built(
-    file: &[u8],
-    ix: &[u16; 10432],
-    g: &[u64; 1152],
-    ls: &[u16; 3456],
-    d: Drawing,
-    simplify: bool,
-    room: &mut [u8],
-) -> Answer
-    requires { ⌜ Loaded (now file) (now ix) ⌝ }
-    requires { ⌜ Drew (graphOf (tablesOf (now file))) (leftOf (tablesOf (now file))) (now g) (now ls) d ⌝ }
-    ensures { λ r. ⌜ r ≡ resultAnswer (drawBy (optionOf simplify) (length (now (room .entry))) (tablesOf (now (file .entry))) (graphOf (tablesOf (now (file .entry))))) ⌝ }
-    ensures { λ _. ⌜ now (room .exit) ≡ over (drawBy (optionOf simplify) (length (now (room .entry))) (tablesOf (now (file .entry))) (graphOf (tablesOf (now (file .entry)))) .text) (now (room .entry)) ⌝ }
-{
-    match d {
-        Drawing::Refused(k, i, _) => refusal(k, i),
-        Drawing::Whole(s) => draw_whole(file, ix, g, s, ls, simplify, room),
-    }
 }
 
 pub fn draw_in(
@@ -88,13 +86,9 @@ pub fn draw_in(
     ensures { λ r. ⌜ r ≡ resultAnswer (drawBytes (optionOf simplify) (length (now (room .entry))) (now (file .entry))) ⌝ }
     ensures { λ _. ⌜ now (room .exit) ≡ over (drawBytes (optionOf simplify) (length (now (room .entry))) (now (file .entry)) .text) (now (room .entry)) ⌝ }
 {
-    let a = index::load(file, ix);
-    match a {
-        records::Answer::Refused { number, place } => refusal(number, place),
-        records::Answer::Accepted(c) => {
-            let n = c.clauses;
-            let d = graph::build(file, ix, n, g, tr, ls);
-            draw_built(file, ix, g, ls, d, simplify, room)
-        }
+    let m = graph::of_file(file, ix, g, tr, ls);
+    match m {
+        Made::Refused(k, p) => refusal(k, p),
+        Made::Whole(s) => draw_whole(file, ix, g, s, ls, simplify, room),
     }
 }
