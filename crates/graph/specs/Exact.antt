@@ -1,4 +1,4 @@
--- What `build` promises determines its answer and every word of the graph's table.
+-- What `build` and `of_file` promise determines their answers and every word of a drawn graph's table.
 use mathlib.Core.Path.{_≡_, refl, sym, ap, _∙_}
 use mathlib.Core.List.{List}
 use Prim.Native.Nat.{ℕ}
@@ -11,6 +11,9 @@ use Rattle.graph.specs.declared.Drawing.{Drawing}
 use Rattle.graph.specs.declared.Drawing.the-variants as D
 use Rattle.graph.specs.Graphs.{Outcome, drawn, refused}
 use Rattle.graph.specs.Drawing.{drawingSize, Drew}
+use Rattle.graph.specs.declared.Made.{Made}
+use Rattle.graph.specs.declared.Made.the-variants as M
+use Rattle.graph.specs.Files.{Makes}
 
 module _ (X : Outcome) (G : Graph) (g h w v : List ℕ) where
   pub drew-table : (r q : Drawing) → Drew X G g w r → Drew X G h v q → g ≡ h
@@ -26,6 +29,23 @@ module _ (X : Outcome) (G : Graph) (g h w v : List ℕ) where
   drew-answer (D.Refused k i s) (D.Refused l j t) R Q =
       let z : refused k i ≡ refused l j = R .is ∙ sym (Q .is) in
       let y : s ≡ t = sizes (D.Refused k i s) (D.Refused l j t) R Q in
+      let a : k ≡ l = cc in
+      let b : i ≡ j = cc in
+      cc
+
+module _ (file ix iy g h w v : List ℕ) where
+  same-graph : (s t : Size) → Makes file ix g w (M.Whole s) → Makes file iy h v (M.Whole t) → graphIn g s ≡ graphIn h t
+  same-graph s t R Q = let z : drawn (graphIn g s) ≡ drawn (graphIn h t) = R .is ∙ sym (Q .is) in cc
+
+  pub makes-table : (s t : Size) → Makes file ix g w (M.Whole s) → Makes file iy h v (M.Whole t) → g ≡ h
+  makes-table s t R Q = table-one g h s t (R .standing .1 .stored) (Q .standing .1 .stored) (same-graph s t R Q)
+
+  pub makes-answer : (r q : Made) → Makes file ix g w r → Makes file iy h v q → r ≡ q
+  makes-answer (M.Whole s) (M.Whole t) R Q = ap M.Whole (size-one g h s t (R .standing .1 .stored) (Q .standing .1 .stored) (same-graph s t R Q))
+  makes-answer (M.Whole s) (M.Refused k i) R Q = let z : drawn (graphIn g s) ≡ refused k i = R .is ∙ sym (Q .is) in clash (cc)
+  makes-answer (M.Refused k i) (M.Whole t) R Q = let z : refused k i ≡ drawn (graphIn h t) = R .is ∙ sym (Q .is) in clash (cc)
+  makes-answer (M.Refused k i) (M.Refused l j) R Q =
+      let z : refused k i ≡ refused l j = R .is ∙ sym (Q .is) in
       let a : k ≡ l = cc in
       let b : i ≡ j = cc in
       cc

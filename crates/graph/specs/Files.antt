@@ -48,10 +48,6 @@ pub record Makes (file ix g w : List ℕ) (r : Made) : Type 0 where
   pub is : madeIn g r ≡ outcomeOf file
   pub standing : Standing file ix g w r
 
--- two answers that it allows for one graph's table are equal in all but the size, which the graph determines (store/specs/Exact.antt)
-pub makes-same : (file ix iy g h w v : List ℕ) (r q : Made) → Makes file ix g w r → Makes file iy h v q → madeIn g r ≡ madeIn h q
-makes-same file ix iy g h w v r q R Q = R .is ∙ sym (Q .is)
-
 -- ---- the ways through the code
 
 -- the number and the values of document 01 for each case of the graph's answer

@@ -1,5 +1,5 @@
 pub mod Graphs
 pub mod Drawing
+pub mod Files
 pub mod Exact
 pub mod Cases
-pub mod Files

@@ -159,7 +159,7 @@ fn finish(g: &mut [u64; 1152], ls: &mut [u16; 3456], s: Size) -> Drawing
 }
 
 // The graph of a file with n clauses. The tables come as fresh arrays; ls holds the chains of a graph that is drawn.
-pub fn build(
+fn build(
     file: &[u8],
     ix: &[u16; 10432],
     n: usize,
