@@ -124,8 +124,7 @@ says-option file opt out r h q = rw q (nothing file opt out 12 0 (rw (lt-leb opt
 
 -- what reading leads to, before a turn is taken
 abbrev explainRead : ℕ → ℕ → Reading → Option Result
-explainRead opt room (bad k p) = some (refusal k p)
-explainRead opt room (good T) = explainTables 0 T opt room
+explainRead opt room y = elim y [ bad k p ↦ some (refusal k p) | good T ↦ explainTables 0 T opt room ]
 
 -- m is what the file makes
 module _ (file ix g w : List ℕ) (m : Made) (R : Makes file ix g w m) where
