@@ -53,24 +53,52 @@ const REPLACEMENTS: &[Replacement] = &[
         from: "debug_assert_ne!(selected.positive().eval(decision_map), Some(false));",
         to: "",
     },
-    // Refusals 7 and 8 name the core clause at hand; 7 stands before the `unreachable!`.
+    // Refusals 7 and 8 name the core clause at hand; 7 stands before the `unreachable!`. Each node and each edge notes that
+    // clause as it is added, so `add_node` is handed what keeps the notes: see `limits`.
+    Replacement {
+        name: "what keeps the clause at hand",
+        matches: 1,
+        from: "let state = &solver.state;",
+        to: "let state = &solver.state;
+        let progress = &state.progress;",
+    },
     Replacement {
         name: "clause at hand",
         matches: 1,
         from: "let clause = &state.clauses.kinds[clause_id.to_index()];",
-        to: "let clause = state.limits.enter(*clause_id, &state.clauses.kinds);",
+        to: "let clause = progress.enter(*clause_id, &state.clauses.kinds);",
     },
     Replacement {
-        name: "limit of nodes",
+        name: "add_node's parameters",
+        matches: 1,
+        from: "fn add_node<S: SolverId>(",
+        to: "fn add_node<S: SolverId>(
+        progress: &crate::limits::Progress,",
+    },
+    Replacement {
+        name: "calls of add_node",
+        matches: 12,
+        from: "Self::add_node(&mut graph,",
+        to: "Self::add_node(progress, &mut graph,",
+    },
+    Replacement {
+        name: "limit and clause of a node",
         matches: 3,
         from: "graph.add_node(",
-        to: "graph.room_for_node().add_node(",
+        to: "graph.noting_node(progress).add_node(",
     },
     Replacement {
-        name: "limit of edges",
+        name: "limit and clause of an edge",
         matches: 8,
         from: "graph.add_edge(",
-        to: "graph.room_for_edge().add_edge(",
+        to: "graph.noting_edge(progress).add_edge(",
+    },
+    Replacement {
+        name: "clauses of nodes when unresolved goes",
+        matches: 1,
+        from: "graph.remove_node(unresolved_node);",
+        to: "progress.gone(unresolved_node);
+            graph.remove_node(unresolved_node);",
     },
     // Refusal 9 names the lowest node that the assert only counts; the assert itself stays.
     Replacement {

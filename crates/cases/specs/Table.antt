@@ -40,9 +40,9 @@ pub record Case : Type 0 where
 abbrev answer : ℕ → ℕ → ℕ → ℕ → ℕ → Answer
 answer n p b u d = record { number = n; place = p; bytes = b; units = u; depth = d }
 
--- kind (0 root, 1 solvable, 2 unresolved), number, group, installable, missing
-abbrev node : ℕ → ℕ → ℕ → ℕ → ℕ → NodeEntry
-node k n g i m = record { kind = k; number = n; group = g; installable = i; missing = m }
+-- kind (0 root, 1 solvable, 2 unresolved), number, group, installable, missing, clause
+abbrev node : ℕ → ℕ → ℕ → ℕ → ℕ → ℕ → NodeEntry
+node k n g i m c = record { kind = k; number = n; group = g; installable = i; missing = m; clause = c }
 
 -- refused by 1 to 9, whatever the room
 abbrev refusedCase : List ℕ → ℕ → ℕ → Case
@@ -50,7 +50,7 @@ refusedCase file k p = record { file = file; option = 0; rooms = atLeast 0; answ
 
 -- "P1 no records."
 abbrev pub p1 : Case
-p1 = record { file = []; option = 0; rooms = atLeast 0; answer = answer 0 0 0 0 0; text = []; nodes = entered (node 0 0 0 1 0 ∷ []); bound = 0 }
+p1 = record { file = []; option = 0; rooms = atLeast 0; answer = answer 0 0 0 0 0; text = []; nodes = entered (node 0 0 0 1 0 65535 ∷ []); bound = 0 }
 
 -- "P2 33 bytes: 1."
 abbrev pub p2 : Case
@@ -68,7 +68,7 @@ p3-outside =
       rooms = atLeast 67;
       answer = answer 0 0 67 2 0;
       text = printed loneLines;
-      nodes = entered (node 0 0 0 1 0 ∷ node 1 0 1 1 0 ∷ []);
+      nodes = entered (node 0 0 0 1 0 65535 ∷ node 1 0 1 1 0 0 ∷ []);
       bound = 1;
     }
 
@@ -81,7 +81,7 @@ p4-most =
       rooms = atLeast 709;
       answer = answer 0 0 709 2 0;
       text = wideText;
-      nodes = entered (node 0 0 0 1 0 ∷ node 1 125 1 1 0 ∷ map (λ i. node 1 i 1 1 0) (upto 125 0));
+      nodes = entered (node 0 0 0 1 0 65535 ∷ node 1 125 1 1 0 1 ∷ map (λ i. node 1 i 1 1 0 1) (upto 125 0));
       bound = 1;
     }
 
@@ -101,7 +101,7 @@ p6 = record { file = badLength; option = 2; rooms = atLeast 0; answer = refusalO
 
 -- P7: "All four nodes are missing, none installable. Option 0, 155 bytes"
 abbrev pub replayNodes : List NodeEntry
-replayNodes = node 0 0 0 0 1 ∷ node 2 0 1 0 1 ∷ node 1 0 2 0 1 ∷ node 1 1 2 0 1 ∷ []
+replayNodes = node 0 0 0 0 1 65535 ∷ node 2 0 1 0 1 65535 ∷ node 1 0 2 0 1 0 ∷ node 1 1 2 0 1 0 ∷ []
 
 abbrev pub p7 : Case
 p7 =
@@ -137,7 +137,7 @@ p9 =
       rooms = atLeast 296;
       answer = answer 11 0 296 5 2;
       text = printed deckLines;
-      nodes = entered (node 0 0 0 0 0 ∷ node 1 1 1 0 0 ∷ node 1 0 2 0 0 ∷ []);
+      nodes = entered (node 0 0 0 0 0 65535 ∷ node 1 1 1 0 0 1 ∷ node 1 0 2 0 0 0 ∷ []);
       bound = 2;
     }
 
@@ -150,7 +150,7 @@ p10 =
       rooms = atLeast 419;
       answer = answer 0 0 419 7 3;
       text = printed pairLines;
-      nodes = entered (node 0 0 0 0 0 ∷ node 1 2 1 0 0 ∷ node 1 0 2 0 0 ∷ node 1 1 1 0 0 ∷ []);
+      nodes = entered (node 0 0 0 0 0 65535 ∷ node 1 2 1 0 0 1 ∷ node 1 0 2 0 0 0 ∷ node 1 1 1 0 0 1 ∷ []);
       bound = 3;
     }
 
@@ -163,7 +163,7 @@ p11 =
       rooms = atLeast 67;
       answer = answer 0 0 67 2 0;
       text = printed loneLines;
-      nodes = entered (node 0 0 0 1 0 ∷ node 1 0 1 1 0 ∷ []);
+      nodes = entered (node 0 0 0 1 0 65535 ∷ node 1 0 1 1 0 0 ∷ []);
       bound = 1;
     }
 
@@ -191,7 +191,7 @@ deckSecond =
       rooms = atLeast 296;
       answer = answer 11 1 296 5 2;
       text = printed deckLines;
-      nodes = entered (node 0 0 0 0 0 ∷ node 1 0 1 0 0 ∷ node 1 1 2 0 0 ∷ []);
+      nodes = entered (node 0 0 0 0 0 65535 ∷ node 1 0 1 0 0 1 ∷ node 1 1 2 0 0 0 ∷ []);
       bound = 2;
     }
 
@@ -204,7 +204,7 @@ twoRuns =
       rooms = atLeast 454;
       answer = answer 0 0 454 8 2;
       text = printed deskLines;
-      nodes = entered (node 0 0 0 0 1 ∷ node 2 0 1 0 1 ∷ node 1 0 2 0 1 ∷ node 1 1 3 0 1 ∷ node 1 2 4 0 1 ∷ []);
+      nodes = entered (node 0 0 0 0 1 65535 ∷ node 2 0 1 0 1 65535 ∷ node 1 0 2 0 1 0 ∷ node 1 1 3 0 1 1 ∷ node 1 2 4 0 1 2 ∷ []);
       bound = 3;
     }
 

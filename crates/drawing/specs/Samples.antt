@@ -1,7 +1,7 @@
 -- P7 of document 01 as graph text: the definitions computed.
 use mathlib.Core.Path.{_≡_, refl}
 use mathlib.Core.List.{List, [], _∷_}
-use Prim.Native.Nat.{ℕ}
+use Prim.Native.Nat.{ℕ, _+_}
 use lib.ListN.{length}
 use Rattle.basis.specs.Quote.{utf8}
 use Rattle.records.specs.Shapes.{Rec}
@@ -32,13 +32,15 @@ tables =
     }
 
 abbrev edge : ℕ → ℕ → ℕ → Edge
-edge x y q = record { source = x; target = y; weight = W.Requires q }
+edge x y q = record { source = x; target = y; weight = W.Requires q; clause = x + y }
 
 abbrev graph : Graph
 graph =
     record {
       nodes = N.Root ∷ N.UnresolvedDependency ∷ N.Solvable 0 ∷ N.Solvable 1 ∷ [];
       edges = edge 0 2 0 ∷ edge 0 3 0 ∷ edge 2 1 1 ∷ edge 3 1 1 ∷ [];
+      firsts = [];
+      hand = 9;
     }
 
 abbrev shown : ℕ → ℕ → Result

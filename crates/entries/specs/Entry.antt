@@ -7,59 +7,67 @@ use lib.ListN.{length, getD, take, drop, set, length-set, length-map, length-tak
 use lib.Seq.{take-suc, drop-cons, append-snoc, set-at, length-take-le}
 use Rattle.entries.specs.declared.NodeEntry.{NodeEntry}
 
--- "kind and number as in `ConflictNode`, 0 where it has none; group the node number of its first member", "both labels"
+-- "kind and number as in `ConflictNode`, 0 where it has none; group the node number of its first member", "both labels", "the clause that
+-- first added it"
 abbrev pub entryOf : ℕ → NodeEntry
-entryOf w = record { kind = w % 65536; number = w / 65536 % 65536; group = w / 4294967296 % 65536; installable = w / 281474976710656 % 256; missing = w / 72057594037927936 % 256 }
+entryOf w = record { kind = w % 256; number = w / 256 % 65536; group = w / 16777216 % 256; installable = w / 4294967296 % 256; missing = w / 1099511627776 % 256; clause = w / 281474976710656 % 65536 }
 
 -- an entry as one word, its first field lowest
 abbrev pub wordOf : NodeEntry → ℕ
-wordOf e = e .kind + 65536 * e .number + 4294967296 * e .group + 281474976710656 * e .installable + 72057594037927936 * e .missing
+wordOf e = e .kind + 256 * e .number + 16777216 * e .group + 4294967296 * e .installable + 1099511627776 * e .missing + 281474976710656 * e .clause
 
--- each field keeps to its width: 16 bits, and 8 for a label
+-- each field keeps to its width in the word: 16 bits for a number and a clause, 8 for the others
 pub record Narrow (e : NodeEntry) : Type 0 where
-  pub kind-fits : e .kind < 65536
+  pub kind-fits : e .kind < 256
   pub number-fits : e .number < 65536
-  pub group-fits : e .group < 65536
+  pub group-fits : e .group < 256
   pub installable-fits : e .installable < 256
   pub missing-fits : e .missing < 256
+  pub clause-fits : e .clause < 65536
 
-module _ (k n g i m : ℕ) (hk : k < 65536) (hn : n < 65536) (hg : g < 65536) (hi : i < 256) (hm : m < 256) where
+module _ (k n g i m c : ℕ) (hk : k < 256) (hn : n < 65536) (hg : g < 256) (hi : i < 256) (hm : m < 256) (hc : c < 65536) where
   abbrev word : ℕ
-  word = k + 65536 * n + 4294967296 * g + 281474976710656 * i + 72057594037927936 * m
+  word = k + 256 * n + 16777216 * g + 4294967296 * i + 1099511627776 * m + 281474976710656 * c
 
-  at-kind : word % 65536 ≡ k
+  at-kind : word % 256 ≡ k
   at-kind = omega (arith, hk)
 
-  at-number : word / 65536 % 65536 ≡ n
+  at-number : word / 256 % 65536 ≡ n
   at-number =
-      let q : word / 65536 ≡ n + 65536 * g + 4294967296 * i + 1099511627776 * m = omega (arith, hk) in
-      let r : (n + 65536 * g + 4294967296 * i + 1099511627776 * m) % 65536 ≡ n = omega (arith, hn) in
+      let q : word / 256 ≡ n + 65536 * g + 16777216 * i + 4294967296 * m + 1099511627776 * c = omega (arith, hk) in
+      let r : (n + 65536 * g + 16777216 * i + 4294967296 * m + 1099511627776 * c) % 65536 ≡ n = omega (arith, hn) in
       rw q r
 
-  at-group : word / 4294967296 % 65536 ≡ g
+  at-group : word / 16777216 % 256 ≡ g
   at-group =
-      let q : word / 4294967296 ≡ g + 65536 * i + 16777216 * m = omega (arith, hk, hn) in
-      let r : (g + 65536 * i + 16777216 * m) % 65536 ≡ g = omega (arith, hg) in
+      let q : word / 16777216 ≡ g + 256 * i + 65536 * m + 16777216 * c = omega (arith, hk, hn) in
+      let r : (g + 256 * i + 65536 * m + 16777216 * c) % 256 ≡ g = omega (arith, hg) in
       rw q r
 
-  at-installable : word / 281474976710656 % 256 ≡ i
+  at-installable : word / 4294967296 % 256 ≡ i
   at-installable =
-      let q : word / 281474976710656 ≡ i + 256 * m = omega (arith, hk, hn, hg) in
-      let r : (i + 256 * m) % 256 ≡ i = omega (arith, hi) in
+      let q : word / 4294967296 ≡ i + 256 * m + 65536 * c = omega (arith, hk, hn, hg) in
+      let r : (i + 256 * m + 65536 * c) % 256 ≡ i = omega (arith, hi) in
       rw q r
 
-  at-missing : word / 72057594037927936 % 256 ≡ m
+  at-missing : word / 1099511627776 % 256 ≡ m
   at-missing =
-      let q : word / 72057594037927936 ≡ m = omega (arith, hk, hn, hg, hi) in
-      let r : m % 256 ≡ m = omega (arith, hm) in
+      let q : word / 1099511627776 ≡ m + 256 * c = omega (arith, hk, hn, hg, hi) in
+      let r : (m + 256 * c) % 256 ≡ m = omega (arith, hm) in
       rw q r
 
-  fields-back : entryOf word ≡ record { kind = k; number = n; group = g; installable = i; missing = m }
-  fields-back = rw (at-kind, at-number, at-group, at-installable, at-missing)
+  at-clause : word / 281474976710656 % 65536 ≡ c
+  at-clause =
+      let q : word / 281474976710656 ≡ c = omega (arith, hk, hn, hg, hi, hm) in
+      let r : c % 65536 ≡ c = omega (arith, hc) in
+      rw q r
+
+  fields-back : entryOf word ≡ record { kind = k; number = n; group = g; installable = i; missing = m; clause = c }
+  fields-back = rw (at-kind, at-number, at-group, at-installable, at-missing, at-clause)
 
 -- what is packed comes back
 pub entry-word : (e : NodeEntry) → Narrow e → entryOf (wordOf e) ≡ e
-entry-word e h = fields-back (e .kind) (e .number) (e .group) (e .installable) (e .missing) (h .kind-fits) (h .number-fits) (h .group-fits) (h .installable-fits) (h .missing-fits)
+entry-word e h = fields-back (e .kind) (e .number) (e .group) (e .installable) (e .missing) (e .clause) (h .kind-fits) (h .number-fits) (h .group-fits) (h .installable-fits) (h .missing-fits) (h .clause-fits)
 
 -- the entry of word i
 unfoldable pub entryAt : List ℕ → ℕ → NodeEntry

@@ -1,9 +1,10 @@
-// The node list that a host lends: "one entry a node, holding its kind, both labels and its group" (document 01, "Graph rules").
+// The node list that a host lends: "one entry a node, holding its kind, both labels and its group" (document 01, "Graph rules"), and
+// "the clause that first added it" (document 02, order 3).
 // The work is done in packed words, one a node; `fill` hands them out as entries.
 ghost use mathlib.Core.Path.{_≡_};
 ghost use Prim.Native.Nat.{_<_, _≤_};
 ghost use lib.ListN.{length};
-ghost use Rattle.entries.specs.Entry.{entryAt, wordOf, fillTo};
+ghost use Rattle.entries.specs.Entry.{entryAt, fillTo};
 
 // One node as a host sees it, laid out as the C header's `urzulempa_node`.
 #[repr(C)]
@@ -13,36 +14,22 @@ pub struct NodeEntry {
     pub group: u16,
     pub installable: u8,
     pub missing: u8,
+    pub clause: u16,
 }
 
-// An entry as one word: kind, number and group of 16 bits each from the low end, then both labels of 8 bits each.
-pub fn word_of(e: NodeEntry) -> u64
-    ensures { λ r. ⌜ r ≡ wordOf e ⌝ }
-{
-    let kind = e.kind as u64;
-    let number = e.number as u64;
-    let group = e.group as u64;
-    let installable = e.installable as u64;
-    let missing = e.missing as u64;
-    kind
-        + 65536 * number
-        + 4294967296 * group
-        + 281474976710656 * installable
-        + 72057594037927936 * missing
-}
-
-// The entry of word i.
+// The entry of word i, from the low end: kind of 8 bits, number of 16, group and both labels of 8 each, clause of 16.
 pub fn entry_at(words: &[u64; 128], i: usize) -> NodeEntry
     requires { ⌜ i < 128 ⌝ }
     ensures { λ r. ⌜ r ≡ entryAt (now (words .entry)) i ⌝ }
 {
     let w = words[i];
     NodeEntry {
-        kind: (w % 65536) as u16,
-        number: (w / 65536 % 65536) as u16,
-        group: (w / 4294967296 % 65536) as u16,
-        installable: (w / 281474976710656 % 256) as u8,
-        missing: (w / 72057594037927936 % 256) as u8,
+        kind: (w % 256) as u16,
+        number: (w / 256 % 65536) as u16,
+        group: (w / 16777216 % 256) as u16,
+        installable: (w / 4294967296 % 256) as u8,
+        missing: (w / 1099511627776 % 256) as u8,
+        clause: (w / 281474976710656 % 65536) as u16,
     }
 }
 

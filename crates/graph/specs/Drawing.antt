@@ -8,11 +8,15 @@ use native.Mathlib.Numerals.{add-one}
 use native.Mathlib.Omega.{arith}
 use lib.ListN.{length, replicate}
 use Rattle.records.specs.declared.Clause.{Clause}
+use Rattle.records.specs.declared.Table.the-variants.{Clauses}
 use Rattle.records.specs.Tables.{Tables}
+use Rattle.records.specs.Read.{tablesOf}
+use Rattle.index.specs.Index.{Loaded}
+use Rattle.index.specs.Found.{loaded-valid}
 use Rattle.records.specs.Views.{clauseOf, coreAt}
 use Rattle.store.specs.declared.Size.{Size}
 use Rattle.store.specs.Graph.{Graph, startGraph, settle, unreached}
-use Rattle.store.specs.Table.{graphIn, Stored, Growing}
+use Rattle.store.specs.Table.{graphIn, Stored, Growing, taken, taken-growing, taken-graph}
 use Rattle.links.specs.Build.{Chains}
 use Rattle.reach.specs.Queue.{lowestOf}
 use Rattle.triples.specs.Triple.{Triples, lastIn, madeIn, triples-none, made-none, last-none, clear-fresh, Clear}
@@ -27,7 +31,7 @@ use Rattle.graph.specs.declared.Drawing.{Drawing}
 use Rattle.graph.specs.declared.Drawing.the-variants as D
 use Rattle.graph.specs.declared.Core.{Core}
 use Rattle.graph.specs.declared.Core.the-variants as O
-use Rattle.graph.specs.Graphs.{isLearnt, Turned, go, halt, expanded, coreTurn, turnAt, Built, built, stopped, buildFrom, buildOf, Outcome, drawn, refused, finished, graphOf, leftOf}
+use Rattle.graph.specs.Graphs.{isLearnt, Turned, go, halt, expanded, coreTurn, handed, turnAt, Built, built, stopped, buildFrom, buildOf, Outcome, drawn, refused, finished, graphOf, leftOf}
 
 -- ---- one clause
 
@@ -60,14 +64,29 @@ module _ (T : Tables) (c : Clause) (g tr w : List ℕ) (k : Work) (b : Bool) (q 
 
 pub ruleset cores = (core-learnt, core-on, core-full)
 
+-- how far building came, with clause i at hand
+abbrev pub handWork : Work → ℕ → Work
+handWork k i = record { size = taken (k .size) i; triples = k .triples }
+
+pub hand-holds : (g tr w : List ℕ) (k m : Work) (i : ℕ) → m ≡ handWork k i → Holds g tr w k → Holds g tr w m
+hand-holds g tr w k m i e H = rw e (record { growing = taken-growing g (k .size) i (H .growing); triples = H .triples; few = H .few })
+
+hand-build : (g tr w : List ℕ) (k : Work) (i : ℕ) → buildIn g tr w (handWork k i) ≡ handed i (buildIn g tr w k)
+hand-build g tr w k i = rw (taken-graph g (k .size) i)
+
+pub clauses-most : (file ix : List ℕ) (n : ℕ) → Loaded file ix → n ≡ length (tablesOf file .clauses) → n ≤ 1024
+clauses-most file ix n L e = omega (arith, loaded-valid file ix L .within Clauses)
+
 module _ (T : Tables) (i : ℕ) (g tr w : List ℕ) (k : Work) (b : Bool) (q : b ≡ coreAt T i) where
   pub turn-out : b ≡ false → Holds g tr w k → Turns (turnAt T i (buildIn g tr w k)) g tr w (U.On k)
   unfolding turnAt
   turn-out e H = record { is = rw ((sym q ∙ e), turnAt); holds = H }
 
-  pub turn-in : (c : Clause) (h us m : List ℕ) (d : Turn) → b ≡ true → c ≡ clauseOf T i → Turns (coreTurn T c (buildIn g tr w k)) h us m d → Turns (turnAt T i (buildIn g tr w k)) h us m d
+  pub turn-in : (c : Clause) (n : Work) (h us m : List ℕ) (d : Turn) → b ≡ true → c ≡ clauseOf T i → n ≡ handWork k i → Turns (coreTurn T c (buildIn g tr w n)) h us m d → Turns (turnAt T i (buildIn g tr w k)) h us m d
   unfolding turnAt
-  turn-in c h us m d e f R = record { is = R .is ∙ rw ((sym q ∙ e), turnAt) (ap (λ (x : Clause). coreTurn T x (buildIn g tr w k)) f); holds = R .holds }
+  turn-in c n h us m d e f o R =
+      let z : buildIn g tr w n ≡ handed i (buildIn g tr w k) = ap (buildIn g tr w) o ∙ hand-build g tr w k i in
+      record { is = R .is ∙ ap (coreTurn T c) z ∙ rw ((sym q ∙ e), turnAt) (ap (λ (x : Clause). coreTurn T x (handed i (buildIn g tr w k))) f); holds = R .holds }
 
 pub ruleset turns = (turn-out, turn-in)
 

@@ -13,7 +13,7 @@ use Rattle.index.specs.Load.{load-loaded}
 use Rattle.index.specs.Found.{loaded-good}
 use Rattle.store.specs.declared.Size.{Size}
 use Rattle.store.specs.Graph.{Graph}
-use Rattle.store.specs.Table.{graphIn}
+use Rattle.store.specs.Table.{graphIn, Stored}
 use Rattle.links.specs.Build.{Chains}
 use Rattle.graph.specs.declared.Drawing.{Drawing}
 use Rattle.graph.specs.declared.Drawing.the-variants as D
@@ -106,12 +106,18 @@ module _ (file ix g w : List ℕ) (r : Made) (R : Makes file ix g w r) where
     pub makes-chains : Chains g s w
     makes-chains = standing .1
 
+    pub makes-stored : Stored g s
+    makes-stored = makes-chains .stored
+
     pub makes-good : readOf file ≡ good (tablesOf file)
     makes-good = loaded-good file ix makes-loaded
 
     pub makes-graph : graphOf (tablesOf file) ≡ drawn (graphIn g s)
     unfolding outcomeOf
     makes-graph = ap outcomeBy (sym makes-good) ∙ sym (R .is) ∙ ap (madeIn g) e
+
+  pub makes-outcome : (x : Made) → r ≡ x → madeIn g x ≡ outcomeOf file
+  makes-outcome x e = ap (madeIn g) (sym e) ∙ R .is
 
   -- a refusal comes from reading or from the graph; what is said of both in the same way, `of`, is said of the file
   pub makes-refused : {A : Type 0} (of : Reading → A) (denied : ℕ → ℕ → A) → ((k p : ℕ) → of (bad k p) ≡ denied k p)

@@ -7,7 +7,7 @@ use Rattle.records.specs.declared.Clause.{Clause}
 use Rattle.records.specs.declared.Clause.the-variants as C
 use Rattle.records.specs.Tables.{Tables}
 use Rattle.records.specs.Views.{clauseOf, clauseIn, coreAt}
-use Rattle.store.specs.Graph.{Graph, settle, reached, unreached}
+use Rattle.store.specs.Graph.{Graph, handing, settle, reached, unreached}
 use Rattle.expansion.specs.Expand.{Build, Step, on, stop, startBuild, expand}
 
 abbrev pub isLearnt : Clause → Bool
@@ -36,9 +36,14 @@ expanded (stop g) = halt 8 g
 abbrev pub coreTurn : Tables → Clause → Build → Turned
 coreTurn T c b = elim (isLearnt c) [ true ↦ halt 7 (b .graph) | false ↦ expanded (expand T c b) ]
 
+-- document 02, order 3: "the number of the core clause that added it" is the clause's number among all clauses, as the places of 7 and 8
+-- are. A triple made before adds nothing (`once`), so "a shared triple keeps the first one's"
+abbrev pub handed : ℕ → Build → Build
+handed i b = record { graph = handing i (b .graph); last = b .last; made = b .made }
+
 unfoldable pub turnAt : Tables → ℕ → Build → Turned
 unfolding clauseOf clauseIn expand
-turnAt T i b = elim (coreAt T i) [ false ↦ go b | true ↦ coreTurn T (clauseOf T i) b ]
+turnAt T i b = elim (coreAt T i) [ false ↦ go b | true ↦ coreTurn T (clauseOf T i) (handed i b) ]
 
 -- the graph of the whole core, or a refusal with its number, its place and the graph so far
 pub data Built : Type 0 where

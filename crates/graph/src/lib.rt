@@ -9,7 +9,7 @@ ghost use Rattle.store.specs.Graph.{settle};
 ghost use Rattle.store.specs.Table.{graphIn, Growing};
 ghost use Rattle.expansion.specs.Pairing.{buildIn, Holds};
 ghost use Rattle.graph.specs.Graphs.{isLearnt, coreTurn, turnAt, buildFrom, finished, graphOf, leftOf};
-ghost use Rattle.graph.specs.Drawing.{Turns, Builds, Drew};
+ghost use Rattle.graph.specs.Drawing.{handWork, Turns, Builds, Drew};
 ghost use Rattle.graph.specs.Files.{Makes, madeOf};
 use expansion::Progress;
 use expansion::Work;
@@ -89,6 +89,23 @@ fn core_turn(
     }
 }
 
+// Clause i at hand: the nodes and edges that it adds keep its number.
+fn at_hand(k: Work, i: usize) -> Work
+    requires { ⌜ i < 1024 ⌝ }
+    ensures { λ r. ⌜ r ≡ handWork k i ⌝ }
+{
+    let s = k.size;
+    let t = Size {
+        nodes: s.nodes,
+        edges: s.edges,
+        hand: i as u16,
+    };
+    Work {
+        size: t,
+        triples: k.triples,
+    }
+}
+
 // Clause i, which may be outside the core.
 fn turn_at(
     file: &[u8],
@@ -101,11 +118,13 @@ fn turn_at(
 ) -> Turn
     requires { ⌜ Loaded (now file) (now ix) ⌝ }
     requires { ⌜ Holds (now g) (now tr) (now ls) k ⌝ }
+    requires { ⌜ i < 1024 ⌝ }
     ensures { λ r. ⌜ Turns (turnAt (tablesOf (now (file .entry))) i (buildIn (now (g .entry)) (now (tr .entry)) (now (ls .entry)) k)) (now (g .exit)) (now (tr .exit)) (now (ls .exit)) r ⌝ }
 {
     if views::in_core(file, ix, i) {
         let c = views::clause(file, ix, i);
-        return core_turn(file, ix, g, tr, ls, k, c);
+        let m = at_hand(k, i);
+        return core_turn(file, ix, g, tr, ls, m, c);
     }
     Turn::On(k)
 }
@@ -122,6 +141,7 @@ fn build_core(
 ) -> Core
     requires { ⌜ Loaded (now file) (now ix) ⌝ }
     requires { ⌜ Holds (now g) (now tr) (now ls) k ⌝ }
+    requires { ⌜ n ≤ 1024 ⌝ }
     ensures { λ r. ⌜ Builds (buildFrom n (tablesOf (now (file .entry))) 0 (buildIn (now (g .entry)) (now (tr .entry)) (now (ls .entry)) k)) (now (g .exit)) (now (tr .exit)) (now (ls .exit)) r ⌝ }
 {
     let mut m = k;

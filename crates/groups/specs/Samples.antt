@@ -2,7 +2,7 @@
 use mathlib.Core.Path.{_≡_, refl}
 use mathlib.Core.Bool.{true, false, cond}
 use mathlib.Core.List.{List, [], _∷_}
-use Prim.Native.Nat.{ℕ, zero, suc}
+use Prim.Native.Nat.{ℕ, zero, suc, _+_}
 use lib.Dec.{eqb}
 use Rattle.store.specs.declared.ConflictNode.the-variants as N
 use Rattle.store.specs.declared.ConflictCause.the-variants as C
@@ -12,13 +12,13 @@ use Rattle.store.specs.Graph.{Graph}
 use Rattle.groups.specs.Groups.{groups, singles, leadOf}
 
 abbrev needs : ℕ → ℕ → ℕ → Edge
-needs a q b = record { source = a; target = b; weight = W.Requires q }
+needs a q b = record { source = a; target = b; weight = W.Requires q; clause = a + b }
 
 abbrev bars : ℕ → ℕ → Edge
-bars a b = record { source = a; target = b; weight = W.Conflict C.ForbidMultipleInstances }
+bars a b = record { source = a; target = b; weight = W.Conflict C.ForbidMultipleInstances; clause = 7 }
 
 abbrev locks : ℕ → ℕ → ℕ → Edge
-locks a s b = record { source = a; target = b; weight = W.Conflict (C.Locked s) }
+locks a s b = record { source = a; target = b; weight = W.Conflict (C.Locked s); clause = 8 }
 
 -- every solvable has the same name
 abbrev one : ℕ → List ℕ
@@ -30,7 +30,7 @@ other s = cond (eqb s 1) (113 ∷ []) (114 ∷ [])
 
 -- P7: replay 2 and replay 1 are one group
 abbrev p7 : Graph
-p7 = record { nodes = N.Root ∷ N.UnresolvedDependency ∷ N.Solvable 0 ∷ N.Solvable 1 ∷ []; edges = needs 0 0 2 ∷ needs 0 0 3 ∷ needs 2 1 1 ∷ needs 3 1 1 ∷ [] }
+p7 = record { nodes = N.Root ∷ N.UnresolvedDependency ∷ N.Solvable 0 ∷ N.Solvable 1 ∷ []; edges = needs 0 0 2 ∷ needs 0 0 3 ∷ needs 2 1 1 ∷ needs 3 1 1 ∷ []; firsts = 65535 ∷ 65535 ∷ 4 ∷ 6 ∷ []; hand = 9 }
 
 p7-groups : groups one p7 ≡ (2 ∷ 3 ∷ []) ∷ []
 unfolding groups
@@ -51,6 +51,8 @@ ring =
     record {
       nodes = N.Root ∷ N.Solvable 0 ∷ N.Solvable 1 ∷ N.Solvable 2 ∷ N.Solvable 3 ∷ [];
       edges = needs 0 0 1 ∷ needs 0 0 2 ∷ needs 1 2 3 ∷ needs 2 2 3 ∷ needs 3 1 1 ∷ needs 3 1 2 ∷ needs 3 1 4 ∷ [];
+      firsts = [];
+      hand = 9;
     }
 
 ring-groups : groups one ring ≡ (1 ∷ 2 ∷ []) ∷ []
@@ -67,6 +69,8 @@ barred =
     record {
       nodes = N.Root ∷ N.Solvable 0 ∷ N.Solvable 1 ∷ [];
       edges = needs 0 0 1 ∷ bars 0 1 ∷ locks 0 5 2 ∷ needs 0 0 2 ∷ [];
+      firsts = [];
+      hand = 9;
     }
 
 barred-groups : groups one barred ≡ (1 ∷ 2 ∷ []) ∷ []

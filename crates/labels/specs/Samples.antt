@@ -2,7 +2,7 @@
 use mathlib.Core.Path.{_≡_, refl}
 use mathlib.Core.Bool.{Bool, true, false}
 use mathlib.Core.List.{List, [], _∷_}
-use Prim.Native.Nat.{ℕ, zero, suc}
+use Prim.Native.Nat.{ℕ, zero, suc, _+_}
 use Rattle.store.specs.declared.ConflictNode.the-variants as N
 use Rattle.store.specs.declared.ConflictEdge.{ConflictEdge}
 use Rattle.store.specs.declared.ConflictEdge.the-variants as W
@@ -11,11 +11,11 @@ use Rattle.store.specs.Graph.{Graph}
 use Rattle.labels.specs.Labels.{orderOf, installables, missings}
 
 abbrev needs : ℕ → ℕ → ℕ → Edge
-needs a q b = record { source = a; target = b; weight = W.Requires q }
+needs a q b = record { source = a; target = b; weight = W.Requires q; clause = a + b }
 
 -- P7: "All four nodes are missing, none installable."
 abbrev p7 : Graph
-p7 = record { nodes = N.Root ∷ N.UnresolvedDependency ∷ N.Solvable 0 ∷ N.Solvable 1 ∷ []; edges = needs 0 0 2 ∷ needs 0 0 3 ∷ needs 2 1 1 ∷ needs 3 1 1 ∷ [] }
+p7 = record { nodes = N.Root ∷ N.UnresolvedDependency ∷ N.Solvable 0 ∷ N.Solvable 1 ∷ []; edges = needs 0 0 2 ∷ needs 0 0 3 ∷ needs 2 1 1 ∷ needs 3 1 1 ∷ []; firsts = 65535 ∷ 65535 ∷ 4 ∷ 6 ∷ []; hand = 9 }
 
 p7-order : orderOf p7 ≡ 1 ∷ 2 ∷ 3 ∷ 0 ∷ []
 unfolding orderOf
@@ -35,6 +35,8 @@ ring =
     record {
       nodes = N.Root ∷ N.Solvable 0 ∷ N.Solvable 1 ∷ N.Solvable 2 ∷ N.Solvable 3 ∷ [];
       edges = needs 0 0 1 ∷ needs 0 0 2 ∷ needs 1 2 3 ∷ needs 2 2 3 ∷ needs 3 1 1 ∷ needs 3 1 2 ∷ needs 3 1 4 ∷ [];
+      firsts = [];
+      hand = 9;
     }
 
 ring-order : orderOf ring ≡ 2 ∷ 4 ∷ 3 ∷ 1 ∷ 0 ∷ []

@@ -20,7 +20,7 @@ use Rattle.store.specs.declared.Edge.{Edge}
 use Rattle.store.specs.declared.Size.{Size}
 use Rattle.store.specs.declared.Put.{Put}
 use Rattle.store.specs.declared.Put.the-variants.{At, Full}
-use Rattle.store.specs.Graph.{Graph, Added, added, full, sameNode, addNode, addEdge, addLink}
+use Rattle.store.specs.Graph.{Graph, Added, added, full, sameNode, withNode, withEdge, addNode, addEdge, addLink}
 use Rattle.store.specs.Table.{graphIn, Stored, Growing, addedIn, sizeOf, placeOf, edges-count}
 use Rattle.linking.specs.declared.Grown.{Grown}
 use Rattle.linking.specs.declared.Grown.the-variants as G
@@ -123,16 +123,16 @@ edges-node g h x i e =
     go (some j) q = let z : added j g ≡ added i h = rw (q, addNode) at e in cc
     go none q =
         split (ltb (length (g .nodes)) 128)
-        (λ t. let z : added (length (g .nodes)) (record { nodes = snoc (g .nodes) x; edges = g .edges }) ≡ added i h = rw (q, addNode, t) at e in
-        let y : record { nodes = snoc (g .nodes) x; edges = g .edges } ≡ h = cc in ap (λ (k : Graph). k .edges) (sym y))
+        (λ t. let z : added (length (g .nodes)) (withNode g x) ≡ added i h = rw (q, addNode, t) at e in
+        let y : withNode g x ≡ h = cc in ap (λ (k : Graph). k .edges) (sym y))
         (λ t. let z : full g ≡ added i h = rw (q, addNode, t) at e in clash (cc))
 
 pub edges-edge : (g h : Graph) (e : Edge) (i : ℕ) → addEdge g e ≡ added i h → length (h .edges) ≡ suc (length (g .edges))
 unfolding addEdge
 edges-edge g h e i q =
     split (ltb (length (g .edges)) 1024)
-    (λ t. let z : added (length (g .edges)) (record { nodes = g .nodes; edges = snoc (g .edges) e }) ≡ added i h = rw t at q in
-    let y : record { nodes = g .nodes; edges = snoc (g .edges) e } ≡ h = cc in
+    (λ t. let z : added (length (g .edges)) (withEdge g e) ≡ added i h = rw t at q in
+    let y : withEdge g e ≡ h = cc in
     ap (λ (k : Graph). length (k .edges)) (sym y) ∙ rw length-append (omega arith))
     (λ t. let z : full g ≡ added i h = rw t at q in clash (cc))
 
@@ -142,10 +142,10 @@ edges-link g h x y w i e = first (addNode g x) refl
   where
     second : (j : ℕ) (k : Graph) → addNode g x ≡ added j k → (b : Added) → addNode k y ≡ b → length (h .edges) ≡ suc (length (g .edges))
     second j k p (added m l) q =
-        let z : addEdge l (record { source = j; target = m; weight = w }) ≡ added i h = rw (p, addLink, q) at e in
+        let z : addEdge l (record { source = j; target = m; weight = w; clause = l .hand }) ≡ added i h = rw (p, addLink, q) at e in
         let a : l .edges ≡ k .edges = edges-node k l y m q in
         let b : k .edges ≡ g .edges = edges-node g k x j p in
-        edges-edge l h (record { source = j; target = m; weight = w }) i z ∙ ap (λ (u : List Edge). suc (length u)) (a ∙ b)
+        edges-edge l h (record { source = j; target = m; weight = w; clause = l .hand }) i z ∙ ap (λ (u : List Edge). suc (length u)) (a ∙ b)
     second j k p (full l) q = let z : full l ≡ added i h = rw (p, addLink, q) at e in clash (cc)
 
     first : (a : Added) → addNode g x ≡ a → length (h .edges) ≡ suc (length (g .edges))

@@ -1,9 +1,9 @@
-// The node list as numbers: kind, number, both labels and group of each node in one word, from the tables of `labels` and
-// `groups`.
+// The node list as numbers: kind, number, group, both labels and first clause of each node in one word, from the graph and the tables
+// of `labels` and `groups`.
 ghost use mathlib.Core.Path.{_≡_};
 ghost use Prim.Native.Nat.{_<_};
 ghost use lib.ListN.{getD};
-ghost use Rattle.store.specs.Table.{graphIn, nodeIn, Stored};
+ghost use Rattle.store.specs.Table.{graphIn, nodeIn, firstIn, Stored};
 ghost use Rattle.listing.specs.Listing.{nodePart, entryOf, entriesTo};
 use store::ConflictNode;
 use store::Size;
@@ -15,25 +15,30 @@ fn wide64(x: u16) -> u64
 }
 
 fn node_part(x: ConflictNode) -> u64
-    ensures { λ r. ⌜ (r ≡ nodePart x) × (r < 4294967296) ⌝ }
+    ensures { λ r. ⌜ (r ≡ nodePart x) × (r < 16777216) ⌝ }
 {
     match x {
         ConflictNode::Root => 0,
-        ConflictNode::Solvable(s) => 1 + 65536 * wide64(s),
+        ConflictNode::Solvable(s) => 1 + 256 * wide64(s),
         ConflictNode::UnresolvedDependency => 2,
-        ConflictNode::Excluded(r) => 3 + 65536 * wide64(r),
+        ConflictNode::Excluded(r) => 3 + 256 * wide64(r),
     }
 }
 
 fn entry(g: &[u64; 1152], marks: &[u16; 128], leads: &[u16; 128], n: usize) -> u64
     requires { ⌜ n < 128 ⌝ }
-    ensures { λ r. ⌜ r ≡ entryOf (nodeIn (now (g .entry)) n) (getD (now (marks .entry)) n 0) (getD (now (leads .entry)) n 0) ⌝ }
+    ensures { λ r. ⌜ r ≡ entryOf (nodeIn (now (g .entry)) n) (getD (now (marks .entry)) n 0) (getD (now (leads .entry)) n 0) (firstIn (now (g .entry)) n) ⌝ }
 {
     let x = store::node_at(g, n);
     let p = node_part(x);
     let m = wide64(marks[n]);
-    let l = wide64(leads[n]);
-    p + 4294967296 * l + 281474976710656 * (m % 2) + 72057594037927936 * (m / 2 % 2)
+    let l = wide64(leads[n]) % 256;
+    let c = store::first_at(g, n);
+    p
+        + 16777216 * l
+        + 4294967296 * (m % 2)
+        + 1099511627776 * (m / 2 % 2)
+        + 281474976710656 * wide64(c)
 }
 
 // Each node's entry; words past the last node stay.

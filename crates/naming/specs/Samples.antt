@@ -2,7 +2,7 @@
 -- solvables, and entries past the last node.
 use mathlib.Core.Path.{_≡_, refl}
 use mathlib.Core.List.{List, [], _∷_}
-use Prim.Native.Nat.{ℕ}
+use Prim.Native.Nat.{ℕ, _+_}
 use lib.ListN.{length}
 use Rattle.store.specs.declared.ConflictNode.the-variants as N
 use Rattle.store.specs.Graph.{Graph}
@@ -34,6 +34,8 @@ abbrev graph : Graph
 graph = record {
   nodes = N.Root ∷ N.UnresolvedDependency ∷ N.Solvable 0 ∷ N.Solvable 1 ∷ N.Solvable 2 ∷ N.Excluded 0 ∷ N.Solvable 3 ∷ [];
   edges = [];
+  firsts = [];
+  hand = 9;
 }
 
 pub by-text : idsTo tables graph 7 (9 ∷ 9 ∷ 9 ∷ 9 ∷ 9 ∷ 9 ∷ 9 ∷ 8 ∷ 7 ∷ []) ≡ 0 ∷ 0 ∷ 2 ∷ 3 ∷ 2 ∷ 0 ∷ 2 ∷ 8 ∷ 7 ∷ []

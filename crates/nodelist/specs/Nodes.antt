@@ -7,7 +7,7 @@ use lib.Dec.{ltb}
 use Rattle.basis.specs.Lists.{upto}
 use Rattle.records.specs.Tables.{Tables}
 use Rattle.records.specs.Read.{Reading, good, bad, readOf}
-use Rattle.store.specs.Graph.{Graph, nodeAt}
+use Rattle.store.specs.Graph.{Graph, nodeAt, firstAt}
 use Rattle.graph.specs.Graphs.{Outcome, drawn, refused, graphOf}
 use Rattle.labels.specs.Labels.{installables, missings, installable, missing}
 use Rattle.groups.specs.Groups.{leadOf}
@@ -22,7 +22,8 @@ abbrev pub flag : Bool → ℕ
 flag true = 1
 flag false = 0
 
--- "kind and number as in `ConflictNode`, 0 where it has none; group the node number of its first member, the node's own if unmerged"
+-- "kind and number as in `ConflictNode`, 0 where it has none; group the node number of its first member, the node's own if unmerged";
+-- document 02, order 3: "The lent node list gains, per node, the clause that first added it; root and unresolved show 65,535."
 unfoldable pub nodeEntry : Tables → Graph → ℕ → NodeEntry
 unfolding leadOf installables missings
 nodeEntry T G n =
@@ -32,6 +33,7 @@ nodeEntry T G n =
       group = leadOf (nameOf T) G n;
       installable = flag (installable G n);
       missing = flag (missing G n);
+      clause = firstAt G n;
     }
 
 unfoldable pub nodeEntries : Tables → Graph → List NodeEntry

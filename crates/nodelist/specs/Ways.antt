@@ -8,13 +8,14 @@ use lib.ListN.{length, getD, drop, set, length-map}
 use lib.Seq.{drop-cons, append-snoc, set-at}
 use lib.Dec.{ltb}
 use borrow.Author.Tests.{lt-ltb, le-ltb}
+use Rattle.basis.specs.Guard.{guard}
 use Rattle.basis.specs.Lists.{upto}
 use Rattle.records.specs.Tables.{Tables}
 use Rattle.records.specs.Read.{readOf, tablesOf}
 use Rattle.store.specs.declared.ConflictNode.{ConflictNode}
 use Rattle.store.specs.declared.Size.{Size}
-use Rattle.store.specs.Graph.{Graph, nodeAt}
-use Rattle.store.specs.Table.{graphIn, Stored, nodes-count, number-fits}
+use Rattle.store.specs.Graph.{Graph, nodeAt, firstAt}
+use Rattle.store.specs.Table.{graphIn, Stored, nodes-count, number-fits, firstIn, first-in}
 use Rattle.links.specs.Build.{Chains}
 use Rattle.graph.specs.declared.Made.{Made}
 use Rattle.graph.specs.declared.Made.the-variants as M
@@ -77,8 +78,15 @@ flag-small : (b : Bool) → flag b < 256
 flag-small true = omega arith
 flag-small false = omega arith
 
-kind-fits : (x : ConflictNode) → kindOf x < 65536
+kind-fits : (x : ConflictNode) → kindOf x < 256
 kind-fits x = omega (arith, kind-small x)
+
+-- a clause's number is one of 16 bits
+first-fits : (g : List ℕ) (s : Size) → Stored g s → (n : ℕ) → n < s .nodes → firstAt (graphIn g s) n < 65536
+unfolding firstIn guard
+first-fits g s S n h =
+    let z : firstIn g n < 65536 = rw (lt-ltb n 128 (omega (arith, S .nodes-most)), guard) (omega arith) in
+    rw (first-in g s S n h) at z
 
 module _ (T : Tables) (g : List ℕ) (s : Size) (S : Stored g s) where
   pub entries-count : length (nodeEntries T (graphIn g s)) ≡ s .nodes
@@ -100,6 +108,7 @@ module _ (T : Tables) (g : List ℕ) (s : Size) (S : Stored g s) where
         group-fits = omega (arith, l, S .nodes-most);
         installable-fits = flag-small (installable G n);
         missing-fits = flag-small (missing G n);
+        clause-fits = first-fits g s S n h;
       }
 
   pub narrow-entries : Narrows (nodeEntries T (graphIn g s))
@@ -111,7 +120,7 @@ module _ (T : Tables) (g : List ℕ) (s : Size) (S : Stored g s) where
 
 -- node n's word, from the tables of marks and leads
 abbrev wordAt : Graph → List ℕ → List ℕ → ℕ → ℕ
-wordAt G marks leads n = W.entryOf (nodeAt G n) (getD marks n 0) (getD leads n 0)
+wordAt G marks leads n = W.entryOf (nodeAt G n) (getD marks n 0) (getD leads n 0) (firstAt G n)
 
 words-front : (G : Graph) (marks leads : List ℕ) (k : ℕ) (l : List ℕ) → k ≤ length l → entriesTo G marks leads k l ≡ map (wordAt G marks leads) (upto k 0) ++ drop k l
 unfolding entriesTo
@@ -131,7 +140,9 @@ module _ (T : Tables) (g : List ℕ) (s : Size) (ls marks leads l m words : List
       let G : Graph = graphIn g s in
       let i : getD marks n 0 ≡ bitsOf (installable G n) (missing G n) = ap (λ (t : List ℕ). getD t n 0) q ∙ marks-at G n (omega (arith, C .stored .nodes-most)) in
       let j : getD leads n 0 ≡ leadBy (titleOf (nameOf T) G) G n = ap (λ (t : List ℕ). getD t n 0) p ∙ leads-at (titleOf (nameOf T) G) G (s .nodes) m (omega (arith, b, C .stored .nodes-most)) n h in
-      rw (i, j, bits-first (installable G n) (missing G n), bits-second (installable G n) (missing G n))
+      let k : leadBy (titleOf (nameOf T) G) G n ≤ n = lead-le (titleOf (nameOf T) G) G n (omega (arith, nodes-count g s (C .stored))) in
+      let o : leadBy (titleOf (nameOf T) G) G n % 256 ≡ leadBy (titleOf (nameOf T) G) G n = omega (arith, k, C .stored .nodes-most) in
+      rw (i, j, o, bits-first (installable G n) (missing G n), bits-second (installable G n) (missing G n))
 
   words-whole : words ≡ entriesTo (graphIn g s) marks leads (s .nodes) l → length l ≡ 128 → words ≡ wordsOver (nodeEntries T (graphIn g s)) l
   unfolding nodeEntries

@@ -1,14 +1,16 @@
 -- A recorded call made again, and compared with what is recorded of it.
 use mathlib.Core.Path.{_≡_, refl, sym, ap, _∙_}
-use mathlib.Core.Bool.{Bool, true, false}
+use mathlib.Core.Bool.{Bool, true, false, cond}
 use mathlib.Core.List.{List}
 use Prim.Native.Nat.{ℕ, zero, suc, _≤_, _<_}
 use native.Mathlib.Omega.{arith}
 use native.Mathlib.Decide.{decLe}
+use lib.Dec.{leb}
+use borrow.Author.Tests.{le-leb, lt-leb}
 use Rattle.basis.specs.Members.{clash}
 use Rattle.replay.specs.declared.calls.Seen.{Seen}
 use Rattle.replay.specs.Head.{callIn, optionIn, roomIn, recordedIn}
-use Rattle.replay.specs.Seen.{Told, told-one, blank, checkedIn, drawnIn, listedIn}
+use Rattle.replay.specs.Seen.{Told, told-one, blank, blankNumbers, checkedIn, drawnIn, listedIn, edgedIn}
 
 -- no call has this number, and no answer either
 abbrev pub noCall : Seen
@@ -19,14 +21,20 @@ pub record Listing (file : List ℕ) (n : ℕ) (r : Seen) : Type 0 where
   pub short : n ≤ 128 → r ≡ listedIn file n
   pub long : 128 < n → r ≡ noCall
 
--- the call with that number, on a room of n bytes or a list of n entries: check, explain, explain plainly, draw, list the nodes
+-- a list of at most 8,192 numbers
+unfoldable pub edgesIn : List ℕ → ℕ → Seen
+edgesIn file n = cond (leb n 8192) (edgedIn file (blankNumbers n)) noCall
+
+-- the call with that number, on a room of n bytes, a list of n entries or one of n numbers: check, explain, explain plainly, draw, list
+-- the nodes, list the edges
 unfoldable pub Replayed : List ℕ → ℕ → ℕ → ℕ → Seen → Type 0
 Replayed file zero opt n r = r ≡ checkedIn file
 Replayed file (suc zero) opt n r = Told file opt (blank n) r
 Replayed file (suc (suc zero)) opt n r = Told file 0 (blank n) r
 Replayed file (suc (suc (suc zero))) opt n r = r ≡ drawnIn file opt (blank n)
 Replayed file (suc (suc (suc (suc zero)))) opt n r = Listing file n r
-Replayed file (suc (suc (suc (suc (suc k))))) opt n r = r ≡ noCall
+Replayed file (suc (suc (suc (suc (suc zero))))) opt n r = r ≡ edgesIn file n
+Replayed file (suc (suc (suc (suc (suc (suc k)))))) opt n r = r ≡ noCall
 
 -- a and b are one and the same, or not
 pub record Same (a b : Seen) (r : Bool) : Type 0 where
@@ -60,7 +68,8 @@ replayed-one file (suc zero) opt n r q R Q = told-one file opt (blank n) r q R Q
 replayed-one file (suc (suc zero)) opt n r q R Q = told-one file 0 (blank n) r q R Q
 replayed-one file (suc (suc (suc zero))) opt n r q R Q = R ∙ sym Q
 replayed-one file (suc (suc (suc (suc zero)))) opt n r q R Q = listing-one file n r q R Q
-replayed-one file (suc (suc (suc (suc (suc k))))) opt n r q R Q = R ∙ sym Q
+replayed-one file (suc (suc (suc (suc (suc zero))))) opt n r q R Q = R ∙ sym Q
+replayed-one file (suc (suc (suc (suc (suc (suc k)))))) opt n r q R Q = R ∙ sym Q
 
 true-both : (a b : Bool) → (a ≡ true → b ≡ true) → (b ≡ true → a ≡ true) → a ≡ b
 true-both true true f g = refl
@@ -91,6 +100,14 @@ listing-short file n r l e = record { short = λ _. e; long = λ k. let f : ⊥ 
 pub listing-long : (file : List ℕ) (n : ℕ) (r : Seen) → 128 < n → r ≡ noCall → Listing file n r
 listing-long file n r l e = record { short = λ k. let f : ⊥ = omega arith in absurd f; long = λ _. e }
 
+pub edges-short : (file : List ℕ) (n : ℕ) (r : Seen) → n ≤ 8192 → r ≡ edgedIn file (blankNumbers n) → r ≡ edgesIn file n
+unfolding edgesIn
+edges-short file n r l e = rw (le-leb n 8192 l) e
+
+pub edges-long : (file : List ℕ) (n : ℕ) (r : Seen) → 8192 < n → r ≡ noCall → r ≡ edgesIn file n
+unfolding edgesIn
+edges-long file n r l e = rw (lt-leb n 8192 l) e
+
 module _ (file : List ℕ) (call opt n : ℕ) (r : Seen) where
   pub at-check : call ≡ 0 → r ≡ checkedIn file → Replayed file call opt n r
   unfolding Replayed
@@ -112,15 +129,20 @@ module _ (file : List ℕ) (call opt n : ℕ) (r : Seen) where
   unfolding Replayed
   at-list q e = rw q e
 
-pub at-none : (file : List ℕ) (call opt n : ℕ) (r : Seen) → (call ≡ 0 → ⊥) → (call ≡ 1 → ⊥) → (call ≡ 2 → ⊥) → (call ≡ 3 → ⊥) → (call ≡ 4 → ⊥) → r ≡ noCall
+  pub at-edges : call ≡ 5 → r ≡ edgesIn file n → Replayed file call opt n r
+  unfolding Replayed
+  at-edges q e = rw q e
+
+pub at-none : (file : List ℕ) (call opt n : ℕ) (r : Seen) → (call ≡ 0 → ⊥) → (call ≡ 1 → ⊥) → (call ≡ 2 → ⊥) → (call ≡ 3 → ⊥) → (call ≡ 4 → ⊥) → (call ≡ 5 → ⊥) → r ≡ noCall
     → Replayed file call opt n r
 unfolding Replayed
-at-none file zero opt n r a b c d f e = absurd (a refl)
-at-none file (suc zero) opt n r a b c d f e = absurd (b refl)
-at-none file (suc (suc zero)) opt n r a b c d f e = absurd (c refl)
-at-none file (suc (suc (suc zero))) opt n r a b c d f e = absurd (d refl)
-at-none file (suc (suc (suc (suc zero)))) opt n r a b c d f e = absurd (f refl)
-at-none file (suc (suc (suc (suc (suc k))))) opt n r a b c d f e = e
+at-none file zero opt n r a b c d f g e = absurd (a refl)
+at-none file (suc zero) opt n r a b c d f g e = absurd (b refl)
+at-none file (suc (suc zero)) opt n r a b c d f g e = absurd (c refl)
+at-none file (suc (suc (suc zero))) opt n r a b c d f g e = absurd (d refl)
+at-none file (suc (suc (suc (suc zero)))) opt n r a b c d f g e = absurd (f refl)
+at-none file (suc (suc (suc (suc (suc zero))))) opt n r a b c d f g e = absurd (g refl)
+at-none file (suc (suc (suc (suc (suc (suc k)))))) opt n r a b c d f g e = e
 
 fields-same : (n p y u d s n′ p′ y′ u′ d′ s′ : ℕ) → n ≡ n′ → p ≡ p′ → y ≡ y′ → u ≡ u′ → d ≡ d′ → s ≡ s′
     → _≡_ {A = Seen} (record { number = n; place = p; bytes = y; units = u; depth = d; sum = s }) (record { number = n′; place = p′; bytes = y′; units = u′; depth = d′; sum = s′ })

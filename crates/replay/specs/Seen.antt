@@ -17,6 +17,7 @@ use Rattle.urzulempa.specs.Answers.{checkOf}
 use Rattle.urzulempa.specs.Says.{Says, says-one}
 use Rattle.urzulempa.specs.Draws.{resultAnswer, drawFile}
 use Rattle.urzulempa.specs.Nodes.{nodesAnswer, nodesLeft, noWords, answerOf, exported}
+use Rattle.urzulempa.specs.Edges.{edgesAnswer, edgesLeft}
 use Rattle.replay.specs.declared.calls.Seen.{Seen}
 use Rattle.replay.specs.Sum.{sumFrom, sumOf, sumEntries, entriesAt}
 
@@ -40,9 +41,9 @@ pub record Told (file : List ℕ) (opt : ℕ) (out : List ℕ) (r : Seen) : Type
 unfoldable pub drawnIn : List ℕ → ℕ → List ℕ → Seen
 drawnIn file opt out = seenOf (resultAnswer (drawFile file opt (length out))) (sumOf (over (drawFile file opt (length out) .text) out))
 
--- an entry of a lent list before a call: 165 in every byte
+-- an entry of a lent list before a call: 165 in every byte of its word
 abbrev pub blankEntry : NodeEntry
-blankEntry = record { kind = 42405; number = 42405; group = 42405; installable = 165; missing = 165 }
+blankEntry = record { kind = 165; number = 42405; group = 165; installable = 165; missing = 165; clause = 42405 }
 
 abbrev pub blankList : ℕ → List NodeEntry
 blankList n = replicate n blankEntry
@@ -50,6 +51,14 @@ blankList n = replicate n blankEntry
 -- the node list in a list of n entries
 unfoldable pub listedIn : List ℕ → ℕ → Seen
 listedIn file n = seenOf (nodesAnswer file n) (sumEntries (nodesLeft file (blankList n)))
+
+-- a list of numbers before a call: 165 in every byte
+abbrev pub blankNumbers : ℕ → List ℕ
+blankNumbers n = replicate n 42405
+
+-- the edges in the list `l`
+unfoldable pub edgedIn : List ℕ → List ℕ → Seen
+edgedIn file l = seenOf (edgesAnswer file (length l)) (sumOf (edgesLeft file l))
 
 -- refusals 1 to 9, with nothing lent
 unfoldable pub checkedIn : List ℕ → Seen
@@ -72,6 +81,11 @@ pub drawn-in : (file : List ℕ) (opt : ℕ) (out left : List ℕ) (a : Answer) 
     → left ≡ over (drawFile file opt (length out) .text) out → s ≡ sumOf left → r ≡ seenOf a s → r ≡ drawnIn file opt out
 unfolding drawnIn
 drawn-in file opt out left a s r e l p q = rw (q, p, e, l)
+
+pub edged-in : (file l left : List ℕ) (a : Answer) (s : ℕ) (r : Seen) → a ≡ edgesAnswer file (length l) → left ≡ edgesLeft file l → s ≡ sumOf left
+    → r ≡ seenOf a s → r ≡ edgedIn file l
+unfolding edgedIn
+edged-in file l left a s r e k p q = rw (q, p, e, k)
 
 take-blank : {A : Type 0} (x : A) (n m : ℕ) → n ≤ m → take n (replicate m x) ≡ replicate n x
 take-blank x zero m l = refl
@@ -100,6 +114,13 @@ told-blank file opt n r S l = rw (take-blank {A = ℕ} 165 n 65536 l) at S
 
 pub drawn-blank : (file : List ℕ) (opt n : ℕ) (r : Seen) → r ≡ drawnIn file opt (take n (replicate 65536 165)) → n ≤ 65536 → r ≡ drawnIn file opt (blank n)
 drawn-blank file opt n r e l = rw (take-blank {A = ℕ} 165 n 65536 l) at e
+
+-- a part of the program's list
+pub prefix-numbers : (n : ℕ) → n ≤ 8192 → n ≡ length (take n (replicate {A = ℕ} 8192 42405))
+prefix-numbers n l = sym (ap length (take-blank {A = ℕ} 42405 n 8192 l) ∙ length-replicate {A = ℕ} n 42405)
+
+pub edged-blank : (file : List ℕ) (n : ℕ) (r : Seen) → r ≡ edgedIn file (take n (replicate 8192 42405)) → n ≤ 8192 → r ≡ edgedIn file (blankNumbers n)
+edged-blank file n r e l = rw (take-blank {A = ℕ} 42405 n 8192 l) at e
 
 -- the words that the program starts from
 abbrev blankWord : ℕ

@@ -1,4 +1,4 @@
--- The checksum of what a call left in a lent room, as `oracle record` computes it.
+-- The checksum of what a call left in a lent room or list, as `oracle record` computes it.
 use mathlib.Core.Path.{_≡_, refl, sym, ap}
 use mathlib.Core.List.{List, [], _∷_, _++_, map}
 use Prim.Native.Nat.{ℕ, zero, suc, _+_, _*_, _%_, _<_, _≤_}
@@ -19,14 +19,14 @@ unfolding mix
 sumFrom h [] = h
 sumFrom h (x ∷ xs) = sumFrom (mix h x) xs
 
--- the bytes of a room
+-- the bytes of a room, or the numbers of a list
 abbrev pub sumOf : List ℕ → ℕ
 sumOf xs = sumFrom 0 xs
 
--- an entry's five fields
+-- an entry's six fields
 unfoldable pub mixEntry : ℕ → NodeEntry → ℕ
 unfolding mix
-mixEntry h e = mix (mix (mix (mix (mix h (e .kind)) (e .number)) (e .group)) (e .installable)) (e .missing)
+mixEntry h e = mix (mix (mix (mix (mix (mix h (e .kind)) (e .number)) (e .group)) (e .installable)) (e .missing)) (e .clause)
 
 unfoldable pub entriesFrom : ℕ → List NodeEntry → ℕ
 unfolding mixEntry
@@ -86,7 +86,7 @@ entries-next ws h i n r e q k l t p m =
 pub entries-end : (ws : List ℕ) (h i n : ℕ) → h ≡ sumEntries (entriesAt ws i) → i ≤ n → n ≤ i → h ≡ sumEntries (entriesAt ws n)
 entries-end ws h i n q a b = let z : i ≡ n = omega arith in rw z at q
 
-pub entry-mixed : (h a b c d r : ℕ) (e : NodeEntry) → r ≡ mix d (e .missing) → d ≡ mix c (e .installable) → c ≡ mix b (e .group) → b ≡ mix a (e .number) → a ≡ mix h (e .kind)
+pub entry-mixed : (h a b c d f r : ℕ) (e : NodeEntry) → r ≡ mix f (e .clause) → f ≡ mix d (e .missing) → d ≡ mix c (e .installable) → c ≡ mix b (e .group) → b ≡ mix a (e .number) → a ≡ mix h (e .kind)
     → r ≡ mixEntry h e
 unfolding mixEntry
-entry-mixed h a b c d r e v w x y z = rw (v, w, x, y, z)
+entry-mixed h a b c d f r e u v w x y z = rw (u, v, w, x, y, z)

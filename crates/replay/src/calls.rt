@@ -1,15 +1,17 @@
 // A recorded call, made again: the answer, and the checksum of the whole room or list that it was lent.
 ghost use mathlib.Core.Path.{_≡_};
 ghost use Prim.Native.Nat.{_≤_};
-ghost use Rattle.replay.specs.Seen.{seenOf, Told, blank, checkedIn, drawnIn, listedIn};
-ghost use Rattle.replay.specs.Again.{Listing, Replayed, noCall};
+ghost use Rattle.replay.specs.Seen.{seenOf, Told, blank, blankNumbers, checkedIn, drawnIn, listedIn, edgedIn};
+ghost use Rattle.replay.specs.Again.{Listing, Replayed, noCall, edgesIn};
 ghost use Rattle.urzulempa.specs.Nodes.{answerOf};
 use crate::sums::sum;
 use crate::sums::sum_entries;
+use crate::sums::sum_numbers;
 use nodelist::Counted;
 use nodelist::node_words;
 use urzulempa::Answer;
 use urzulempa::urzulempa_check;
+use urzulempa::urzulempa_edges;
 use urzulempa::urzulempa_explain;
 use urzulempa::urzulempa_explain_plain;
 use urzulempa::urzulempa_graphviz;
@@ -132,7 +134,31 @@ fn listed(file: &[u8], n: usize) -> Seen
     list(file, n)
 }
 
-// The call with that number (host/oracle/src/record.rs), on a room of n bytes or a list of n entries.
+fn edged(file: &[u8], list: &mut [u16]) -> Seen
+    ensures { λ r. ⌜ r ≡ edgedIn (now (file .entry)) (now (list .entry)) ⌝ }
+{
+    let a = urzulempa_edges(file, list);
+    joined(a, sum_numbers(list))
+}
+
+fn edges(file: &[u8], n: usize) -> Seen
+    requires { ⌜ n ≤ 8192 ⌝ }
+    ensures { λ r. ⌜ r ≡ edgedIn (now (file .entry)) (blankNumbers n) ⌝ }
+{
+    let mut list = [42405u16; 8192];
+    edged(file, &mut list[..n])
+}
+
+fn edges_in(file: &[u8], n: usize) -> Seen
+    ensures { λ r. ⌜ r ≡ edgesIn (now (file .entry)) n ⌝ }
+{
+    if n > 8192 {
+        return no_call();
+    }
+    edges(file, n)
+}
+
+// The call with that number (host/oracle/src/record.rs), on a room of n bytes, a list of n entries or one of n numbers.
 pub fn replayed(file: &[u8], call: u64, option: u64, n: usize) -> Seen
     requires { ⌜ n ≤ 65536 ⌝ }
     ensures { λ r. ⌜ Replayed (now (file .entry)) call option n r ⌝ }
@@ -151,6 +177,9 @@ pub fn replayed(file: &[u8], call: u64, option: u64, n: usize) -> Seen
     }
     if call == 4 {
         return listed(file, n);
+    }
+    if call == 5 {
+        return edges_in(file, n);
     }
     no_call()
 }

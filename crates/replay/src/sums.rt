@@ -33,6 +33,25 @@ pub fn sum(room: &[u8]) -> u64
     h
 }
 
+fn wide_number(x: u16) -> u64
+    ensures { λ r. ⌜ (r ≡ x) × (r < 65536) ⌝ }
+{
+    x as u64
+}
+
+// The checksum of a list of numbers.
+pub fn sum_numbers(list: &[u16]) -> u64
+    ensures { λ r. ⌜ r ≡ sumOf (now (list .entry)) ⌝ }
+{
+    let mut h: u64 = 0;
+    let mut i: usize = 0;
+    while i < list.len() {
+        h = mixed(h, wide_number(list[i]));
+        i = i + 1;
+    }
+    h
+}
+
 fn mixed_entry(h: u64, e: NodeEntry) -> u64
     requires { ⌜ h < 18014398509481951 ⌝ }
     ensures { λ r. ⌜ (r ≡ mixEntry h e) × (r < 18014398509481951) ⌝ }
@@ -41,7 +60,8 @@ fn mixed_entry(h: u64, e: NodeEntry) -> u64
     let b = mixed(a, e.number as u64);
     let c = mixed(b, e.group as u64);
     let d = mixed(c, e.installable as u64);
-    mixed(d, e.missing as u64)
+    let f = mixed(d, e.missing as u64);
+    mixed(f, e.clause as u64)
 }
 
 // The checksum of the first n entries, which stand packed in words.

@@ -19,10 +19,10 @@ use Rattle.store.specs.declared.ConflictNode.{ConflictNode}
 use Rattle.store.specs.declared.ConflictNode.the-variants as N
 use Rattle.store.specs.declared.ConflictEdge.{ConflictEdge}
 use Rattle.store.specs.declared.Edge.{Edge}
-use Rattle.store.specs.Graph.{Graph, nodeAt, isSolvable, renumber, renumberEdge, lastOf, front, settle, unreached}
+use Rattle.store.specs.Graph.{Graph, handing, nodeAt, isSolvable, renumber, renumberEdge, lastOf, front, settle, unreached}
 use Rattle.expansion.specs.Expand.{Build, Step, on, stop, startBuild, expand}
-use Rattle.graph.specs.Graphs.{isLearnt, Turned, go, halt, expanded, coreTurn, turnAt, Built, built, stopped, buildFrom, buildOf, Outcome, drawn, refused, finished, graphOf}
-use Rattle.shape.specs.Shaped.{Known, isEnd, fitsTarget, Runs, Shaped}
+use Rattle.graph.specs.Graphs.{isLearnt, Turned, go, halt, expanded, coreTurn, handed, turnAt, Built, built, stopped, buildFrom, buildOf, Outcome, drawn, refused, finished, graphOf}
+use Rattle.shape.specs.Shaped.{Known, isEnd, fitsTarget, Runs, Shaped, shaped-hand}
 use Rattle.shape.specs.Reared.{Sane, expand-sane, start-sane}
 
 pub record Graphed (T : Tables) (G : Graph) : Type 0 where
@@ -173,11 +173,12 @@ moves-last ys z = record { inside = inside; same = same }
         (λ t. rw t (sym (ap (λ (i : ℕ). getD (N.Root ∷ N.UnresolvedDependency ∷ snoc ys z) i N.Root) (eqb-true x (suc (suc (length ys))) t) ∙ getD-append-seam ys z [] N.Root)))
         (λ t. let d : x ≡ suc (suc (length ys)) → ⊥ = eqb-false x (suc (suc (length ys))) t in rw t (other x (omega (arith, long, d)) n))
 
-abbrev gone : List ConflictNode → List Edge → Graph
-gone ns es = record { nodes = N.Root ∷ lastOf (drop 2 ns) ++ front (drop 2 ns); edges = map (renumberEdge (length ns - 1)) es }
+-- fs, c: the nodes' clauses and the one at hand, whatever they are
+abbrev gone : List ConflictNode → List Edge → List ℕ → ℕ → Graph
+gone ns es fs c = record { nodes = N.Root ∷ lastOf (drop 2 ns) ++ front (drop 2 ns); edges = map (renumberEdge (length ns - 1)) es; firsts = fs; hand = c }
 
-gone-none : (T : Tables) (es : List Edge) → length es ≤ 1024 → any (λ e. eqb (e .target) 1) es ≡ false → All (Runs (N.Root ∷ N.UnresolvedDependency ∷ [])) es → Graphed T (gone (N.Root ∷ N.UnresolvedDependency ∷ []) es)
-gone-none T es m q R =
+gone-none : (T : Tables) (es : List Edge) (fs : List ℕ) (c : ℕ) → length es ≤ 1024 → any (λ e. eqb (e .target) 1) es ≡ false → All (Runs (N.Root ∷ N.UnresolvedDependency ∷ [])) es → Graphed T (gone (N.Root ∷ N.UnresolvedDependency ∷ []) es fs c)
+gone-none T es fs c m q R =
     record {
       tail = [];
       nodes-are = refl;
@@ -194,8 +195,8 @@ gone-none T es m q R =
     none zero l e = clash (cc)
     none (suc n) l e = let f : ⊥ = omega arith in absurd f
 
-gone-last : (T : Tables) (ys : List ConflictNode) (z : ConflictNode) (es : List Edge) → All (Known T) (N.Root ∷ N.UnresolvedDependency ∷ snoc ys z) → Distinct (N.Root ∷ N.UnresolvedDependency ∷ snoc ys z) → suc (suc (suc (length ys))) ≤ 128 → length es ≤ 1024 → any (λ e. eqb (e .target) 1) es ≡ false → All (Runs (N.Root ∷ N.UnresolvedDependency ∷ snoc ys z)) es → Graphed T (record { nodes = N.Root ∷ z ∷ ys; edges = map (renumberEdge (suc (suc (length ys)))) es })
-gone-last T ys z es k d l m q R =
+gone-last : (T : Tables) (ys : List ConflictNode) (z : ConflictNode) (es : List Edge) (fs : List ℕ) (c : ℕ) → All (Known T) (N.Root ∷ N.UnresolvedDependency ∷ snoc ys z) → Distinct (N.Root ∷ N.UnresolvedDependency ∷ snoc ys z) → suc (suc (suc (length ys))) ≤ 128 → length es ≤ 1024 → any (λ e. eqb (e .target) 1) es ≡ false → All (Runs (N.Root ∷ N.UnresolvedDependency ∷ snoc ys z)) es → Graphed T (record { nodes = N.Root ∷ z ∷ ys; edges = map (renumberEdge (suc (suc (length ys)))) es; firsts = fs; hand = c })
+gone-last T ys z es fs c k d l m q R =
     let a = all-last (Known T) ys z (k .1 .1) in
     let b = distinct-last ys z (d .1 .1) in
     record {
@@ -219,15 +220,15 @@ gone-last T ys z es k d l m q R =
     none : (n : ℕ) → n < length (N.Root ∷ z ∷ ys) → getD (N.Root ∷ z ∷ ys) n N.Root ≡ N.UnresolvedDependency → ⊥
     none n h e = no-second N.UnresolvedDependency (N.Root ∷ z ∷ ys) gone-in n h e
 
-gone-by : (T : Tables) (rest : List ConflictNode) (es : List Edge) → All (Known T) (N.Root ∷ N.UnresolvedDependency ∷ rest) → Distinct (N.Root ∷ N.UnresolvedDependency ∷ rest) → suc (suc (length rest)) ≤ 128 → length es ≤ 1024 → any (λ e. eqb (e .target) 1) es ≡ false → All (Runs (N.Root ∷ N.UnresolvedDependency ∷ rest)) es → Graphed T (gone (N.Root ∷ N.UnresolvedDependency ∷ rest) es)
-gone-by T [] es k d l m q R = gone-none T es m q R
-gone-by T (x ∷ r) es k d l m q R =
+gone-by : (T : Tables) (rest : List ConflictNode) (es : List Edge) (fs : List ℕ) (h : ℕ) → All (Known T) (N.Root ∷ N.UnresolvedDependency ∷ rest) → Distinct (N.Root ∷ N.UnresolvedDependency ∷ rest) → suc (suc (length rest)) ≤ 128 → length es ≤ 1024 → any (λ e. eqb (e .target) 1) es ≡ false → All (Runs (N.Root ∷ N.UnresolvedDependency ∷ rest)) es → Graphed T (gone (N.Root ∷ N.UnresolvedDependency ∷ rest) es fs h)
+gone-by T [] es fs h k d l m q R = gone-none T es fs h m q R
+gone-by T (x ∷ r) es fs h k d l m q R =
     let c : Cut (x ∷ r) = cut x r in
     let w : x ∷ r ≡ snoc (c .ys) (c .z) = c .whole in
     let n : length (x ∷ r) ≡ suc (length (c .ys)) = ap length w ∙ length-snoc (c .ys) (c .z) in
     let o : length (N.Root ∷ N.UnresolvedDependency ∷ x ∷ r) - 1 ≡ suc (suc (length (c .ys))) = omega arith in
     rw (c .last-is, c .front-is, o)
-    (gone-last T (c .ys) (c .z) es
+    (gone-last T (c .ys) (c .z) es fs h
     (subst (λ (l : List ConflictNode). All (Known T) (N.Root ∷ N.UnresolvedDependency ∷ l)) w k)
     (subst (λ (l : List ConflictNode). Distinct (N.Root ∷ N.UnresolvedDependency ∷ l)) w d) (omega arith) m q
     (subst (λ (l : List ConflictNode). All (Runs (N.Root ∷ N.UnresolvedDependency ∷ l)) es) w R))
@@ -238,7 +239,7 @@ graphed-settle T G S =
     split (any (λ e. eqb (e .target) 1) (G .edges))
     (λ t. rw t (graphed-stays T G S))
     (λ t. let p : G .nodes ≡ N.Root ∷ N.UnresolvedDependency ∷ S .rest = S .nodes-are in
-    rw (t, p) (gone-by T (S .rest) (G .edges) (rw p at (S .known)) (rw p at (S .once)) (rw p at (S .nodes-most)) (S .edges-most) t (rw p at (S .edges))))
+    rw (t, p) (gone-by T (S .rest) (G .edges) (65535 ∷ lastOf (drop 2 (G .firsts)) ++ front (drop 2 (G .firsts))) (G .hand) (rw p at (S .known)) (rw p at (S .once)) (rw p at (S .nodes-most)) (S .edges-most) t (rw p at (S .edges))))
 
 -- ---- all clauses
 
@@ -248,12 +249,12 @@ module _ (T : Tables) (valid : Valid T) where
   turn-sane i b d P e =
       split (coreAt T i)
       (λ t. split (isLearnt (clauseOf T i))
-      (λ u. let z : halt 7 (b .graph) ≡ go d = rw (t, turnAt, u, coreTurn) at e in clash (cc))
-      (λ u. step (expand T (clauseOf T i) b) refl (rw (t, turnAt, u, coreTurn) at e)))
+      (λ u. let z : halt 7 (handing i (b .graph)) ≡ go d = rw (t, turnAt, u, coreTurn) at e in clash (cc))
+      (λ u. step (expand T (clauseOf T i) (handed i b)) refl (rw (t, turnAt, u, coreTurn) at e)))
       (λ t. let z : go b ≡ go d = rw (t, turnAt) at e in let y : b ≡ d = cc in rw (← y) P)
     where
-      step : (s : Step) → expand T (clauseOf T i) b ≡ s → expanded (expand T (clauseOf T i) b) ≡ go d → Sane T d
-      step (on c) q z = let y : go c ≡ go d = rw (q, expanded) at z in let x : c ≡ d = cc in rw (← x) (expand-sane T valid i b c P q)
+      step : (s : Step) → expand T (clauseOf T i) (handed i b) ≡ s → expanded (expand T (clauseOf T i) (handed i b)) ≡ go d → Sane T d
+      step (on c) q z = let y : go c ≡ go d = rw (q, expanded) at z in let x : c ≡ d = cc in rw (← x) (expand-sane T valid i (handed i b) c (record { shaped = shaped-hand T (b .graph) i (P .shaped); lasts = P .lasts }) q)
       step (stop g) q z = let y : halt 8 g ≡ go d = rw (q, expanded) at z in clash (cc)
 
   build-step : (n i : ℕ) (b d : Build) → ((c : Build) → Sane T c → buildFrom n T (suc i) c ≡ built d → Sane T d) → Sane T b → (t : Turned) → turnAt T i b ≡ t → buildFrom (suc n) T i b ≡ built d → Sane T d

@@ -21,7 +21,7 @@ use Rattle.store.specs.declared.ConflictCause.the-variants as K
 use Rattle.store.specs.declared.ConflictEdge.{ConflictEdge}
 use Rattle.store.specs.declared.ConflictEdge.the-variants as W
 use Rattle.store.specs.declared.Edge.{Edge}
-use Rattle.store.specs.Graph.{Graph, Added, added, full, sameNode, startGraph, addNode, addEdge, addLink}
+use Rattle.store.specs.Graph.{Graph, Added, added, full, sameNode, startGraph, handing, withNode, withEdge, addNode, addEdge, addLink}
 use Rattle.store.specs.Words.{same-true, same-refl}
 
 -- a node's number is below its table's count
@@ -70,6 +70,10 @@ pub record Shaped (T : Tables) (G : Graph) : Type 0 where
 pub shaped-start : (T : Tables) → Shaped T startGraph
 shaped-start T =
     record { rest = []; nodes-are = refl; known = (tt, (tt, tt)); once = (λ i. either i (λ e. clash (cc)) (λ z. z), (λ i. i, tt)); nodes-most = omega arith; edges-most = omega arith; edges = tt }
+
+-- the clause at hand does not matter
+pub shaped-hand : (T : Tables) (G : Graph) (i : ℕ) → Shaped T G → Shaped T (handing i G)
+shaped-hand T G i S = record { rest = S .rest; nodes-are = S .nodes-are; known = S .known; once = S .once; nodes-most = S .nodes-most; edges-most = S .edges-most; edges = S .edges }
 
 -- ---- a node at the end
 
@@ -120,7 +124,7 @@ placed : (T : Tables) (g h : Graph) (x : ConflictNode) (i : ℕ) → Shaped T g 
 unfolding addNode
 placed T g h x i S k e = go (place (sameNode x) (g .nodes) 0) refl
   where
-    new : place (sameNode x) (g .nodes) 0 ≡ none → ltb (length (g .nodes)) 128 ≡ true → Placed T g (record { nodes = snoc (g .nodes) x; edges = g .edges }) x (length (g .nodes))
+    new : place (sameNode x) (g .nodes) 0 ≡ none → ltb (length (g .nodes)) 128 ≡ true → Placed T g (withNode g x) x (length (g .nodes))
     new q t =
         record {
           shaped = record {
@@ -148,8 +152,8 @@ placed T g h x i S k e = go (place (sameNode x) (g .nodes) 0) refl
         rw (← y, ← v) (record { shaped = S; below = r .2; here = r .3; ys = []; grown = append-none (g .nodes) })
     go none q =
         split (ltb (length (g .nodes)) 128)
-        (λ t. let z : added (length (g .nodes)) (record { nodes = snoc (g .nodes) x; edges = g .edges }) ≡ added i h = rw (q, addNode, t) at e in
-        let y : record { nodes = snoc (g .nodes) x; edges = g .edges } ≡ h = cc in
+        (λ t. let z : added (length (g .nodes)) (withNode g x) ≡ added i h = rw (q, addNode, t) at e in
+        let y : withNode g x ≡ h = cc in
         let u : length (g .nodes) ≡ i = cc in
         rw (← y, ← u) (new q t))
         (λ t. let z : full g ≡ added i h = rw (q, addNode, t) at e in clash (cc))
@@ -159,8 +163,8 @@ shaped-edge : (T : Tables) (g h : Graph) (e : Edge) (i : ℕ) → Shaped T g →
 unfolding addEdge
 shaped-edge T g h e i S R q =
     split (ltb (length (g .edges)) 1024)
-    (λ t. let z : added (length (g .edges)) (record { nodes = g .nodes; edges = snoc (g .edges) e }) ≡ added i h = rw t at q in
-    let y : record { nodes = g .nodes; edges = snoc (g .edges) e } ≡ h = cc in
+    (λ t. let z : added (length (g .edges)) (withEdge g e) ≡ added i h = rw t at q in
+    let y : withEdge g e ≡ h = cc in
     rw (← y) (record {
       rest = S .rest;
       nodes-are = S .nodes-are;
@@ -183,11 +187,11 @@ pub shaped-link : (T : Tables) (g h : Graph) (x y : ConflictNode) (w : ConflictE
 unfolding addLink
 shaped-link T g h x y w i S O e = first (addNode g x) refl
   where
-    last : (j m : ℕ) (k l : Graph) → Placed T g k x j → Placed T k l y m → addEdge l (record { source = j; target = m; weight = w }) ≡ added i h → Shaped T h
+    last : (j m : ℕ) (k l : Graph) → Placed T g k x j → Placed T k l y m → addEdge l (record { source = j; target = m; weight = w; clause = l .hand }) ≡ added i h → Shaped T h
     last j m k l A B z =
         let s : getD (l .nodes) j N.Root ≡ x = ap (λ (ns : List ConflictNode). getD ns j N.Root) (B .grown) ∙ List·getD-append (k .nodes) (B .ys) N.Root j (A .below) ∙ A .here in
         let b : length (l .nodes) ≡ length (k .nodes) + length (B .ys) = ap length (B .grown) ∙ length-append (k .nodes) (B .ys) in
-        shaped-edge T l h (record { source = j; target = m; weight = w }) i (B .shaped)
+        shaped-edge T l h (record { source = j; target = m; weight = w; clause = l .hand }) i (B .shaped)
         (record { from = omega (arith, A .below); to = B .below; source-end = rw s (O .source-end); target-fits = rw (B .here) (O .target-fits) }) z
 
     second : (j : ℕ) (k : Graph) → addNode g x ≡ added j k → (b : Added) → addNode k y ≡ b → Shaped T h

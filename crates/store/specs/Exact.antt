@@ -2,32 +2,34 @@
 -- the graph and the promise determines every word that was lent.
 use mathlib.Core.Path.{_≡_, refl, sym, ap, _∙_}
 use mathlib.Core.List.{List}
-use Prim.Native.Nat.{ℕ, _+_, _-_, _<_, _≤_}
+use Prim.Native.Nat.{ℕ, _+_, _*_, _-_, _<_, _≤_}
 use native.Mathlib.Omega.{arith}
 use lib.ListN.{length, getD}
 use lib.Seq.{ext-getD}
 use lib.Dec.{ltb}
 use borrow.Author.Tests.{ltb-true, ltb-false}
 use Rattle.basis.specs.Members.{split, clash}
+use Rattle.store.specs.declared.ConflictNode.{ConflictNode}
 use Rattle.store.specs.declared.Size.{Size}
 use Rattle.store.specs.declared.Put.{Put}
 use Rattle.store.specs.declared.Put.the-variants.{At, Full}
-use Rattle.store.specs.Graph.{Graph, nodeAt}
-use Rattle.store.specs.Words.{wordOf, nodeOf, edgeWord}
-use Rattle.store.specs.Table.{graphIn, edgeIn, noEdge, Stored, Growing, addedIn, sizeOf, nodes-count, edges-count, node-in, edge-in, node-read}
+use Rattle.store.specs.Graph.{Graph, nodeAt, firstAt}
+use Rattle.store.specs.Words.{wordOf, nodeOf, firstOf, edgeWord}
+use Rattle.store.specs.Table.{graphIn, edgeIn, noEdge, Stored, Growing, addedIn, sizeOf, nodes-count, edges-count, node-in, first-in, edge-in, node-read, first-read}
 
-size-same : (s t : Size) → s .nodes ≡ t .nodes → s .edges ≡ t .edges → s ≡ t
-size-same s t p q =
-    ap (λ (n : ℕ). sized n (s .edges)) p ∙ ap (λ (m : ℕ). sized (t .nodes) m) q
+size-same : (s t : Size) → s .nodes ≡ t .nodes → s .edges ≡ t .edges → s .hand ≡ t .hand → s ≡ t
+size-same s t p q r =
+    ap (λ (n : ℕ). sized n (s .edges) (s .hand)) p ∙ ap (λ (m : ℕ). sized (t .nodes) m (s .hand)) q ∙ ap (λ (h : ℕ). sized (t .nodes) (t .edges) h) r
   where
-    sized : ℕ → ℕ → Size
-    sized n m = record { nodes = n; edges = m }
+    sized : ℕ → ℕ → ℕ → Size
+    sized n m h = record { nodes = n; edges = m; hand = h }
 
 -- a word is that of its node, of its edge
-node-word : (g : List ℕ) (s : Size) → Stored g s → (n : ℕ) → n < s .nodes → getD g (1024 + n) 0 ≡ wordOf (nodeAt (graphIn g s) n)
+node-word : (g : List ℕ) (s : Size) → Stored g s → (n : ℕ) → n < s .nodes → getD g (1024 + n) 0 ≡ wordOf (nodeAt (graphIn g s) n) + 262144 * firstAt (graphIn g s) n
 node-word g s S n h =
     let z : nodeOf (getD g (1024 + n) 0) ≡ nodeAt (graphIn g s) n = node-read g n (getD g (1024 + n) 0) (nodeOf (getD g (1024 + n) 0)) refl refl (omega (arith, S .nodes-most)) ∙ node-in g s S n h in
-    sym (S .word n h) ∙ ap wordOf z
+    let y : firstOf (getD g (1024 + n) 0) ≡ firstAt (graphIn g s) n = first-read g n (getD g (1024 + n) 0) refl (omega (arith, S .nodes-most)) ∙ first-in g s S n h in
+    sym (S .word n h) ∙ ap (λ (x : ConflictNode). wordOf x + 262144 * firstOf (getD g (1024 + n) 0)) z ∙ ap (λ (c : ℕ). wordOf (nodeAt (graphIn g s) n) + 262144 * c) y
 
 edge-word : (g : List ℕ) (s : Size) → Stored g s → (e : ℕ) → e < s .edges → getD g e 0 ≡ edgeWord (getD (graphIn g s .edges) e noEdge)
 unfolding edgeIn
@@ -41,7 +43,8 @@ module _ (g h : List ℕ) (s t : Size) (S : Stored g s) (T : Stored h t) (q : gr
   edges-one = sym (edges-count g s S) ∙ ap (λ (x : Graph). length (x .edges)) q ∙ edges-count h t T
 
   pub size-one : s ≡ t
-  size-one = size-same s t nodes-one edges-one
+  unfolding graphIn
+  size-one = size-same s t nodes-one edges-one (ap (λ (x : Graph). x .hand) q)
 
   pub table-one : g ≡ h
   table-one = ext-getD 0 g h (S .long ∙ sym (T .long)) each
@@ -57,7 +60,7 @@ module _ (g h : List ℕ) (s t : Size) (S : Stored g s) (T : Stored h t) (q : gr
       node i l =
           split (ltb i (s .nodes))
           (λ u. let b : i < s .nodes = ltb-true i (s .nodes) u in
-          node-word g s S i b ∙ ap (λ (x : Graph). wordOf (nodeAt x i)) q ∙ sym (node-word h t T i (omega (arith, nodes-one))))
+          node-word g s S i b ∙ ap (λ (x : Graph). wordOf (nodeAt x i) + 262144 * firstAt x i) q ∙ sym (node-word h t T i (omega (arith, nodes-one))))
           (λ u. let b : s .nodes ≤ i = ltb-false i (s .nodes) u in S .no-node i b l ∙ sym (T .no-node i (omega (arith, nodes-one)) l))
 
       each : (i : ℕ) → i < length g → getD g i 0 ≡ getD h i 0

@@ -13,9 +13,13 @@ use Rattle.store.specs.declared.ConflictEdge.{ConflictEdge}
 use Rattle.store.specs.declared.ConflictEdge.the-variants as W
 use Rattle.store.specs.declared.Edge.{Edge}
 
+-- document 02, order 3: "An edge entry gains the number of the core clause that added it", which is `clause` of an edge; "per node, the
+-- clause that first added it; root and unresolved show 65,535", which is `firsts`. `hand` is the clause at hand: what is added keeps it
 pub record Graph : Type 0 where
   pub nodes : List ConflictNode
   pub edges : List Edge
+  pub firsts : List ℕ
+  pub hand : ℕ
 
 abbrev pub sameNode : ConflictNode → ConflictNode → Bool
 sameNode N.Root N.Root = true
@@ -37,7 +41,18 @@ sameNode (N.Excluded s) (N.Excluded t) = eqb s t
 
 -- "Root is node 0, unresolved node 1, others as first added"
 abbrev pub startGraph : Graph
-startGraph = record { nodes = N.Root ∷ N.UnresolvedDependency ∷ []; edges = [] }
+startGraph = record { nodes = N.Root ∷ N.UnresolvedDependency ∷ []; edges = []; firsts = 65535 ∷ 65535 ∷ []; hand = 65535 }
+
+-- the graph with clause i at hand
+abbrev pub handing : ℕ → Graph → Graph
+handing i g = record { nodes = g .nodes; edges = g .edges; firsts = g .firsts; hand = i }
+
+-- one more node, which the clause at hand adds first; one more edge
+abbrev pub withNode : Graph → ConflictNode → Graph
+withNode g x = record { nodes = snoc (g .nodes) x; edges = g .edges; firsts = snoc (g .firsts) (g .hand); hand = g .hand }
+
+abbrev pub withEdge : Graph → Edge → Graph
+withEdge g e = record { nodes = g .nodes; edges = snoc (g .edges) e; firsts = g .firsts; hand = g .hand }
 
 -- ---- adding: 8 where "node 129 or edge 1,025 would be added"
 
@@ -51,37 +66,38 @@ unfoldable pub addNode : Graph → ConflictNode → Added
 addNode g x =
     elim (place (sameNode x) (g .nodes) 0) [
       | some i ↦ added i g
-      | none ↦ cond (ltb (length (g .nodes)) 128) (added (length (g .nodes)) (record { nodes = snoc (g .nodes) x; edges = g .edges })) (full g)
+      | none ↦ cond (ltb (length (g .nodes)) 128) (added (length (g .nodes)) (withNode g x)) (full g)
     ]
 
 unfoldable pub addEdge : Graph → Edge → Added
 addEdge g e =
-    cond (ltb (length (g .edges)) 1024) (added (length (g .edges)) (record { nodes = g .nodes; edges = snoc (g .edges) e })) (full g)
+    cond (ltb (length (g .edges)) 1024) (added (length (g .edges)) (withEdge g e)) (full g)
 
--- both ends, the source first, then the edge
+-- both ends, the source first, then the edge, which keeps the clause at hand
 unfoldable pub addLink : Graph → ConflictNode → ConflictNode → ConflictEdge → Added
 unfolding addNode addEdge
 addLink g x y w =
     elim (addNode g x) [
       | full h ↦ full h
-      | added i h ↦ elim (addNode h y) [ full k ↦ full k | added j k ↦ addEdge k (record { source = i; target = j; weight = w }) ]
+      | added i h ↦ elim (addNode h y) [ full k ↦ full k | added j k ↦ addEdge k (record { source = i; target = j; weight = w; clause = k .hand }) ]
     ]
 
 -- ---- "If unresolved has no incoming edge it is removed, and the last node takes number 1."
--- conflict.rs leaves this to petgraph's `remove_node`; no edge goes with it, since none starts at unresolved, and edges keep their order
+-- conflict.rs leaves this to petgraph's `remove_node`; no edge goes with it, since none starts at unresolved, and edges keep their order.
+-- A node takes the clause that first added it along, and an edge keeps its own
 
 abbrev pub renumber : ℕ → ℕ → ℕ
 renumber last x = cond (eqb x last) 1 x
 
 abbrev pub renumberEdge : ℕ → Edge → Edge
-renumberEdge last e = record { source = renumber last (e .source); target = renumber last (e .target); weight = e .weight }
+renumberEdge last e = record { source = renumber last (e .source); target = renumber last (e .target); weight = e .weight; clause = e .clause }
 
-abbrev pub lastOf : List ConflictNode → List ConflictNode
+abbrev pub lastOf : {A : Type 0} → List A → List A
 lastOf [] = []
 lastOf (x ∷ []) = x ∷ []
 lastOf (x ∷ y ∷ r) = lastOf (y ∷ r)
 
-abbrev pub front : List ConflictNode → List ConflictNode
+abbrev pub front : {A : Type 0} → List A → List A
 front [] = []
 front (x ∷ []) = []
 front (x ∷ y ∷ r) = x ∷ front (y ∷ r)
@@ -92,6 +108,8 @@ settle g =
     (record {
       nodes = N.Root ∷ lastOf (drop 2 (g .nodes)) ++ front (drop 2 (g .nodes));
       edges = map (renumberEdge (length (g .nodes) - 1)) (g .edges);
+      firsts = 65535 ∷ lastOf (drop 2 (g .firsts)) ++ front (drop 2 (g .firsts));
+      hand = g .hand;
     })
 
 -- ---- looking at a graph: "Outgoing and incoming edges are read newest first."
@@ -104,6 +122,10 @@ into g n = filter (λ e. eqb (e .target) n) (reverse (g .edges))
 
 abbrev pub nodeAt : Graph → ℕ → ConflictNode
 nodeAt g n = getD (g .nodes) n N.Root
+
+-- the clause that first added node n
+abbrev pub firstAt : Graph → ℕ → ℕ
+firstAt g n = getD (g .firsts) n 65535
 
 abbrev pub isSolvable : ConflictNode → Bool
 isSolvable N.Root = false

@@ -19,7 +19,7 @@ use Rattle.store.specs.declared.ConflictNode.the-variants as N
 use Rattle.store.specs.declared.Edge.{Edge}
 use Rattle.store.specs.declared.Size.{Size}
 use Rattle.store.specs.Graph.{renumber, renumberEdge, lastOf, front, settle}
-use Rattle.store.specs.Words.{wordOf, nodeOf, edgeWord, edgeOf, weightWord}
+use Rattle.store.specs.Words.{wordOf, nodeOf, firstOf, edgeWord, edgeOf, weightWord}
 use Rattle.store.specs.Table.{nodeWords, graphIn, edgeIn, Stored, Growing, nodes-count}
 
 -- ---- does an edge lead to node 1
@@ -110,6 +110,9 @@ module _ (s t r : ℕ) (hs : s < 256) (ht : t < 256) where
   f3 : (w : ℕ) → r ≡ w / 65536 → (s + 256 * t + 65536 * r) / 16777216 ≡ w / 16777216
   f3 w q = omega arith
 
+  f4 : (w : ℕ) → r ≡ w / 65536 → (s + 256 * t + 65536 * r) / 1099511627776 ≡ w / 1099511627776
+  f4 w q = omega arith
+
 edge-renumbered : (last w : ℕ) → edgeOf (renumberWord last w) ≡ renumberEdge last (edgeOf w)
 edge-renumbered last w =
     let hs : renumber last (w % 256) < 256 = renumber-small last (w % 256) (omega arith) in
@@ -119,6 +122,7 @@ edge-renumbered last w =
       f1 (renumber last (w % 256)) (renumber last (w / 256 % 256)) (w / 65536) hs ht,
       f2 (renumber last (w % 256)) (renumber last (w / 256 % 256)) (w / 65536) hs ht,
       f3 (renumber last (w % 256)) (renumber last (w / 256 % 256)) (w / 65536) hs ht w refl,
+      f4 (renumber last (w % 256)) (renumber last (w / 256 % 256)) (w / 65536) hs ht w refl,
     )
 
 edges-renumbered : (last : ℕ) (ws : List ℕ) → map edgeOf (map (renumberWord last) ws) ≡ map (renumberEdge last) (map edgeOf ws)
@@ -159,26 +163,27 @@ module _ (last : ℕ) (g : List ℕ) where
 
 -- ---- the nodes anew
 
-last-snoc : (xs : List ConflictNode) (x : ConflictNode) → lastOf (xs ++ (x ∷ [])) ≡ x ∷ []
+last-snoc : {A : Type 0} (xs : List A) (x : A) → lastOf (xs ++ (x ∷ [])) ≡ x ∷ []
 last-snoc [] x = refl
 last-snoc (y ∷ []) x = refl
 last-snoc (y ∷ z ∷ xs) x = last-snoc (z ∷ xs) x
 
-front-snoc : (xs : List ConflictNode) (x : ConflictNode) → front (xs ++ (x ∷ [])) ≡ xs
+front-snoc : {A : Type 0} (xs : List A) (x : A) → front (xs ++ (x ∷ [])) ≡ xs
 front-snoc [] x = refl
 front-snoc (y ∷ []) x = refl
 front-snoc (y ∷ z ∷ xs) x = rw (front-snoc (z ∷ xs) x)
 
-abbrev moved : List ConflictNode → List ConflictNode
-moved xs = N.Root ∷ lastOf (drop 2 xs) ++ front (drop 2 xs)
+abbrev moved : {A : Type 0} → A → List A → List A
+moved a xs = a ∷ lastOf (drop 2 xs) ++ front (drop 2 xs)
 
-nodes-moved : (d : List ℕ) (l : ℕ) → getD d 0 0 ≡ 0 → suc l < length d → map nodeOf (take (suc l) (set d 1 (getD d (suc l) 0))) ≡ moved (map nodeOf (take (suc (suc l)) d))
-nodes-moved [] l z h = let f : ⊥ = omega arith in absurd f
-nodes-moved (x ∷ []) l z h = let f : ⊥ = omega arith in absurd f
-nodes-moved (x ∷ y ∷ r) zero z h = rw z
-nodes-moved (x ∷ y ∷ r) (suc l) z h =
+-- f reads the node, or its clause, off a word; a is the root's
+words-moved : {A : Type 0} (f : ℕ → A) (a : A) (d : List ℕ) (l : ℕ) → f (getD d 0 0) ≡ a → suc l < length d → map f (take (suc l) (set d 1 (getD d (suc l) 0))) ≡ moved a (map f (take (suc (suc l)) d))
+words-moved f a [] l z h = let f : ⊥ = omega arith in absurd f
+words-moved f a (x ∷ []) l z h = let f : ⊥ = omega arith in absurd f
+words-moved f a (x ∷ y ∷ r) zero z h = rw z
+words-moved f a (x ∷ y ∷ r) (suc l) z h =
     let q : l < length r = omega arith in
-    rw (z, take-suc r l 0 q, map-append nodeOf (take l r) (getD r l 0 ∷ []), last-snoc (map nodeOf (take l r)) (nodeOf (getD r l 0)), front-snoc (map nodeOf (take l r)) (nodeOf (getD r l 0)))
+    rw (z, take-suc r l 0 q, map-append f (take l r) (getD r l 0 ∷ []), last-snoc (map f (take l r)) (f (getD r l 0)), front-snoc (map f (take l r)) (f (getD r l 0)))
 
 -- ---- the table after it: the last node's word at place 1, its own place free, every edge renumbered
 
@@ -189,13 +194,16 @@ abbrev gone : List ℕ → ℕ → ℕ → List ℕ
 gone g last m = renumberTo last (vacated g last) m
 
 abbrev pub goneSize : Size → Size
-goneSize s = record { nodes = s .nodes - 1; edges = s .edges }
+goneSize s = record { nodes = s .nodes - 1; edges = s .edges; hand = s .hand }
+
+upper : (s t r w : ℕ) → s < 256 → t < 256 → s + 256 * t + 65536 * r ≡ w → r ≡ w / 65536
+upper s t r w hs ht q = omega arith
 
 -- a word that is its edge's own stays so
 packed-renumbered : (last w : ℕ) → edgeWord (edgeOf w) ≡ w → edgeWord (edgeOf (renumberWord last w)) ≡ renumberWord last w
 packed-renumbered last w q =
-    let a : w % 256 + 256 * (w / 256 % 256) + 65536 * weightWord (edgeOf w .weight) ≡ w = q in
-    let z : weightWord (edgeOf w .weight) ≡ w / 65536 = omega arith in
+    let a : w % 256 + 256 * (w / 256 % 256) + 65536 * (weightWord (edgeOf w .weight) + 16777216 * edgeOf w .clause) ≡ w = q in
+    let z : weightWord (edgeOf w .weight) + 16777216 * edgeOf w .clause ≡ w / 65536 = upper (w % 256) (w / 256 % 256) (weightWord (edgeOf w .weight) + 16777216 * edgeOf w .clause) w (omega arith) (omega arith) a in
     ap edgeWord (edge-renumbered last w)
     ∙ ap (λ (n : ℕ). renumber last (w % 256) + 256 * renumber last (w / 256 % 256) + 65536 * n) z
 
@@ -248,17 +256,17 @@ module _ (g : List ℕ) (s : Size) (P : Growing g s) where
     h-length : length h ≡ 1152
     h-length = length-set k (1024 + last) 0 ∙ length-set g 1025 (getD g (1024 + last) 0) ∙ P .stored .long
 
-    gone-nodes : map nodeOf (take last (drop 1024 (gone g last (s .edges)))) ≡ moved (map nodeOf (take (s .nodes) (drop 1024 g)))
-    gone-nodes =
+    gone-words : {A : Type 0} (f : ℕ → A) (y : A) → f 17179607040 ≡ y → map f (take last (drop 1024 (gone g last (s .edges)))) ≡ moved y (map f (take (s .nodes) (drop 1024 g)))
+    gone-words f y o =
         let a : last ≡ suc (s .nodes - 2) = omega (arith, P .two) in
         let c : s .nodes ≡ suc (suc (s .nodes - 2)) = omega (arith, P .two) in
-        let r : getD (drop 1024 g) 0 0 ≡ 0 = getD-drop 1024 g 0 0 ∙ P .stored .root in
+        let r : f (getD (drop 1024 g) 0 0) ≡ y = ap f (getD-drop 1024 g 0 0 ∙ P .stored .root) ∙ o in
         let n : suc (s .nodes - 2) < length (drop 1024 g) = rw length-drop (omega (arith, P .two, P .stored .long, P .stored .nodes-most)) in
-        ap (λ (l : List ℕ). map nodeOf (take last l)) (to-nodes last h (s .edges) (P .stored .edges-most))
-        ∙ ap (map nodeOf) h-nodes
-        ∙ ap (λ (j : ℕ). map nodeOf (take j (set (drop 1024 g) 1 (getD (drop 1024 g) j 0)))) a
-        ∙ nodes-moved (drop 1024 g) (s .nodes - 2) r n
-        ∙ ap (λ (j : ℕ). moved (map nodeOf (take j (drop 1024 g)))) (sym c)
+        ap (λ (l : List ℕ). map f (take last l)) (to-nodes last h (s .edges) (P .stored .edges-most))
+        ∙ ap (map f) h-nodes
+        ∙ ap (λ (j : ℕ). map f (take j (set (drop 1024 g) 1 (getD (drop 1024 g) j 0)))) a
+        ∙ words-moved f y (drop 1024 g) (s .nodes - 2) r n
+        ∙ ap (λ (j : ℕ). moved y (map f (take j (drop 1024 g)))) (sym c)
 
     gone-edges : map edgeOf (take (s .edges) (gone g last (s .edges))) ≡ map (renumberEdge last) (map edgeOf (take (s .edges) g))
     gone-edges =
@@ -269,7 +277,7 @@ module _ (g : List ℕ) (s : Size) (P : Growing g s) where
     unfolding settle graphIn
     settle-gone =
         let c : length (map nodeOf (nodeWords g (s .nodes))) ≡ s .nodes = nodes-count g s (P .stored) in
-        rw (unled, gone-nodes, gone-edges, c)
+        rw (unled, gone-words nodeOf N.Root refl, gone-words firstOf 65535 refl, gone-edges, c)
 
     settle-stored : Stored (gone g last (s .edges)) (goneSize s)
     settle-stored =
@@ -289,10 +297,10 @@ module _ (g : List ℕ) (s : Size) (P : Growing g s) where
         free : getD (gone g last (s .edges)) (1024 + last) 0 ≡ 0
         free = past last ∙ getD-set-same k (1024 + last) 0 0 (omega (arith, length-set g 1025 (getD g (1024 + last) 0), P .stored .long, P .stored .nodes-most))
 
-        first : getD (gone g last (s .edges)) 1024 0 ≡ 0
+        first : getD (gone g last (s .edges)) 1024 0 ≡ 17179607040
         first = place 0 (λ z. omega (arith, P .two)) (λ z. omega arith) ∙ P .stored .root
 
-        words : (j : ℕ) → j < s .nodes - 1 → wordOf (nodeOf (getD (gone g last (s .edges)) (1024 + j) 0)) ≡ getD (gone g last (s .edges)) (1024 + j) 0
+        words : (j : ℕ) → j < s .nodes - 1 → wordOf (nodeOf (getD (gone g last (s .edges)) (1024 + j) 0)) + 262144 * firstOf (getD (gone g last (s .edges)) (1024 + j) 0) ≡ getD (gone g last (s .edges)) (1024 + j) 0
         words j l =
             split (eqb j 1)
             (λ t. let y : j ≡ 1 = eqb-true j 1 t in rw (y, one (omega arith)) (P .stored .word last (omega (arith, P .two))))

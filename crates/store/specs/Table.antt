@@ -1,8 +1,8 @@
 -- What the table of words holds: edges from place 0 on, nodes from place 1024 on. This is the one file that says where they stand.
-use mathlib.Core.Path.{_≡_, sym, ap, _∙_}
+use mathlib.Core.Path.{_≡_, refl, sym, ap, _∙_}
 use mathlib.Core.Bool.{true, false}
-use mathlib.Core.List.{List, _∷_, map}
-use Prim.Native.Nat.{ℕ, zero, suc, _+_, _/_, _%_, _<_, _≤_}
+use mathlib.Core.List.{List, [], _∷_, map}
+use Prim.Native.Nat.{ℕ, zero, suc, _+_, _*_, _/_, _%_, _<_, _≤_}
 use native.Mathlib.Omega.{arith}
 use lib.ListN.{length, getD, take, drop, length-map, length-drop, List·getD-map}
 use lib.Dec.{ltb}
@@ -17,8 +17,8 @@ use Rattle.store.specs.declared.Edge.{Edge}
 use Rattle.store.specs.declared.Size.{Size}
 use Rattle.store.specs.declared.Put.{Put}
 use Rattle.store.specs.declared.Put.the-variants.{At, Full}
-use Rattle.store.specs.Graph.{Graph, Added, added, full, nodeAt, tryRequires, isConflict, isExcluded}
-use Rattle.store.specs.Words.{wordOf, nodeOf, nodeNumber, edgeWord, edgeOf, weightOf, byKind, requires-is, requires-none, conflict-is, conflict-not, excluded-is, excluded-not}
+use Rattle.store.specs.Graph.{Graph, handing, Added, added, full, nodeAt, firstAt, tryRequires, isConflict, isExcluded}
+use Rattle.store.specs.Words.{wordOf, nodeOf, firstOf, nodeNumber, edgeWord, edgeOf, weightOf, byKind, requires-is, requires-none, conflict-is, conflict-not, excluded-is, excluded-not}
 
 -- the words of the first k nodes
 abbrev pub nodeWords : List ℕ → ℕ → List ℕ
@@ -26,7 +26,7 @@ nodeWords g k = take k (drop 1024 g)
 
 -- the graph that a table holds
 unfoldable pub graphIn : List ℕ → Size → Graph
-graphIn g s = record { nodes = map nodeOf (nodeWords g (s .nodes)); edges = map edgeOf (take (s .edges) g) }
+graphIn g s = record { nodes = map nodeOf (nodeWords g (s .nodes)); edges = map edgeOf (take (s .edges) g); firsts = map firstOf (nodeWords g (s .nodes)); hand = s .hand }
 
 -- edge e and node n, as the table holds them
 unfoldable pub edgeIn : List ℕ → ℕ → Edge
@@ -36,31 +36,50 @@ unfoldable pub nodeIn : List ℕ → ℕ → ConflictNode
 unfolding guard
 nodeIn g n = guard (ltb n 128) N.Root (nodeOf (getD g (1024 + n) 0))
 
+-- the clause that first added node n
+unfoldable pub firstIn : List ℕ → ℕ → ℕ
+unfolding guard
+firstIn g n = guard (ltb n 128) 65535 (firstOf (getD g (1024 + n) 0))
+
 -- what a read past the last edge gives
 abbrev pub noEdge : Edge
-noEdge = record { source = 0; target = 0; weight = W.Requires 0 }
+noEdge = record { source = 0; target = 0; weight = W.Requires 0; clause = 0 }
 
--- the promise: within the limits, node 0 the root, each word the one that its node or edge has, and 0 where there is none, so that
--- the table is known from its graph; each edge's ends numbers of nodes (a source is compared and chained, never looked up: it is
--- below the limit)
+-- the promise: within the limits, node 0 the root (its word 0 with clause 65,535 at 2^18), each word the one that its node and clause,
+-- or its edge, has, and 0 where there is none, so that the table is known from its graph; each edge's ends numbers of nodes (a source
+-- is compared and chained, never looked up: it is below the limit)
 pub record Stored (g : List ℕ) (s : Size) : Type 0 where
   pub long : length g ≡ 1152
   pub some : 1 ≤ s .nodes
   pub nodes-most : s .nodes ≤ 128
   pub edges-most : s .edges ≤ 1024
-  pub root : getD g 1024 0 ≡ 0
-  pub word : (i : ℕ) → i < s .nodes → wordOf (nodeOf (getD g (1024 + i) 0)) ≡ getD g (1024 + i) 0
+  pub root : getD g 1024 0 ≡ 17179607040
+  pub word : (i : ℕ) → i < s .nodes → wordOf (nodeOf (getD g (1024 + i) 0)) + 262144 * firstOf (getD g (1024 + i) 0) ≡ getD g (1024 + i) 0
   pub no-node : (i : ℕ) → s .nodes ≤ i → i < 128 → getD g (1024 + i) 0 ≡ 0
   pub packed : (e : ℕ) → e < s .edges → edgeWord (edgeOf (getD g e 0)) ≡ getD g e 0
   pub no-edge : (e : ℕ) → s .edges ≤ e → e < 1024 → getD g e 0 ≡ 0
   pub source : (e : ℕ) → e < s .edges → getD g e 0 % 256 < 128
   pub target : (e : ℕ) → e < s .edges → getD g e 0 / 256 % 256 < s .nodes
 
--- while the graph grows, node 1 is kept for `unresolved`, and no two nodes have the same word
+-- while the graph grows, node 1 is kept for `unresolved`, and no two nodes have the same word, their clauses left out
 pub record Growing (g : List ℕ) (s : Size) : Type 0 where
   pub stored : Stored g s
   pub two : 2 ≤ s .nodes
-  pub unlike : (i j : ℕ) → i < j → j < s .nodes → getD g (1024 + i) 0 ≡ getD g (1024 + j) 0 → ⊥
+  pub unlike : (i j : ℕ) → i < j → j < s .nodes → getD g (1024 + i) 0 % 262144 ≡ getD g (1024 + j) 0 % 262144 → ⊥
+
+-- ---- the table with clause i at hand: no word changes
+
+abbrev pub taken : Size → ℕ → Size
+taken s i = record { nodes = s .nodes; edges = s .edges; hand = i }
+
+pub taken-growing : (g : List ℕ) (s : Size) (i : ℕ) → Growing g s → Growing g (taken s i)
+taken-growing g s i P =
+    let S = P .stored in
+    record { stored = record { long = S .long; some = S .some; nodes-most = S .nodes-most; edges-most = S .edges-most; root = S .root; word = S .word; no-node = S .no-node; packed = S .packed; no-edge = S .no-edge; source = S .source; target = S .target }; two = P .two; unlike = P .unlike }
+
+pub taken-graph : (g : List ℕ) (s : Size) (i : ℕ) → graphIn g (taken s i) ≡ handing i (graphIn g s)
+unfolding graphIn
+taken-graph g s i = refl
 
 -- ---- how adding went, as the definitions say it
 
@@ -77,6 +96,12 @@ placeOf (At i s) = i
 placeOf (Full s) = 0
 
 -- ---- the table read place by place
+
+-- the default counts only past the end
+getD-default : (l : List ℕ) (n a b : ℕ) → n < length l → getD l n a ≡ getD l n b
+getD-default [] n a b h = let f : ⊥ = omega arith in absurd f
+getD-default (x ∷ l) zero a b h = refl
+getD-default (x ∷ l) (suc n) a b h = getD-default l n a b (omega arith)
 
 module _ (g : List ℕ) (s : Size) (S : Stored g s) where
   nodes-wide : s .nodes ≤ length (drop 1024 g)
@@ -96,6 +121,14 @@ module _ (g : List ℕ) (s : Size) (S : Stored g s) where
       rw (lt-ltb n 128 (omega (arith, S .nodes-most)), guard)
       (sym (List·getD-map nodeOf (nodeWords g (s .nodes)) n 0
       ∙ ap nodeOf (getD-take (s .nodes) (drop 1024 g) n 0 h ∙ getD-drop 1024 g n 0)))
+
+  pub first-in : (n : ℕ) → n < s .nodes → firstIn g n ≡ firstAt (graphIn g s) n
+  unfolding graphIn firstIn guard
+  first-in n h =
+      rw (lt-ltb n 128 (omega (arith, S .nodes-most)), guard)
+      (sym (getD-default (map firstOf (nodeWords g (s .nodes))) n 65535 0 (rw length-map (rw (length-take-le (s .nodes) (drop 1024 g) nodes-wide) h))
+      ∙ List·getD-map firstOf (nodeWords g (s .nodes)) n 0
+      ∙ ap firstOf (getD-take (s .nodes) (drop 1024 g) n 0 h ∙ getD-drop 1024 g n 0)))
 
   pub edge-in : (e : ℕ) → e < s .edges → edgeIn g e ≡ getD (graphIn g s .edges) e noEdge
   unfolding graphIn edgeIn
@@ -125,7 +158,7 @@ number-fits g s n =
 -- ---- one word read, and what it tells; w is what the read gave
 
 module _ (g : List ℕ) (e w : ℕ) (q : w ≡ getD g e 0) where
-  pub edge-read : (k : ConflictEdge) → k ≡ weightOf (w / 65536 % 256) (w / 16777216 % 65536) → record { source = w % 256; target = w / 256 % 256; weight = k } ≡ edgeIn g e
+  pub edge-read : (k : ConflictEdge) → k ≡ weightOf (w / 65536 % 256) (w / 16777216 % 65536) → record { source = w % 256; target = w / 256 % 256; weight = k; clause = w / 1099511627776 % 65536 } ≡ edgeIn g e
   unfolding edgeIn
   edge-read k p = rw (p, q)
 
@@ -169,4 +202,12 @@ pub node-none : (g : List ℕ) (n : ℕ) → 128 ≤ n → N.Root ≡ nodeIn g n
 unfolding nodeIn guard
 node-none g n h = rw (le-ltb n 128 h, guard)
 
-pub ruleset reads = (edge-read, source-read, target-read, requires-read, requires-none-read, conflict-not-read, conflict-read, excluded-read, excluded-not-read, node-read, node-none)
+pub first-read : (g : List ℕ) (n w : ℕ) → w ≡ getD g (1024 + n) 0 → n < 128 → w / 262144 % 65536 ≡ firstIn g n
+unfolding firstIn guard
+first-read g n w q h = rw (lt-ltb n 128 h, guard, q)
+
+pub first-none : (g : List ℕ) (n : ℕ) → 128 ≤ n → 65535 ≡ firstIn g n
+unfolding firstIn guard
+first-none g n h = rw (le-ltb n 128 h, guard)
+
+pub ruleset reads = (first-read, first-none, edge-read, source-read, target-read, requires-read, requires-none-read, conflict-not-read, conflict-read, excluded-read, excluded-not-read, node-read, node-none)

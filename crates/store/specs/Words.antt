@@ -15,8 +15,9 @@ use Rattle.store.specs.declared.ConflictEdge.the-variants as W
 use Rattle.store.specs.declared.Edge.{Edge}
 use Rattle.store.specs.Graph.{sameNode, isConflict, tryRequires, isExcluded}
 
--- ---- nodes: kind + 4 number, kinds in the order of `ConflictNode`
+-- ---- nodes: kind + 4 number + 262144 clause, kinds in the order of `ConflictNode`
 
+-- the word without the clause, by which nodes are compared
 abbrev pub wordOf : ConflictNode → ℕ
 wordOf N.Root = 0
 wordOf (N.Solvable s) = 1 + 4 * s
@@ -32,7 +33,11 @@ byKind (suc (suc (suc k))) n = N.Excluded n
 abbrev pub nodeOf : ℕ → ConflictNode
 nodeOf w = byKind (w % 4) (w / 4 % 65536)
 
--- ---- edges: source + 256 target + 65536 tag + 16777216 number
+-- the clause that first added it
+abbrev pub firstOf : ℕ → ℕ
+firstOf w = w / 262144 % 65536
+
+-- ---- edges: source + 256 target + 65536 tag + 16777216 number + 1099511627776 clause
 
 abbrev pub causeTag : ConflictCause → ℕ
 causeTag (C.Locked s) = 1
@@ -66,10 +71,10 @@ weightOf (suc (suc (suc zero))) n = W.Conflict C.ForbidMultipleInstances
 weightOf (suc (suc (suc (suc t)))) n = W.Conflict C.Excluded
 
 abbrev pub edgeWord : Edge → ℕ
-edgeWord e = e .source + 256 * e .target + 65536 * weightWord (e .weight)
+edgeWord e = e .source + 256 * e .target + 65536 * (weightWord (e .weight) + 16777216 * e .clause)
 
 abbrev pub edgeOf : ℕ → Edge
-edgeOf w = record { source = w % 256; target = w / 256 % 256; weight = weightOf (w / 65536 % 256) (w / 16777216 % 65536) }
+edgeOf w = record { source = w % 256; target = w / 256 % 256; weight = weightOf (w / 65536 % 256) (w / 16777216 % 65536); clause = w / 1099511627776 % 65536 }
 
 -- ---- the round trip of a node
 
@@ -118,13 +123,48 @@ same-refl (N.Solvable s) = eq-eqb s s refl
 same-refl N.UnresolvedDependency = refl
 same-refl (N.Excluded s) = eq-eqb s s refl
 
--- words are equal where their nodes are
-pub same-word : (x : ConflictNode) (v : ℕ) → nodeNumber x < 65536 → wordOf (nodeOf v) ≡ v → eqb (wordOf x) v ≡ sameNode x (nodeOf v)
+word-by : (k n : ℕ) → k < 4 → n < 65536 → wordOf (byKind k n) < 262144
+word-by zero n h l = omega arith
+word-by (suc zero) n h l = omega arith
+word-by (suc (suc zero)) n h l = omega arith
+word-by (suc (suc (suc k))) n h l = omega arith
+
+-- a word is that of its node with its clause: then it is that of its node without it
+pub low-word : (v : ℕ) → wordOf (nodeOf v) + 262144 * firstOf v ≡ v → wordOf (nodeOf v) ≡ v % 262144
+low-word v e =
+    let h : wordOf (nodeOf v) < 262144 = word-by (v % 4) (v / 4 % 65536) (omega arith) (omega arith) in
+    let z : (wordOf (nodeOf v) + 262144 * firstOf v) % 262144 ≡ v % 262144 = ap (λ (n : ℕ). n % 262144) e in
+    let y : (wordOf (nodeOf v) + 262144 * firstOf v) % 262144 ≡ wordOf (nodeOf v) = low (wordOf (nodeOf v)) (firstOf v) h in
+    sym y ∙ z
+  where
+    low : (a b : ℕ) → a < 262144 → (a + 262144 * b) % 262144 ≡ a
+    low a b l = omega arith
+
+-- a node's word and a clause, apart again
+module _ (a c : ℕ) (h : a < 262144) (l : c < 65536) where
+  pub first-back : firstOf (a + 262144 * c) ≡ c
+  first-back = let z : (a + 262144 * c) / 262144 ≡ c = omega arith in rw z (omega arith)
+
+  pub low-back : (a + 262144 * c) % 262144 ≡ a
+  low-back = omega arith
+
+pub node-low : (a c : ℕ) → nodeOf (a + 262144 * c) ≡ nodeOf a
+node-low a c =
+    let x : (a + 262144 * c) % 4 ≡ a % 4 = omega arith in
+    let y : (a + 262144 * c) / 4 ≡ a / 4 + 65536 * c = omega arith in
+    let z : (a / 4 + 65536 * c) % 65536 ≡ a / 4 % 65536 = omega arith in
+    rw (x, y, z)
+
+-- words without clauses are equal where their nodes are
+pub same-word : (x : ConflictNode) (v : ℕ) → nodeNumber x < 65536 → wordOf (nodeOf v) ≡ v % 262144 → eqb (wordOf x) (v % 262144) ≡ sameNode x (nodeOf v)
 same-word x v h e =
     split (sameNode x (nodeOf v))
-    (λ t. rw t (eq-eqb (wordOf x) v (ap wordOf (same-true x (nodeOf v) t) ∙ e)))
-    (λ t. rw t (ne-eqb (wordOf x) v (λ q. let z : x ≡ nodeOf v = sym (node-back x h) ∙ ap nodeOf q in
+    (λ t. rw t (eq-eqb (wordOf x) (v % 262144) (ap wordOf (same-true x (nodeOf v) t) ∙ e)))
+    (λ t. rw t (ne-eqb (wordOf x) (v % 262144) (λ q. let z : x ≡ nodeOf v = sym (node-back x h) ∙ ap nodeOf q ∙ low-node v in
     false≢true (sym t ∙ ap (sameNode x) (sym z) ∙ same-refl x))))
+  where
+    low-node : (v : ℕ) → nodeOf (v % 262144) ≡ nodeOf v
+    low-node v = let z : v % 262144 + 262144 * (v / 262144) ≡ v = omega arith in sym (node-low (v % 262144) (v / 262144)) ∙ ap nodeOf z
 
 -- ---- the round trip of an edge
 
@@ -142,28 +182,48 @@ tag-le (W.Conflict (C.Constrains v)) = omega arith
 tag-le (W.Conflict C.ForbidMultipleInstances) = omega arith
 tag-le (W.Conflict C.Excluded) = omega arith
 
-module _ (s t g n : ℕ) (hs : s < 256) (ht : t < 256) (hg : g ≤ 4) (hn : n < 65536) where
-  f0 : (s + 256 * t + 65536 * (g + 256 * n)) % 256 ≡ s
+module _ (s t g n c : ℕ) (hs : s < 256) (ht : t < 256) (hg : g ≤ 4) (hn : n < 65536) (hc : c < 65536) where
+  abbrev upper : ℕ
+  upper = g + 256 * n + 16777216 * c
+
+  u0 : (r : ℕ) → (s + 256 * t + 65536 * r) / 65536 ≡ r
+  u0 r = omega arith
+
+  u1 : (r : ℕ) → (s + 256 * t + 65536 * r) / 16777216 ≡ r / 256
+  u1 r = omega arith
+
+  u2 : (r : ℕ) → (s + 256 * t + 65536 * r) / 1099511627776 ≡ r / 16777216
+  u2 r = omega arith
+
+  f0 : (s + 256 * t + 65536 * (g + 256 * n + 16777216 * c)) % 256 ≡ s
   f0 = omega arith
 
-  f1 : (s + 256 * t + 65536 * (g + 256 * n)) / 256 % 256 ≡ t
+  f1 : (s + 256 * t + 65536 * (g + 256 * n + 16777216 * c)) / 256 % 256 ≡ t
   f1 = omega arith
 
-  f2 : (s + 256 * t + 65536 * (g + 256 * n)) / 65536 % 256 ≡ g
-  f2 = omega arith
+  f2 : (s + 256 * t + 65536 * (g + 256 * n + 16777216 * c)) / 65536 % 256 ≡ g
+  f2 = rw (u0 (g + 256 * n + 16777216 * c)) (omega arith)
 
-  f3 : (s + 256 * t + 65536 * (g + 256 * n)) / 16777216 % 65536 ≡ n
-  f3 = omega arith
+  f3 : (s + 256 * t + 65536 * (g + 256 * n + 16777216 * c)) / 16777216 % 65536 ≡ n
+  f3 =
+      let z : (g + 256 * n + 16777216 * c) / 256 ≡ n + 65536 * c = omega arith in
+      rw (u1 (g + 256 * n + 16777216 * c), z) (omega arith)
+
+  f4 : (s + 256 * t + 65536 * (g + 256 * n + 16777216 * c)) / 1099511627776 % 65536 ≡ c
+  f4 =
+      let z : (g + 256 * n + 16777216 * c) / 16777216 ≡ c = omega arith in
+      rw (u2 (g + 256 * n + 16777216 * c), z) (omega arith)
 
 -- v, what a call gave for the weight
-pub edge-back : (e : Edge) (v : ℕ) → v ≡ weightWord (e .weight) → e .source < 256 → e .target < 256 → numberOf (e .weight) < 65536 → edgeOf (e .source + 256 * e .target + 65536 * v) ≡ e
-edge-back e v q hs ht hn =
+pub edge-back : (e : Edge) (v : ℕ) → v ≡ weightWord (e .weight) → e .source < 256 → e .target < 256 → numberOf (e .weight) < 65536 → e .clause < 65536 → edgeOf (e .source + 256 * e .target + 65536 * (v + 16777216 * e .clause)) ≡ e
+edge-back e v q hs ht hn hc =
     rw q
     (simp (
-      f0 (e .source) (e .target) (tagOf (e .weight)) (numberOf (e .weight)) hs ht (tag-le (e .weight)) hn,
-      f1 (e .source) (e .target) (tagOf (e .weight)) (numberOf (e .weight)) hs ht (tag-le (e .weight)) hn,
-      f2 (e .source) (e .target) (tagOf (e .weight)) (numberOf (e .weight)) hs ht (tag-le (e .weight)) hn,
-      f3 (e .source) (e .target) (tagOf (e .weight)) (numberOf (e .weight)) hs ht (tag-le (e .weight)) hn,
+      f0 (e .source) (e .target) (tagOf (e .weight)) (numberOf (e .weight)) (e .clause) hs ht (tag-le (e .weight)) hn hc,
+      f1 (e .source) (e .target) (tagOf (e .weight)) (numberOf (e .weight)) (e .clause) hs ht (tag-le (e .weight)) hn hc,
+      f2 (e .source) (e .target) (tagOf (e .weight)) (numberOf (e .weight)) (e .clause) hs ht (tag-le (e .weight)) hn hc,
+      f3 (e .source) (e .target) (tagOf (e .weight)) (numberOf (e .weight)) (e .clause) hs ht (tag-le (e .weight)) hn hc,
+      f4 (e .source) (e .target) (tagOf (e .weight)) (numberOf (e .weight)) (e .clause) hs ht (tag-le (e .weight)) hn hc,
       weight-back,
     ))
 
@@ -219,6 +279,7 @@ pub record WeightWord (w : ConflictEdge) (r : ℕ) : Type 0 where
 pub record NodeWord (x : ConflictNode) (r : ℕ) : Type 0 where
   pub is : r ≡ wordOf x
   pub fits : nodeNumber x < 65536
+  pub small : r < 262144
 
 pub cause-locked : (c : ConflictCause) (s : ℕ) → c ≡ C.Locked s → s < 65536 → CauseWord c (1 + 256 * s)
 cause-locked c s e h = rw e (record { is = refl; fits = h; small = omega arith })
@@ -239,22 +300,16 @@ pub weight-conflict : (w : ConflictEdge) (c : ConflictCause) (r : ℕ) → w ≡
 weight-conflict w c r e h = rw e (record { is = h .is; fits = h .fits; small = h .small })
 
 pub word-root : (x : ConflictNode) → x ≡ N.Root → NodeWord x 0
-word-root x e = rw e (record { is = refl; fits = omega arith })
+word-root x e = rw e (record { is = refl; fits = omega arith; small = omega arith })
 
 pub word-solvable : (x : ConflictNode) (s : ℕ) → x ≡ N.Solvable s → s < 65536 → NodeWord x (1 + 4 * s)
-word-solvable x s e h = rw e (record { is = refl; fits = h })
+word-solvable x s e h = rw e (record { is = refl; fits = h; small = omega arith })
 
 pub word-unresolved : (x : ConflictNode) → x ≡ N.UnresolvedDependency → NodeWord x 2
-word-unresolved x e = rw e (record { is = refl; fits = omega arith })
+word-unresolved x e = rw e (record { is = refl; fits = omega arith; small = omega arith })
 
 pub word-excluded : (x : ConflictNode) (s : ℕ) → x ≡ N.Excluded s → s < 65536 → NodeWord x (3 + 4 * s)
-word-excluded x s e h = rw e (record { is = refl; fits = h })
-
-pub word-small : (x : ConflictNode) (w : ℕ) → NodeWord x w → w < 262144
-word-small N.Root w e = rw (e .is) (omega arith)
-word-small (N.Solvable s) w e = let h : s < 65536 = e .fits in rw (e .is) (omega arith)
-word-small N.UnresolvedDependency w e = rw (e .is) (omega arith)
-word-small (N.Excluded s) w e = let h : s < 65536 = e .fits in rw (e .is) (omega arith)
+word-excluded x s e h = rw e (record { is = refl; fits = h; small = omega arith })
 
 -- r packs the edge
 pub record EdgeWord (e : Edge) (r : ℕ) : Type 0 where
@@ -262,8 +317,8 @@ pub record EdgeWord (e : Edge) (r : ℕ) : Type 0 where
   pub back : edgeOf r ≡ e
 
 -- v, what a call gave for the weight
-pub edge-packed : (e : Edge) (v : ℕ) → WeightWord (e .weight) v → e .source < 256 → e .target < 256 → EdgeWord e (e .source + 256 * e .target + 65536 * v)
-edge-packed e v q hs ht = record { is = ap (λ (n : ℕ). e .source + 256 * e .target + 65536 * n) (q .is); back = edge-back e v (q .is) hs ht (q .fits) }
+pub edge-packed : (e : Edge) (v : ℕ) → WeightWord (e .weight) v → e .source < 256 → e .target < 256 → e .clause < 65536 → EdgeWord e (e .source + 256 * e .target + 65536 * (v + 16777216 * e .clause))
+edge-packed e v q hs ht hc = record { is = ap (λ (n : ℕ). e .source + 256 * e .target + 65536 * (n + 16777216 * e .clause)) (q .is); back = edge-back e v (q .is) hs ht (q .fits) hc }
 
 pub ruleset packs = (cause-locked, cause-constrains, cause-forbid, cause-excluded, weight-requires, weight-conflict, word-root, word-solvable, word-unresolved, word-excluded, edge-packed)
 

@@ -8,7 +8,7 @@ ghost use Rattle.store.specs.Words.{weightOf, byKind, EdgeWord, CauseWor
 ghost use Rattle.basis.specs.Below.{allBelow};
 ghost use Rattle.store.specs.Settling.{spares, renumberWord, renumberTo};
 ghost use Rattle.store.specs.Adding.{findOf, addTarget};
-ghost use Rattle.store.specs.Table.{graphIn, edgeIn, nodeIn, Stored, Growing, addedIn, sizeOf, placeOf};
+ghost use Rattle.store.specs.Table.{graphIn, edgeIn, nodeIn, firstIn, Stored, Growing, addedIn, sizeOf, placeOf};
 
 // A node (conflict.rs: `ConflictNode`), with the number of the solvable or reason.
 pub enum ConflictNode {
@@ -32,16 +32,19 @@ pub enum ConflictEdge {
     Conflict(ConflictCause),
 }
 
+// An edge, with the number of the core clause that added it: its number among all clauses.
 pub struct Edge {
     pub source: u8,
     pub target: u8,
     pub weight: ConflictEdge,
+    pub clause: u16,
 }
 
-// How many nodes and edges the table holds.
+// How many nodes and edges the table holds, and the clause at hand: what is added keeps its number.
 pub struct Size {
     pub nodes: usize,
     pub edges: usize,
+    pub hand: u16,
 }
 
 // How adding went: the number of the node or edge, or no room; with how much the table holds now.
@@ -89,7 +92,8 @@ fn edge_word(e: Edge) -> u64
     let w = e.weight;
     let s = e.source as u64;
     let t = e.target as u64;
-    s + 256 * t + 65536 * weight_word(w)
+    let c = e.clause as u64;
+    s + 256 * t + 65536 * (weight_word(w) + 16777216 * c)
 }
 
 // Edge e, with the default edge where the table holds none.
@@ -102,6 +106,7 @@ pub fn edge_at(g: &[u64; 1152], e: usize) -> Edge
         source: (w % 256) as u8,
         target: (w / 256 % 256) as u8,
         weight: k,
+        clause: (w / 1099511627776 % 65536) as u16,
     }
 }
 
@@ -176,24 +181,40 @@ pub fn node_at(g: &[u64; 1152], n: usize) -> ConflictNode
     ConflictNode::Root
 }
 
-// Root is node 0, unresolved node 1. The table is blank, as a caller's fresh array is.
+// The clause that first added node n; 65,535 for the root, for unresolved, and where the table has no place n.
+pub fn first_at(g: &[u64; 1152], n: usize) -> u16
+    ensures { λ r. ⌜ r ≡ firstIn (now (g .entry)) n ⌝ }
+{
+    if n < 128 {
+        let w = basis::get64(g, 1024 + n);
+        return (w / 262144 % 65536) as u16;
+    }
+    65535
+}
+
+// Root is node 0, unresolved node 1, both with clause 65,535 (at 2^18), since none added them. The table is blank, as a caller's fresh
+// array is.
 pub fn start(g: &mut [u64; 1152]) -> Size
     requires { ⌜ now g ≡ replicate 1152 0 ⌝ }
     ensures { λ r. ⌜ (graphIn (now (g .exit)) r ≡ startGraph) × Growing (now (g .exit)) r ⌝ }
 {
-    g[1024] = 0;
-    g[1025] = 2;
-    Size { nodes: 2, edges: 0 }
+    g[1024] = 17179607040;
+    g[1025] = 17179607042;
+    Size {
+        nodes: 2,
+        edges: 0,
+        hand: 65535,
+    }
 }
 
-// The place of word w among the first k nodes, or k.
+// The place of word w among the first k nodes, or k; a node's clause is not looked at.
 fn find_node(g: &[u64; 1152], k: usize, w: u64) -> usize
     requires { ⌜ (length (now g) ≡ 1152) × (k ≤ 128) ⌝ }
     ensures { λ r. ⌜ r ≡ findOf (now (g .entry)) k w ⌝ }
 {
     let mut i: usize = 0;
     while i < k {
-        if g[1024 + i] == w {
+        if g[1024 + i] % 262144 == w {
             return i;
         }
         i += 1;
@@ -204,9 +225,9 @@ fn find_node(g: &[u64; 1152], k: usize, w: u64) -> usize
 // Where word w stands if nodes and their words go up together from node n on.
 fn guess(g: &[u64; 1152], w: u64, n: usize) -> usize
     requires { ⌜ (w < 262144) × (n < 256) ⌝ }
-    ensures { λ r. ⌜ r ≡ (4 * n + w - getD (now (g .entry)) (1024 + n) 0) / 4 ⌝ }
+    ensures { λ r. ⌜ r ≡ (4 * n + w - getD (now (g .entry)) (1024 + n) 0 % 262144) / 4 ⌝ }
 {
-    let v = basis::get64(g, 1024 + n);
+    let v = basis::get64(g, 1024 + n) % 262144;
     let up = 4 * (n as u64) + w;
     if v <= up { ((up - v) / 4) as usize } else { 0 }
 }
@@ -218,7 +239,7 @@ fn find_near(g: &[u64; 1152], s: Size, w: u64, near: usize) -> usize
 {
     let k = s.nodes;
     if near < k {
-        if g[1024 + near] == w {
+        if g[1024 + near] % 262144 == w {
             return near;
         }
     }
@@ -242,12 +263,14 @@ fn add_near(g: &mut [u64; 1152], s: Size, x: ConflictNode, n: usize) -> Put
     if 128 <= k {
         return Put::Full(s);
     }
-    g[1024 + k] = w;
+    let c = s.hand as u64;
+    g[1024 + k] = w + 262144 * c;
     Put::At(
         k,
         Size {
             nodes: k + 1,
             edges: s.edges,
+            hand: s.hand,
         },
     )
 }
@@ -277,6 +300,7 @@ fn add_edge(g: &mut [u64; 1152], s: Size, e: Edge) -> Put
         Size {
             nodes: s.nodes,
             edges: m + 1,
+            hand: s.hand,
         },
     )
 }
@@ -314,6 +338,7 @@ fn link_to(g: &mut [u64; 1152], s: Size, source: u8, y: ConflictNode, w: Conflic
                 source,
                 target,
                 weight: w,
+                clause: t.hand,
             };
             add_edge(g, t, e)
         }
@@ -400,5 +425,6 @@ pub fn settle(g: &mut [u64; 1152], s: Size) -> Size
     Size {
         nodes: last,
         edges: m,
+        hand: s.hand,
     }
 }

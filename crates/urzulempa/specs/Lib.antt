@@ -2,3 +2,5 @@ pub mod Answers
 pub mod Nodes
 pub mod Draws
 pub mod Says
+pub mod Edges
+pub mod Laws

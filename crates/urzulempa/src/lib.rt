@@ -1,6 +1,7 @@
 // The public calls (include/urzulempa.h). Each owns its working arrays, takes any bytes, any room and any option, and has no
 // `requires`.
 mod checks;
+mod edges;
 mod explains;
 mod graphs;
 mod nodes;
@@ -20,6 +21,7 @@ ghost use lib.ListN.{length};
 ghost use Rattle.texts.specs.Wrote.{over};
 ghost use Rattle.urzulempa.specs.Answers.{checkOf};
 ghost use Rattle.urzulempa.specs.Draws.{resultAnswer, drawFile};
+ghost use Rattle.urzulempa.specs.Edges.{edgesAnswer, edgesLeft};
 ghost use Rattle.urzulempa.specs.Says.{Says};
 
 // Refusals 1 to 9, and no text.
@@ -71,4 +73,18 @@ pub extern "C" fn urzulempa_explain_plain(file: &[u8], room: &mut [u8]) -> Answe
     ensures { λ r. ⌜ Says (now (file .entry)) 0 (now (room .entry)) (now (room .exit)) r ⌝ }
 {
     urzulempa_explain(file, 0, room)
+}
+
+// Five numbers an edge, oldest first: source, target, kind, the number that it names, clause. Refusals 1 to 9, 10 where the list is
+// short; numbers past the last edge stay.
+#[no_mangle]
+pub extern "C" fn urzulempa_edges(file: &[u8], list: &mut [u16]) -> Answer
+    ensures { λ r. ⌜ r ≡ edgesAnswer (now (file .entry)) (length (now (list .entry))) ⌝ }
+    ensures { λ _. ⌜ now (list .exit) ≡ edgesLeft (now (file .entry)) (now (list .entry)) ⌝ }
+{
+    let mut ix = [0u16; 10432];
+    let mut g = [0u64; 1152];
+    let mut tr = [0u64; 1280];
+    let mut ls = [0u16; 3456];
+    edges::edges_in(file, &mut ix, &mut g, &mut tr, &mut ls, list)
 }

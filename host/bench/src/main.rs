@@ -14,6 +14,7 @@ fn main() -> ExitCode {
     println!("| what | bytes in | conflict.rs | port | ratio |");
     println!("|---|---|---|---|---|");
     graphs();
+    edge_lists();
     texts();
     growth();
     ExitCode::SUCCESS
@@ -88,7 +89,7 @@ fn graphs() {
         row(&format!("file to graph, {name}"), file.len(), both(|| keep(black_box(oracle::check(black_box(file)))), || keep(black_box(urzulempa::check(black_box(file))))));
     }
     for (name, file) in &loads {
-        let mut theirs = vec![oracle::Node { kind: 0, number: 0, group: 0, installable: 0, missing: 0 }; 128];
+        let mut theirs = vec![oracle::Node::default(); 128];
         let mut ours = [urzulempa::Node::default(); 128];
         let labelled = both(|| keep(black_box(oracle::nodes(black_box(file), &mut theirs))), || keep(black_box(urzulempa::nodes(black_box(file), &mut ours))));
         row(&format!("file to labelled graph, {name}"), file.len(), labelled);
@@ -96,6 +97,15 @@ fn graphs() {
             let graph = both(|| keep(black_box(oracle::check(black_box(file)))), || keep(black_box(urzulempa::check(black_box(file)))));
             row(&format!("the groups and labels of it alone, {name}"), file.len(), (labelled.0 - graph.0, labelled.1 - graph.1));
         }
+    }
+}
+
+/// From bytes to the list of edges, each with its clause.
+fn edge_lists() {
+    for (name, file) in [("P7", p7()), ("largest load", largest("nodes-and-edges"))] {
+        let (mut theirs, mut ours) = (vec![0; 5 * 1024], vec![0; 5 * 1024]);
+        let times = both(|| keep(black_box(oracle::edges(black_box(&file), &mut theirs))), || keep(black_box(urzulempa::edge_numbers(black_box(&file), &mut ours))));
+        row(&format!("file to edge list, {name}"), file.len(), times);
     }
 }
 

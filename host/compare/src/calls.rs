@@ -9,6 +9,7 @@ pub enum Call {
     Plain,
     Graph,
     Nodes,
+    Edges,
 }
 
 /// A call with its option, the size of what is lent, and the bytes that stand there before.
@@ -20,6 +21,9 @@ pub struct Trial {
     pub fill: u64,
 }
 
+/// A list of this many numbers holds every graph's edges.
+const ALL_EDGES: usize = 5 * urzulempa::MOST_EDGES;
+
 /// Rooms up to this size are ample for most files; larger texts are cut by 10 on both sides.
 const AMPLE: usize = 16 << 10;
 
@@ -29,6 +33,7 @@ impl Trial {
         match self.call {
             Call::Check => same(self, oracle::check(file), urzulempa::check(file), &[], &[]),
             Call::Nodes => self.nodes(file),
+            Call::Edges => self.edges(file),
             _ => self.text(file),
         }
     }
@@ -45,22 +50,40 @@ impl Trial {
     }
 
     fn nodes(&self, file: &[u8]) -> Result<u64, String> {
-        let bytes = filled(self.room * 8, self.fill);
-        let word = |i: usize| u16::from_le_bytes([bytes[i], bytes[i + 1]]);
-        let mut theirs: Vec<oracle::Node> = (0..self.room)
-            .map(|n| 8 * n)
-            .map(|i| oracle::Node { kind: word(i), number: word(i + 2), group: word(i + 4), installable: bytes[i + 6], missing: bytes[i + 7] })
-            .collect();
-        let mut ours: Vec<urzulempa::Node> = theirs
-            .iter()
-            .map(|n| urzulempa::Node { kind: n.kind, number: n.number, group: n.group, installable: n.installable, missing: n.missing })
-            .collect();
+        let bytes = filled(self.room * 10, self.fill);
+        let mut theirs: Vec<oracle::Node> = bytes.chunks(10).map(their_node).collect();
+        let mut ours: Vec<urzulempa::Node> = bytes.chunks(10).map(our_node).collect();
         let (a, b) = (oracle::nodes(file, &mut theirs), urzulempa::nodes(file, &mut ours));
-        let flat = |kind: u16, number: u16, group: u16, i: u8, m: u8| [kind.to_le_bytes(), number.to_le_bytes(), group.to_le_bytes(), [i, m]].concat();
-        let theirs: Vec<u8> = theirs.iter().flat_map(|n| flat(n.kind, n.number, n.group, n.installable, n.missing)).collect();
-        let ours: Vec<u8> = ours.iter().flat_map(|n| flat(n.kind, n.number, n.group, n.installable, n.missing)).collect();
+        let flat = |[kind, number, group, clause]: [u16; 4], i: u8, m: u8| {
+            let [k, n, g, c] = [kind, number, group, clause].map(u16::to_le_bytes);
+            [k, n, g, [i, m], c].concat()
+        };
+        let theirs: Vec<u8> = theirs.iter().flat_map(|n| flat([n.kind, n.number, n.group, n.clause], n.installable, n.missing)).collect();
+        let ours: Vec<u8> = ours.iter().flat_map(|n| flat([n.kind, n.number, n.group, n.clause], n.installable, n.missing)).collect();
         same(self, a, b, &theirs, &ours)
     }
+
+    fn edges(&self, file: &[u8]) -> Result<u64, String> {
+        let bytes = filled(self.room * 2, self.fill);
+        let mut theirs: Vec<u16> = bytes.chunks(2).map(|two| word(two, 0)).collect();
+        let mut ours = theirs.clone();
+        let (a, b) = (oracle::edges(file, &mut theirs), urzulempa::edge_numbers(file, &mut ours));
+        let flat = |list: &[u16]| -> Vec<u8> { list.iter().flat_map(|n| n.to_le_bytes()).collect() };
+        same(self, a, b, &flat(&theirs), &flat(&ours))
+    }
+}
+
+fn word(bytes: &[u8], at: usize) -> u16 {
+    u16::from_le_bytes([bytes[at], bytes[at + 1]])
+}
+
+/// An entry as ten bytes of a lent list lay it out.
+fn their_node(b: &[u8]) -> oracle::Node {
+    oracle::Node { kind: word(b, 0), number: word(b, 2), group: word(b, 4), installable: b[6], missing: b[7], clause: word(b, 8) }
+}
+
+fn our_node(b: &[u8]) -> urzulempa::Node {
+    urzulempa::Node { kind: word(b, 0), number: word(b, 2), group: word(b, 4), installable: b[6], missing: b[7], clause: word(b, 8) }
 }
 
 /// Bytes of every value, so that an untouched one is seen.
@@ -77,15 +100,19 @@ fn same(trial: &Trial, theirs: oracle::Answer, ours: urzulempa::Answer, their_ro
     }
     let at = their_room.iter().zip(our_room).position(|(x, y)| x != y);
     let text = |bytes: &[u8], n: u64| String::from_utf8_lossy(&bytes[..bytes.len().min(usize::try_from(n).unwrap_or(0))]).into_owned();
-    let texts = if trial.call == Call::Nodes {
-        format!("conflict.rs: {their_room:?}\nport: {our_room:?}")
+    let texts = if matches!(trial.call, Call::Nodes | Call::Edges) {
+        // An entry of either list has ten bytes.
+        let entry = at.unwrap_or(0) / 10;
+        let shown = |list: &[u8]| list.chunks(10).nth(entry).map(<[u8]>::to_vec);
+        format!("entry {entry}: conflict.rs {:?}, port {:?}", shown(their_room), shown(our_room))
     } else {
         format!("conflict.rs:\n{}\nport:\n{}", text(their_room, theirs.bytes), text(our_room, ours.bytes))
     };
     Err(format!("number, place, bytes, units, depth: conflict.rs {a:?}, port {b:?}; first byte that differs: {at:?}\n{texts}"))
 }
 
-/// Every call on a file: options 0, 1 and bad ones; rooms 0, exact, one short, random and ample.
+/// Every call on a file: options 0, 1 and bad ones; rooms 0, exact, one short, random and ample; lists of edges with one number
+/// more as well.
 pub fn trials(file: &[u8], rng: &mut Rng) -> Vec<Trial> {
     let mut trials = vec![Trial { call: Call::Check, option: 0, room: 0, fill: 0 }];
     let whole = oracle::check(file).number == 0;
@@ -106,6 +133,11 @@ pub fn trials(file: &[u8], rng: &mut Rng) -> Vec<Trial> {
     for room in [0, nodes, nodes.saturating_sub(1), (rng.next() % 129) as usize, 128] {
         trials.push(Trial { call: Call::Nodes, option: 0, room, fill: rng.next() });
     }
+    let numbers = if whole { 5 * count_edges(file) } else { 0 };
+    let some = (rng.next() % (numbers as u64 + 11)) as usize;
+    for room in [0, numbers, numbers.saturating_sub(1), numbers + 1, some, ALL_EDGES] {
+        trials.push(Trial { call: Call::Edges, option: 0, room, fill: rng.next() });
+    }
     trials
 }
 
@@ -117,6 +149,10 @@ fn measure(call: Call, file: &[u8], option: u64, room: &mut [u8]) -> usize {
 fn count_nodes(file: &[u8]) -> usize {
     let problem = oracle::Problem::read(file);
     problem.ok().and_then(|p| p.model().ok().map(|m| m.nodes().len())).unwrap_or(0)
+}
+
+fn count_edges(file: &[u8]) -> usize {
+    oracle::Problem::read(file).ok().and_then(|p| p.edges().ok()).map_or(0, |edges| edges.len())
 }
 
 /// A file with every kind of record, which is accepted.

@@ -1,5 +1,5 @@
-//! The port against the oracle: every call, on generated files, with rooms of every kind. Answers, whole rooms and whole node
-//! lists have to be equal, untouched bytes among them.
+//! The port against the oracle: every call, on generated files, with rooms of every kind. Answers, whole rooms and whole lists of
+//! nodes and edges have to be equal, untouched bytes among them.
 
 mod calls;
 mod shrink;
@@ -12,6 +12,7 @@ use std::process::ExitCode;
 const USAGE: &str = "usage: compare files N SEED   the hand-made files, then N generated ones over all shapes; all calls, all rooms
        compare check N SEED   the same with the call `check` alone
        compare nodes N SEED   the same with the node list alone
+       compare edges N SEED   the same with the edge list alone
        compare bytes          a small file with every kind of record, each byte set to each value
 Status: 0 no difference, 1 a difference, 64 wrong usage, 77 without conflict.rs.";
 
@@ -19,7 +20,7 @@ fn main() -> ExitCode {
     let words: Vec<String> = std::env::args().skip(1).collect();
     let words: Vec<&str> = words.iter().map(String::as_str).collect();
     let job = match words[..] {
-        ["files" | "check" | "nodes", n, seed] => match (n.parse(), seed.parse()) {
+        ["files" | "check" | "nodes" | "edges", n, seed] => match (n.parse(), seed.parse()) {
             (Ok(n), Ok(seed)) => Some((n, seed)),
             _ => None,
         },
@@ -80,6 +81,7 @@ impl Tally {
         match only {
             "check" => trials.retain(|t| t.call == Call::Check),
             "nodes" => trials.retain(|t| t.call == Call::Nodes),
+            "edges" => trials.retain(|t| t.call == Call::Edges),
             _ => {}
         }
         for trial in trials {

@@ -3,7 +3,7 @@
 
 use std::marker::PhantomData;
 
-use crate::{Answer, Node, Refusal, Rules};
+use crate::{Answer, Edge, Node, Refusal, Rules};
 
 fn absent() -> ! {
     panic!("conflict.rs could not be had at build time: ask oracle::AVAILABLE before a call")
@@ -23,6 +23,14 @@ impl<'a> Problem<'a> {
     }
 
     pub fn check(&self) -> Result<(), Refusal> {
+        absent()
+    }
+
+    pub fn core(&self) -> Vec<u16> {
+        absent()
+    }
+
+    pub fn edges(&self) -> Result<Vec<Edge>, Refusal> {
         absent()
     }
 }
@@ -66,6 +74,10 @@ pub fn check(_: &[u8]) -> Answer {
 }
 
 pub fn nodes(_: &[u8], _: &mut [Node]) -> Answer {
+    absent()
+}
+
+pub fn edges(_: &[u8], _: &mut [u16]) -> Answer {
     absent()
 }
 

@@ -29,7 +29,8 @@ impl From<Refusal> for Answer {
 }
 
 /// One entry of the node list. Kinds in the order of `ConflictNode`: 0 root, 1 solvable,
-/// 2 unresolved, 3 excluded; `group` is the node number of the group's first member.
+/// 2 unresolved, 3 excluded; `group` is the node number of the group's first member; `clause` is the one that first added the
+/// node, 65,535 for the root and unresolved.
 #[repr(C)]
 #[derive(Clone, Copy, Debug, Default, PartialEq, Eq)]
 pub struct Node {
@@ -38,6 +39,24 @@ pub struct Node {
     pub group: u16,
     pub installable: u8,
     pub missing: u8,
+    pub clause: u16,
+}
+
+/// One edge, five numbers of the edge list in this order. Kinds: 0 requires, 1 locked, 2 constrains, 3 forbid-multiple,
+/// 4 excluded; `named` is the requirement, the locked solvable or the version set, else 0.
+#[derive(Clone, Copy, Debug, PartialEq, Eq)]
+pub struct Edge {
+    pub source: u16,
+    pub target: u16,
+    pub kind: u16,
+    pub named: u16,
+    pub clause: u16,
+}
+
+impl Edge {
+    pub fn numbers(self) -> [u16; 5] {
+        [self.source, self.target, self.kind, self.named, self.clause]
+    }
 }
 
 /// How the rules of `fmt_graph` went without refusal 11.

@@ -5,7 +5,7 @@ use crate::provider::{solver_of, FileSolver};
 use crate::reader;
 use crate::rooms::Room;
 use crate::standins::internal::id::ClauseId;
-use crate::{Answer, Node, Refusal, Rules};
+use crate::{Answer, Edge, Node, Refusal, Rules};
 
 /// A file that refusals 1 to 6 let through.
 pub struct Problem<'a> {
@@ -32,6 +32,16 @@ impl<'a> Problem<'a> {
     /// Refusals 7 to 9, without groups and labels.
     pub fn check(&self) -> Result<(), Refusal> {
         view::drawn(&self.solver, &self.core).map(drop)
+    }
+
+    /// The numbers of the core's clauses.
+    pub fn core(&self) -> Vec<u16> {
+        self.core.iter().map(|clause| clause.0).collect()
+    }
+
+    /// Refusals 7 to 9, or the edges, oldest first.
+    pub fn edges(&self) -> Result<Vec<Edge>, Refusal> {
+        Ok(view::drawn(&self.solver, &self.core)?.edges())
     }
 }
 
@@ -130,6 +140,27 @@ pub fn nodes(file: &[u8], list: &mut [Node]) -> Answer {
         };
         part.copy_from_slice(&nodes);
         Ok(Answer {
+            units: 1,
+            ..Answer::default()
+        })
+    })
+}
+
+/// The edge list, five numbers an edge, one unit: whole, or 10 with nothing changed. "Done: bytes = 10 × edges, units 1, place
+/// and depth 0."
+pub fn edges(file: &[u8], list: &mut [u16]) -> Answer {
+    answered(|| {
+        let edges = Problem::read(file)?.edges()?;
+        let numbers: Vec<u16> = edges.iter().flat_map(|edge| edge.numbers()).collect();
+        let Some(part) = list.get_mut(..numbers.len()) else {
+            return Ok(Answer {
+                number: 10,
+                ..Answer::default()
+            });
+        };
+        part.copy_from_slice(&numbers);
+        Ok(Answer {
+            bytes: 10 * edges.len() as u64,
             units: 1,
             ..Answer::default()
         })

@@ -1,10 +1,11 @@
-//! Refusals 7, 8 and 9, met inside `Conflict::graph`.
+//! Refusals 7, 8 and 9, met inside `Conflict::graph`; and the clause that adds each node and edge,
+//! noted there.
 //!
 //! The function has no way to say no, so a refusal leaves it by unwinding with a payload of its
 //! own, which [`caught`] turns into an answer. `resume_unwind` runs no panic hook: nothing is
 //! printed. Nodes and edges are counted by the real graph at the moment it would grow.
 
-use std::cell::Cell;
+use std::cell::{Cell, RefCell};
 use std::collections::HashSet;
 use std::panic::{catch_unwind, resume_unwind, AssertUnwindSafe};
 
@@ -18,18 +19,41 @@ use crate::Refusal;
 pub const NODES: usize = 128;
 pub const EDGES: usize = 1_024;
 
-/// The core clause that `Conflict::graph` is at.
+/// "root and unresolved show 65,535": they are there before the first clause (document 02, order 3).
+pub const NO_CLAUSE: u16 = u16::MAX;
+
+/// The number of the clause that added each node and each edge, by their numbers in the graph. A clause is numbered among all
+/// clauses, as a `ClauseId` is.
+#[derive(Clone, Debug, Default)]
+pub struct AddedBy {
+    pub nodes: Vec<u16>,
+    pub edges: Vec<u16>,
+}
+
+/// The core clause that `Conflict::graph` is at, and what was added so far.
 #[derive(Default)]
-pub struct Progress(Cell<u64>);
+pub struct Progress {
+    at: Cell<Option<ClauseId>>,
+    added: RefCell<AddedBy>,
+}
 
 impl Progress {
     pub fn enter<'c>(&self, id: ClauseId, clauses: &'c [Clause]) -> &'c Clause {
-        self.0.set(id.to_index() as u64);
+        self.at.set(Some(id));
         let clause = &clauses[id.to_index()];
         if let Clause::Learnt(..) = clause {
             resume_unwind(Box::new(Stop::Learnt));
         }
         clause
+    }
+
+    /// Called before petgraph's `remove_node`, which puts the last node where the removed one was.
+    pub fn gone(&self, node: NodeIndex) {
+        self.added.borrow_mut().nodes.swap_remove(node.index());
+    }
+
+    fn clause(&self) -> u16 {
+        self.at.get().map_or(NO_CLAUSE, |id| id.0)
     }
 }
 
@@ -40,22 +64,26 @@ enum Stop {
 }
 
 pub trait Limits {
-    fn room_for_node(&mut self) -> &mut Self;
-    fn room_for_edge(&mut self) -> &mut Self;
+    /// Called before each node is added: there is room for it, and its clause is noted.
+    fn noting_node(&mut self, progress: &Progress) -> &mut Self;
+    /// The same for an edge.
+    fn noting_edge(&mut self, progress: &Progress) -> &mut Self;
 }
 
 impl<N, E> Limits for DiGraph<N, E> {
-    fn room_for_node(&mut self) -> &mut Self {
+    fn noting_node(&mut self, progress: &Progress) -> &mut Self {
         if self.node_count() == NODES {
             resume_unwind(Box::new(Stop::Full));
         }
+        progress.added.borrow_mut().nodes.push(progress.clause());
         self
     }
 
-    fn room_for_edge(&mut self) -> &mut Self {
+    fn noting_edge(&mut self, progress: &Progress) -> &mut Self {
         if self.edge_count() == EDGES {
             resume_unwind(Box::new(Stop::Full));
         }
+        progress.added.borrow_mut().edges.push(progress.clause());
         self
     }
 }
@@ -67,17 +95,24 @@ pub fn all_reached<N, E>(graph: &DiGraph<N, E>, reached: &HashSet<NodeIndex>) {
     }
 }
 
-/// Runs the build of a graph, and gives the refusal that it met. Any other panic goes on.
-pub fn caught<T>(progress: &Progress, build: impl FnOnce() -> T) -> Result<T, Refusal> {
-    catch_unwind(AssertUnwindSafe(build)).map_err(|payload| match payload.downcast::<Stop>() {
-        Ok(stop) => {
-            let (number, place) = match *stop {
-                Stop::Learnt => (7, progress.0.get()),
-                Stop::Full => (8, progress.0.get()),
-                Stop::Unreached(node) => (9, node as u64),
-            };
-            Refusal { number, place }
-        }
-        Err(other) => resume_unwind(other),
-    })
+/// Runs the build of a graph, and gives it with the clauses that added its parts, or the refusal that it met. Any other panic
+/// goes on.
+pub fn caught<T>(progress: &Progress, build: impl FnOnce() -> T) -> Result<(T, AddedBy), Refusal> {
+    progress.at.set(None);
+    progress.added.take();
+    match catch_unwind(AssertUnwindSafe(build)) {
+        Ok(built) => Ok((built, progress.added.take())),
+        Err(payload) => match payload.downcast::<Stop>() {
+            Ok(stop) => {
+                let clause = u64::from(progress.clause());
+                let (number, place) = match *stop {
+                    Stop::Learnt => (7, clause),
+                    Stop::Full => (8, clause),
+                    Stop::Unreached(node) => (9, node as u64),
+                };
+                Err(Refusal { number, place })
+            }
+            Err(other) => resume_unwind(other),
+        },
+    }
 }

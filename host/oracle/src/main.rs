@@ -10,6 +10,7 @@ usage: oracle cases                        P1 to P11 of document 01 on the real 
        oracle explain FILE [OPTION] [ROOM] the explanation
        oracle graph FILE [OPTION] [ROOM]   the graph text
        oracle nodes FILE                   the node list
+       oracle edges FILE                   the edge list
        oracle check FILE                   refusals 1 to 9
        oracle survey N SEED                N generated files, the distribution of answers
        oracle samples DIR                  the sample files
@@ -76,7 +77,8 @@ fn usage() -> Result<u8, String> {
 /// What needs conflict.rs.
 fn run(args: &[&str]) -> Result<u8, String> {
     match *args {
-        ["cases" | "explain" | "graph" | "nodes" | "check" | "survey" | "record" | "written", ..]
+        ["cases" | "explain" | "graph" | "nodes" | "edges" | "check" | "survey" | "record"
+        | "written", ..]
             if !oracle::AVAILABLE =>
         {
             let step = args[0];
@@ -87,6 +89,7 @@ fn run(args: &[&str]) -> Result<u8, String> {
         ["explain", file, ref rest @ ..] => with_conflict::text(oracle::explain, file, rest),
         ["graph", file, ref rest @ ..] => with_conflict::text(oracle::graphviz, file, rest),
         ["nodes", file] => with_conflict::nodes(file),
+        ["edges", file] => with_conflict::edges(file),
         ["check", file] => with_conflict::check(file),
         ["survey", n, seed] => oracle::survey::run(number(n)?, number(seed)?),
         ["record", out] => put(out, &oracle::record::list()?),
@@ -155,7 +158,7 @@ mod with_conflict {
             Ok(problem) => problem.model().map_or(0, |model| model.nodes().len()),
             Err(_) => 0,
         };
-        println!("node kind number group installable missing");
+        println!("node kind number group installable missing clause");
         for (i, n) in list[..count].iter().enumerate() {
             let Node {
                 kind,
@@ -163,8 +166,23 @@ mod with_conflict {
                 group,
                 installable,
                 missing,
+                clause,
             } = n;
-            println!("{i} {kind} {number} {group} {installable} {missing}");
+            println!("{i} {kind} {number} {group} {installable} {missing} {clause}");
+        }
+        Ok(status(answer))
+    }
+
+    pub fn edges(file: &str) -> Result<u8, String> {
+        let mut list = [0; 5 * 1_024];
+        let answer = oracle::edges(&get(file)?, &mut list);
+        println!("edge source target kind named clause");
+        let edges = list.chunks(5).take(answer.bytes as usize / 10);
+        for (i, edge) in edges.enumerate() {
+            let [source, target, kind, named, clause] = edge else {
+                unreachable!("chunks of five")
+            };
+            println!("{i} {source} {target} {kind} {named} {clause}");
         }
         Ok(status(answer))
     }

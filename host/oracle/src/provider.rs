@@ -134,7 +134,7 @@ pub fn solver_of(tables: Tables<'_>) -> (FileSolver<'_>, Vec<ClauseId>) {
                 .map(|variable| variable.assigned_by.map(ClauseId))
                 .collect(),
         },
-        limits: Progress::default(),
+        progress: Progress::default(),
     };
     let provider = Provider {
         tables,

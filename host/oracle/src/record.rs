@@ -6,16 +6,19 @@
 //! - a file: 1, its length, the seed, how many calls follow, the length of its shape's name, the name in the 56 bytes that
 //!   are left; then the file's bytes.
 //! - a call on the file before it: 2, call, option, room, then the answer's number, place, bytes, units and depth, and the
-//!   checksum of the whole room after the call. Call 0 is check, 1 explain, 2 the plain explanation, 3 the graph text and
-//!   4 the node list, whose room is counted in entries. A room holds [`FILL`] in every byte before the call.
+//!   checksum of the whole room after the call. Call 0 is check, 1 explain, 2 the plain explanation, 3 the graph text,
+//!   4 the node list, whose room is counted in entries, and 5 the edge list, whose room is counted in numbers. A room holds
+//!   [`FILL`] in every byte before the call.
 //! - the end: 3, how many files, how many answers.
 
 use std::collections::BTreeSet;
 
-use crate::{check, explain, generate, graphviz, nodes, Answer, Node, Problem};
+use crate::{check, edges, explain, generate, graphviz, nodes, Answer, Node, Problem};
 
 /// What stands in every byte that is lent.
 const FILL: u8 = 165;
+/// The same in a number of two bytes.
+const PAIR: u16 = u16::from_le_bytes([FILL; 2]);
 /// The largest room that the program lends.
 const MOST: usize = 1 << 16;
 /// A room that is ample for most small files.
@@ -34,6 +37,7 @@ enum Call {
     Plain,
     Graph(u64),
     Nodes,
+    Edges,
 }
 
 /// How much is lent: a size, or one that follows from what a call needs.
@@ -64,6 +68,9 @@ const TRIALS: [(Call, Room); 16] = [
     (Call::Explain(u64::MAX), Room::Of(100)),
     (Call::Graph(1), Room::OneShort),
 ];
+
+/// Each file gets one of these in turn.
+const EDGE_ROOMS: [Room; 4] = [Room::Of(5 * 1_024), Room::Exact, Room::OneShort, Room::Half];
 
 /// The list, or why it would not do.
 pub fn list() -> Result<Vec<u8>, String> {
@@ -117,8 +124,10 @@ fn chosen(shape: &str) -> Vec<(u64, Vec<u8>)> {
 fn calls(file: &[u8], index: usize) -> Vec<[u64; 12]> {
     let others = TRIALS.len() - 1;
     let turn = (0..3).map(|i| 1 + (4 * index + i) % others);
-    let picked = std::iter::once(0).chain(turn);
-    picked.map(|i| answered(file, TRIALS[i])).collect()
+    let picked = std::iter::once(0).chain(turn).map(|i| TRIALS[i]);
+    let edges = (Call::Edges, EDGE_ROOMS[index % EDGE_ROOMS.len()]);
+    let all = picked.chain([edges]);
+    all.map(|trial| answered(file, trial)).collect()
 }
 
 fn answered(file: &[u8], (call, room): (Call, Room)) -> [u64; 12] {
@@ -137,6 +146,12 @@ fn answered(file: &[u8], (call, room): (Call, Room)) -> [u64; 12] {
             let mut list = vec![blank(); size];
             let answer = nodes(file, &mut list);
             (4, 0, answer, sum(&fields(&list)))
+        }
+        Call::Edges => {
+            let mut list = vec![PAIR; size];
+            let answer = edges(file, &mut list);
+            let numbers: Vec<u64> = list.into_iter().map(u64::from).collect();
+            (5, 0, answer, sum(&numbers))
         }
     };
     let Answer {
@@ -174,7 +189,7 @@ fn in_room(
     (number, option, answer, sum(&bytes))
 }
 
-/// The bytes that a call writes into the largest room, or the entries of the node list.
+/// The bytes that a call writes into the largest room, the entries of the node list, or the numbers of the edge list.
 fn needed(file: &[u8], call: Call) -> usize {
     let mut room = vec![0; MOST];
     let answer = match call {
@@ -186,18 +201,23 @@ fn needed(file: &[u8], call: Call) -> usize {
             let problem = Problem::read(file).ok();
             return problem.map_or(0, |p| p.model().map_or(0, |m| m.nodes().len()));
         }
+        Call::Edges => {
+            let problem = Problem::read(file).ok();
+            return problem.map_or(0, |p| p.edges().map_or(0, |edges| 5 * edges.len()));
+        }
     };
     answer.bytes as usize
 }
 
+/// An entry before the call. The program that replays this holds an entry in one word, where a kind and a group have eight bits.
 fn blank() -> Node {
-    let pair = u16::from_le_bytes([FILL; 2]);
     Node {
-        kind: pair,
-        number: pair,
-        group: pair,
+        kind: u16::from(FILL),
+        number: PAIR,
+        group: u16::from(FILL),
         installable: FILL,
         missing: FILL,
+        clause: PAIR,
     }
 }
 
@@ -209,12 +229,14 @@ fn fields(list: &[Node]) -> Vec<u64> {
             n.group,
             n.installable.into(),
             n.missing.into(),
+            n.clause,
         ]
     };
     list.iter().flat_map(of).map(u64::from).collect()
 }
 
-/// A polynomial in 1,021 modulo the largest prime below 2^54. A byte, or a field of an entry, is one digit.
+/// A polynomial in 1,021 modulo the largest prime below 2^54. A byte, a field of an entry (the clause last) or a number of the
+/// edge list is one digit.
 fn sum(digits: &[u64]) -> u64 {
     let next = |sum: u64, digit: &u64| (1021 * sum + digit + 1) % 18_014_398_509_481_951;
     digits.iter().fold(0, next)

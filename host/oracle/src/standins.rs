@@ -165,7 +165,7 @@ pub mod solver {
         pub clauses: Clauses,
         pub variable_map: VariableMap<D>,
         pub decision_tracker: DecisionTracker,
-        pub limits: Progress,
+        pub progress: Progress,
     }
 
     pub struct Clauses {

@@ -4,7 +4,7 @@
 use std::collections::BTreeMap;
 
 use crate::rng::Rng;
-use crate::{check, explain, generate, graphviz, nodes, Answer, Node, Problem};
+use crate::{check, edges, explain, generate, graphviz, nodes, Answer, Edge, Node, Problem};
 
 /// How the calls of one kind were answered.
 type Counts = BTreeMap<u64, u64>;
@@ -71,16 +71,25 @@ fn one<'a>(file: &[u8], rng: &mut Rng, room: &mut [u8]) -> Result<Vec<(&'a str, 
     let drawn = graphviz(file, option, &mut room[..length]);
     let mut list = [Node::default(); 128];
     let listed = nodes(file, &mut list[..if rng.chance(5) { 3 } else { 128 }]);
+    let mut numbers = [0; 5 * 1_024];
+    let linked = edges(
+        file,
+        &mut numbers[..if rng.chance(5) { 12 } else { 5 * 1_024 }],
+    );
     if checked.number == 0 {
         promises(file, &[explained, drawn])?;
-    } else if option < 2 && (explained != checked || drawn != checked || listed != checked) {
-        return Err("calls refuse one file differently".to_string());
+    } else {
+        let same = |answers: &[Answer]| answers.iter().all(|&answer| answer == checked);
+        if !same(&[listed, linked]) || option < 2 && !same(&[explained, drawn]) {
+            return Err("calls refuse one file differently".to_string());
+        }
     }
     Ok(vec![
         ("check", checked),
         ("explain", explained),
         ("graphviz", drawn),
         ("nodes", listed),
+        ("edges", linked),
     ])
 }
 
@@ -91,9 +100,34 @@ fn promises(file: &[u8], answers: &[Answer]) -> Result<(), String> {
     if model.nodes().iter().any(|n| n.installable + n.missing > 1) {
         return Err("a node has both labels".to_string());
     }
+    let edges = problem.edges().map_err(trouble)?;
+    clauses(&model.nodes(), &edges, &problem.core())?;
     let bound = model.depth_bound();
     if answers.iter().any(|answer| answer.depth > bound) {
         return Err(format!("depth above the bound {bound}"));
+    }
+    Ok(())
+}
+
+/// What document 02 states of the clauses, order 3: each edge names a core clause, older edges earlier ones; the root and
+/// unresolved name none; a node's clause is that of the first edge that touches it, or an earlier one that added it alone.
+fn clauses(nodes: &[Node], edges: &[Edge], core: &[u16]) -> Result<(), String> {
+    if edges.iter().any(|edge| !core.contains(&edge.clause)) {
+        return Err("an edge's clause is not in the core".to_string());
+    }
+    if edges.windows(2).any(|two| two[0].clause > two[1].clause) {
+        return Err("a newer edge has an earlier clause".to_string());
+    }
+    for (at, node) in (0u16..).zip(nodes) {
+        let first = edges.iter().find(|e| e.source == at || e.target == at);
+        let good = match (node.kind, first) {
+            (0 | 2, _) => node.clause == u16::MAX,
+            (_, Some(edge)) => core.contains(&node.clause) && node.clause <= edge.clause,
+            (_, None) => false,
+        };
+        if !good {
+            return Err(format!("the clause of node {at} is {}", node.clause));
+        }
     }
     Ok(())
 }

@@ -116,6 +116,7 @@ fn the_node_list_is_one_unit_and_has_kinds_in_the_order_of_conflict_node() {
         group: 9,
         installable: 9,
         missing: 9,
+        clause: 9,
     };
     let mut entries = [stays; 5];
     let answer = common::nodes(&file, &mut entries);

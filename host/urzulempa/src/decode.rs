@@ -54,6 +54,28 @@ pub fn reason(file: &[u8], number: u16) -> Option<String> {
     named(file, 6, number).map(|r| r.text())
 }
 
+/// The name of a solvable's package.
+pub fn package(file: &[u8], number: u16) -> Option<String> {
+    named(file, 1, named(file, 2, number)?.fields()[1]).map(|r| r.text())
+}
+
+/// How many solvables there are.
+pub fn solvables(file: &[u8]) -> u16 {
+    u16::try_from(of_kind(file, 2).count()).unwrap_or(u16::MAX)
+}
+
+/// The text of a requirement.
+pub fn requirement(file: &[u8], number: u16) -> Option<String> {
+    named(file, 4, number).map(|r| r.text())
+}
+
+/// A version set as the texts show it: name, space, text.
+pub fn version_set(file: &[u8], number: u16) -> Option<String> {
+    let set = named(file, 3, number)?;
+    let name = named(file, 1, set.fields()[1])?;
+    Some(format!("{} {}", name.text(), set.text()))
+}
+
 /// What a variable stands for.
 fn origin(file: &[u8], variable: u16) -> Option<String> {
     let [_, origin, names] = named(file, 7, variable)?.fields();
@@ -98,6 +120,49 @@ pub fn describe(file: &[u8], record: u64) -> Option<String> {
         25 => format!("AnyOf(variable {a}, variable {b}), {core}"),
         k => format!("kind {k}"),
     })
+}
+
+/// Clauses by kind, from 16 on: the name, and what fields a, b and c are.
+const CLAUSES: [(&str, [&str; 3]); 10] = [
+    ("InstallRoot", [""; 3]),
+    ("Excluded", ["excluded", "reason", ""]),
+    ("Learnt", [""; 3]),
+    ("Requires", ["requirer", "requirement", ""]),
+    ("Lock", ["locked", "forbidden", ""]),
+    ("ForbidMultipleInstances", ["solvable", "forbid-multiple", ""]),
+    ("Constrains", ["constraining", "forbidden", "version set"]),
+    ("ConstrainsParent", ["constraining", "auxiliary", "version set"]),
+    ("ConstrainsExcluded", ["forbidden", "auxiliary", "version set"]),
+    ("AnyOf", ["gate", "requirer", ""]),
+];
+
+/// A clause of an accepted file, to be read out: its record with the byte place, and each field with what it names.
+pub fn clause(file: &[u8], clause: u64) -> Option<String> {
+    let record = clause_record(file, clause)?;
+    let r = Record::at(file, record)?;
+    let (name, roles) = CLAUSES.get(usize::from(r.kind()).checked_sub(16)?)?;
+    let mut said = Vec::new();
+    for ((field, x), role) in meaning(&r).into_iter().zip(r.fields()).zip(roles) {
+        said.push(match field {
+            Field::Variable(_) => format!("{role} variable {x} ({})", stands_for(file, x)?),
+            Field::Of(2) => format!("{role} {x} ({})", version_set(file, x)?),
+            Field::Of(3) => format!("{role} {x} ({})", requirement(file, x)?),
+            Field::Of(5) => format!("{role} {x} ({})", reason(file, x)?),
+            _ => continue,
+        });
+    }
+    let fields = if said.is_empty() { String::new() } else { format!(": {}", said.join(", ")) };
+    Some(format!("record {record} (byte {}): {name}{fields}", record * 32))
+}
+
+/// What a variable stands for, with the text of what it names.
+fn stands_for(file: &[u8], variable: u16) -> Option<String> {
+    let [_, origin, names] = named(file, 7, variable)?.fields();
+    match origin {
+        1 => solvable(file, names),
+        2 => named(file, 1, names).map(|r| format!("forbid-multiple of {}", r.text())),
+        _ => ORIGINS.get(usize::from(origin)).map(|&what| what.into()),
+    }
 }
 
 /// The tables by kind, clauses last: what a reference names, one and many.

@@ -1,6 +1,7 @@
-//! The five exported functions of the library (include/urzulempa.h). None of them has a precondition: a slice is all they ask.
+//! The six exported functions of the library (include/urzulempa.h). None of them has a precondition: a slice is all they ask.
 
 use crate::{Answer, Node};
+use std::mem::{align_of, size_of};
 
 extern "C" {
     fn urzulempa_explain(file: *const u8, file_len: usize, option: u64, room: *mut u8, room_len: usize) -> Answer;
@@ -8,9 +9,14 @@ extern "C" {
     fn urzulempa_graphviz(file: *const u8, file_len: usize, option: u64, room: *mut u8, room_len: usize) -> Answer;
     fn urzulempa_check(file: *const u8, file_len: usize) -> Answer;
     fn urzulempa_nodes(file: *const u8, file_len: usize, list: *mut Node, list_len: usize) -> Answer;
+    fn urzulempa_edges(file: *const u8, file_len: usize, list: *mut u16, list_len: usize) -> Answer;
 }
 
-// SAFETY, for all five: pointer and length are those of one slice, and the library reads and writes inside it only (proved).
+// What the library reads and writes lies as the header lays it out: no field has a gap before it.
+const _: () = assert!(size_of::<Answer>() == 40 && align_of::<Answer>() == 8);
+const _: () = assert!(size_of::<Node>() == 10 && align_of::<Node>() == 2);
+
+// SAFETY, for all six: pointer and length are those of one slice, and the library reads and writes inside it only (proved).
 
 pub fn explain(file: &[u8], option: u64, room: &mut [u8]) -> Answer {
     unsafe { urzulempa_explain(file.as_ptr(), file.len(), option, room.as_mut_ptr(), room.len()) }
@@ -30,4 +36,8 @@ pub fn check(file: &[u8]) -> Answer {
 
 pub fn nodes(file: &[u8], list: &mut [Node]) -> Answer {
     unsafe { urzulempa_nodes(file.as_ptr(), file.len(), list.as_mut_ptr(), list.len()) }
+}
+
+pub fn edges(file: &[u8], list: &mut [u16]) -> Answer {
+    unsafe { urzulempa_edges(file.as_ptr(), file.len(), list.as_mut_ptr(), list.len()) }
 }

@@ -1,7 +1,7 @@
 //! Why a load of packages has no solution: safe functions over the proved library.
 //!
-//! Every call takes any bytes and any room and gives an [`Answer`]; none of them panics, allocates or keeps anything. [`grown`] makes
-//! the room for one.
+//! Every call takes any bytes and any room and gives an [`Answer`]; none of them panics or keeps anything, and none allocates but
+//! [`edges`], which makes its list. [`grown`] makes the room for one.
 //!
 //! ```
 //! use urzulempa::{explain, Refusal};
@@ -27,9 +27,11 @@
 //! assert!(text.ends_with(b"codec 9, for which no candidates were found.\n"));
 //! ```
 
+mod edge;
 mod ffi;
 mod refusal;
 
+pub use edge::{Edge, EdgeKind};
 pub use refusal::Refusal;
 
 /// What a call says: the text is whole, or a numbered refusal with its place; and what was written.
@@ -74,10 +76,18 @@ pub struct Node {
     pub installable: u8,
     /// 1 if the node is missing.
     pub missing: u8,
+    /// The core clause that first added it, numbered among all clauses; [`NO_CLAUSE`] for the root and unresolved.
+    pub clause: u16,
 }
+
+/// Stands in a [`Node`] that no clause added.
+pub const NO_CLAUSE: u16 = u16::MAX;
 
 /// The most nodes that a graph has.
 pub const MOST_NODES: usize = 128;
+
+/// The most edges that a graph has.
+pub const MOST_EDGES: usize = 1_024;
 
 /// Writes the explanation into the room; option 1 indents the top level, 0 does not, any other is refused.
 pub fn explain(file: &[u8], option: u64, room: &mut [u8]) -> Answer {
@@ -109,6 +119,40 @@ pub fn check(file: &[u8]) -> Answer {
 /// ```
 pub fn nodes(file: &[u8], list: &mut [Node]) -> Answer {
     ffi::nodes(file, list)
+}
+
+/// The edges of the graph, oldest first, each with the clause that added it; none where the file is refused.
+///
+/// ```
+/// use urzulempa::{edges, EdgeKind};
+///
+/// // The root requires both versions of replay, each of them requires a codec that nobody has: clauses 0, 1 and 2.
+/// let (answer, list) = edges(include_bytes!("../../../samples/replay.rec"));
+/// assert!(answer.is_done());
+/// assert_eq!(list.iter().map(|edge| edge.clause).collect::<Vec<_>>(), [0, 0, 1, 2]);
+/// assert_eq!((list[3].source, list[3].target, list[3].kind), (3, 1, EdgeKind::Requires(1)));
+/// ```
+pub fn edges(file: &[u8]) -> (Answer, Vec<Edge>) {
+    let mut list = vec![0; 5 * MOST_EDGES];
+    let answer = edge_numbers(file, &mut list);
+    // Ten bytes an edge, five numbers of two bytes each; none where it is refused.
+    let written = usize::try_from(answer.bytes / 2).unwrap_or(0);
+    let edges = list.chunks_exact(5).take(written / 5);
+    (answer, edges.map(|n| Edge::from([n[0], n[1], n[2], n[3], n[4]])).collect())
+}
+
+/// Fills the list with five numbers an edge, as [`Edge`] takes them; a list shorter than that is left as it was, with refusal 10.
+///
+/// ```
+/// let file = include_bytes!("../../../samples/lone.rec");
+/// let mut list = [7; 6];
+/// let answer = urzulempa::edge_numbers(file, &mut list);
+/// assert_eq!((answer.number, answer.bytes), (0, 10));
+/// assert_eq!(list, [0, 1, 0, 0, 0, 7]);
+/// assert_eq!(urzulempa::edge_numbers(file, &mut list[..4]).number, 10);
+/// ```
+pub fn edge_numbers(file: &[u8], list: &mut [u16]) -> Answer {
+    ffi::edges(file, list)
 }
 
 /// A call that writes into a room, such as [`explain`] with its file and option filled in, with a room that grows until the

@@ -1,18 +1,22 @@
-//! The command: explain, graph, nodes, check.
+//! The command: explain, graph, nodes, edges, check.
 
 mod decode;
+mod lists;
 
 use std::fs;
 use std::io::{self, Read, Write};
 use std::process::ExitCode;
-use urzulempa::{check, explain, graphviz, grown, nodes, Answer, Node, Refusal, MOST_NODES};
+use urzulempa::{check, edges, explain, graphviz, grown, Answer, Refusal};
 
 const HELP: &str = "\
 urzulempa: why a load of packages has no solution, from a file of clause records
 
   urzulempa explain FILE [--indent] [--room N]   the explanation; --indent draws the top level too
   urzulempa graph FILE [--simplify] [--room N]   the graph in the DOT language; --simplify draws a merge group once
-  urzulempa nodes FILE                           the nodes: number, kind, what it names, first node of its group, labels
+  urzulempa nodes FILE                           the nodes: number, kind, what it names, first node of its group, labels, and the
+                                                 clause that first added it (65535: none) with its record
+  urzulempa edges FILE [PACKAGE]                 the edges, oldest first, each with the clause that added it and that clause's
+                                                 record; with PACKAGE (a name, or name and version) those that touch it
   urzulempa check FILE                           looks for refusals 1 to 9; says nothing if there are none
 
 FILE may be - for standard input. N is the most bytes of text (default 67108864).
@@ -22,6 +26,7 @@ Exit status: 0 done, 2 refused, 1 trouble with a file, 64 wrong usage.
 Examples:
   urzulempa explain samples/replay.rec
   urzulempa graph samples/replay.rec --simplify | dot -Tsvg > replay.svg
+  urzulempa edges samples/rack.rec deck 3.1
   urzulempa check - < samples/rack.rec
 ";
 
@@ -42,7 +47,7 @@ fn run(words: &[String]) -> Result<ExitCode, String> {
     if words.is_empty() || words.iter().any(|w| w == "--help" || w == "-h") {
         return if words.is_empty() { Ok(usage("no command")) } else { print(HELP.as_bytes()).map(|()| ExitCode::SUCCESS) };
     }
-    let mut file = None;
+    let (mut file, mut package) = (None, None);
     let (mut option, mut room) = (0, DEFAULT_ROOM);
     let mut rest = words[1..].iter();
     while let Some(word) = rest.next() {
@@ -52,6 +57,10 @@ fn run(words: &[String]) -> Result<ExitCode, String> {
                 Some(n) => room = n,
                 None => return Ok(usage("--room wants a number of bytes")),
             },
+            // A version behind a name needs no quotes, and a name may begin with a hyphen.
+            ("edges", w) if file.is_some() => {
+                package = Some(package.map_or_else(|| w.to_owned(), |before: String| format!("{before} {w}")));
+            }
             (_, w) if w == "-" || !w.starts_with('-') => {
                 if file.replace(w.to_owned()).is_some() {
                     return Ok(usage("one FILE, please"));
@@ -60,7 +69,7 @@ fn run(words: &[String]) -> Result<ExitCode, String> {
             (_, w) => return Ok(usage(&format!("{w} is no option of {}", words[0]))),
         }
     }
-    if !["explain", "graph", "nodes", "check"].contains(&words[0].as_str()) {
+    if !["explain", "graph", "nodes", "edges", "check"].contains(&words[0].as_str()) {
         return Ok(usage(&format!("{} is no command", words[0])));
     }
     let Some(name) = file else { return Ok(usage("FILE is missing")) };
@@ -68,7 +77,8 @@ fn run(words: &[String]) -> Result<ExitCode, String> {
     match words[0].as_str() {
         "explain" => text(&bytes, grown(room, |r| explain(&bytes, option, r))),
         "graph" => text(&bytes, grown(room, |r| graphviz(&bytes, option, r))),
-        "nodes" => list(&bytes),
+        "nodes" => node_list(&bytes),
+        "edges" => edge_list(&bytes, package.as_deref()),
         _ => Ok(told(&bytes, &check(&bytes))),
     }
 }
@@ -89,26 +99,24 @@ fn text(file: &[u8], (answer, text): (Answer, Vec<u8>)) -> Result<ExitCode, Stri
     Ok(told(file, &answer))
 }
 
-/// No node has this kind: an entry that still holds it was not filled.
-const UNFILLED: Node = Node { kind: u16::MAX, number: 0, group: 0, installable: 0, missing: 0 };
-
-fn list(file: &[u8]) -> Result<ExitCode, String> {
-    let mut list = [UNFILLED; MOST_NODES];
-    let answer = nodes(file, &mut list);
+fn node_list(file: &[u8]) -> Result<ExitCode, String> {
+    let (answer, nodes) = lists::all_nodes(file);
     if answer.is_done() {
-        let kinds = ["root", "solvable", "unresolved", "excluded"];
-        let mut out = String::from("node kind number group installable missing what\n");
-        for (n, node) in list.iter().take_while(|node| node.kind != UNFILLED.kind).enumerate() {
-            let kind = kinds.get(usize::from(node.kind)).unwrap_or(&"?");
-            let what = match node.kind {
-                0 => Some("<root>".into()),
-                1 => decode::solvable(file, node.number),
-                2 => Some("unresolved".into()),
-                _ => decode::reason(file, node.number),
-            };
-            out += &format!("{n} {kind} {} {} {} {} {}\n", node.number, node.group, node.installable, node.missing, what.unwrap_or_default());
+        print(lists::node_lines(file, &nodes).as_bytes())?;
+    }
+    Ok(told(file, &answer))
+}
+
+fn edge_list(file: &[u8], package: Option<&str>) -> Result<ExitCode, String> {
+    let (answer, edges) = edges(file);
+    if answer.is_done() {
+        let (_, nodes) = lists::all_nodes(file);
+        let lines = lists::edge_lines(file, &nodes, &edges, package);
+        print(lines.as_bytes())?;
+        if let Some(wanted) = package.filter(|_| lines.is_empty()) {
+            let why = if lists::has_package(file, wanted) { "no edge of the conflict touches it" } else { "the file has no such package" };
+            say(&format!("{wanted}: {why}"));
         }
-        print(out.as_bytes())?;
     }
     Ok(told(file, &answer))
 }

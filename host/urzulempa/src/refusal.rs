@@ -76,7 +76,7 @@ impl fmt::Display for Refusal {
             Self::Learnt(c) => write!(f, "clause {c} is a learnt clause in the core: hand over the clauses that it was learnt from instead"),
             Self::GraphFull(c) => write!(f, "clause {c} would add node 129 or edge 1,025: the conflict is too large to draw; cut the core down"),
             Self::Unreached(n) => write!(f, "node {n} is not reached from the root: the core lacks a clause that leads to it"),
-            Self::Room(u) => write!(f, "the room, or the node list, holds no more than {u} whole units: lend a larger one"),
+            Self::Room(u) => write!(f, "the room, or the list, holds no more than {u} whole units: lend a larger one"),
             Self::Endless(s) => write!(f, "solvable {s} comes to be opened below itself, so the explanation would never end: the lines before that are whole, and the load has a cycle to break"),
             Self::Option => write!(f, "the option is neither 0 nor 1: pass one of them"),
             Self::Unknown(n) => write!(f, "refusal {n}, which no call gives"),

@@ -22,8 +22,8 @@ fn said(bytes: &[u8]) -> String {
 }
 
 const REPLAY: &[u8] = include_bytes!("../../../samples/replay.rec");
-const DECK_PANEL: &[u8] = include_bytes!("../../../samples/deck-panel.rec");
 const RACK: &[u8] = include_bytes!("../../../samples/rack.rec");
+const DECK_PANEL: &[u8] = include_bytes!("../../../samples/deck-panel.rec");
 
 #[test]
 fn explain_prints_the_text_and_nothing_else() {
@@ -75,15 +75,18 @@ fn the_byte_or_field_that_is_wrong_is_named() {
 #[test]
 fn nodes_are_listed_with_what_they_are() {
     let out = run(&["nodes", "-"], REPLAY);
-    assert_eq!(said(&out.stdout).lines().last(), Some("3 solvable 1 2 0 1 replay 1"));
+    let lines = said(&out.stdout);
+    assert_eq!(lines.lines().nth(1), Some("0 root 0 0 0 1 65535 <root>"));
+    let record = "record 10 (byte 320): Requires: requirer variable 0 (the root), requirement 0 (replay *)";
+    assert_eq!(lines.lines().last(), Some(format!("3 solvable 1 2 0 1 0 replay 1  {record}").as_str()));
     // the root alone, and as many as the shortest list that the library fills
-    assert_eq!(said(&run(&["nodes", "-"], &[]).stdout).lines().skip(1).collect::<Vec<_>>(), ["0 root 0 0 1 0 <root>"]);
+    assert_eq!(said(&run(&["nodes", "-"], &[]).stdout).lines().skip(1).collect::<Vec<_>>(), ["0 root 0 0 1 0 65535 <root>"]);
     let full = most_nodes();
     for file in [REPLAY, DECK_PANEL, RACK, &full] {
         let count = (0..=MOST_NODES).find(|&n| nodes(file, &mut vec![Node::default(); n]).is_done());
         assert_eq!(said(&run(&["nodes", "-"], file).stdout).lines().skip(1).count(), count.expect("a length that does"));
     }
-    assert_eq!(said(&run(&["nodes", "-"], &full).stdout).lines().last(), Some("127 solvable 125 3 1 0 p 1"));
+    assert!(said(&run(&["nodes", "-"], &full).stdout).lines().last().is_some_and(|l| l.starts_with("127 solvable 125 3 1 0 0 p 1  record ")));
 }
 
 /// A file whose graph has as many nodes as a graph can have: the root, unresolved and 126 solvables, of which the first lacks something.
@@ -110,6 +113,79 @@ fn most_nodes() -> Vec<u8> {
     .concat()
 }
 
+/// The lines of `edges` for a file and a package, which have to be all that is said.
+fn edges(file: &[u8], package: &[&str]) -> Vec<String> {
+    let out = run(&[&["edges", "-"], package].concat(), file);
+    assert_eq!(out.status.code(), Some(0));
+    assert_eq!(said(&out.stderr), "");
+    said(&out.stdout).lines().map(str::to_string).collect()
+}
+
+#[test]
+fn edges_are_listed_with_the_record_behind_them() {
+    let lines = edges(REPLAY, &[]);
+    let wanted = [
+        "<root> -> replay 2  requires \"replay *\"  clause 0, record 10 (byte 320): Requires: requirer variable 0 (the root), requirement 0 (replay *)",
+        "<root> -> replay 1  requires \"replay *\"  clause 0, record 10 (byte 320): Requires: requirer variable 0 (the root), requirement 0 (replay *)",
+        "replay 2 -> unresolved  requires \"codec 9\"  clause 1, record 11 (byte 352): Requires: requirer variable 1 (replay 2), requirement 1 (codec 9)",
+        "replay 1 -> unresolved  requires \"codec 9\"  clause 2, record 12 (byte 384): Requires: requirer variable 2 (replay 1), requirement 1 (codec 9)",
+    ];
+    assert_eq!(lines, wanted);
+    // Every kind of edge, and that the record is the one at that byte.
+    let lines = edges(RACK, &[]);
+    assert_eq!(lines.len(), 1 + 2 + 20 + 20 + 1 + 20 + 1 + 1 + 10 + 10);
+    for (line, kind) in [
+        ("deck 3.1 -> codec 9.0-b01  requires \"codec >=9\"  clause 3, ", 19),
+        ("codec 9.0-b01 -> driver 12  requires \"driver >=12\"  clause 26, ", 19),
+        ("driver 12 -> driver 11  only one of the two can be installed  clause 28, ", 21),
+        ("<root> -> driver 12  driver 11 is locked  clause 29, ", 20),
+        ("codec 7.2-b01 -> reason: it was recalled  is excluded  clause 30, ", 17),
+        ("codec 7.2-b11 -> panel 5  constrains \"panel <5\"  clause 40, ", 23),
+    ] {
+        let found = lines.iter().find_map(|l| l.strip_prefix(line)).unwrap_or_else(|| panic!("no line begins with {line}"));
+        let byte: usize = found.split(['(', ')']).nth(1).and_then(|s| s.strip_prefix("byte ")).and_then(|n| n.parse().ok()).expect("a byte place");
+        assert_eq!(RACK[byte], kind, "{found}");
+    }
+}
+
+#[test]
+fn edges_of_a_package_are_those_that_touch_it() {
+    let all = edges(RACK, &[]);
+    let of = |wanted: &dyn Fn(&str, &str, &str) -> bool| -> Vec<String> {
+        let parts = |line: &str| {
+            let (ends, rest) = line.split_once("  ").expect("two parts");
+            let (source, target) = ends.split_once(" -> ").expect("two ends");
+            wanted(source, target, rest)
+        };
+        all.iter().filter(|line| parts(line)).cloned().collect()
+    };
+    assert_eq!(edges(RACK, &["deck"]), of(&|s, t, _| s.starts_with("deck ") || t.starts_with("deck ")));
+    assert_eq!(edges(RACK, &["deck 3.1"]), of(&|s, t, _| s == "deck 3.1" || t == "deck 3.1"));
+    assert_eq!(edges(RACK, &["deck", "3.1"]), edges(RACK, &["deck 3.1"]));
+    assert_eq!(edges(RACK, &["deck 3.1"]).len(), 21);
+    // The locked one has no end at the edge of its lock.
+    assert_eq!(edges(RACK, &["driver 11"]), of(&|s, t, r| s == "driver 11" || t == "driver 11" || r.starts_with("driver 11 is locked")));
+    assert_eq!(edges(RACK, &["driver 11"]).len(), 3);
+    assert_eq!(edges(REPLAY, &["unresolved"]).len(), 2);
+}
+
+#[test]
+fn a_package_without_edges_is_said_to_have_none() {
+    for (package, wanted) in [("dekc", "dekc: the file has no such package\n"), ("-x", "-x: the file has no such package\n")] {
+        let out = run(&["edges", "-", package], RACK);
+        assert_eq!((out.status.code(), said(&out.stdout), said(&out.stderr)), (Some(0), String::new(), wanted.into()));
+    }
+    // The core without the clause that names replay 1, and the root's requirement with one candidate.
+    let mut file = REPLAY.to_vec();
+    file[32 * 6 + 4] = 0;
+    file[32 * 12 + 1] = 0;
+    let out = run(&["edges", "-", "replay 1"], &file);
+    assert_eq!((out.status.code(), said(&out.stderr)), (Some(0), "replay 1: no edge of the conflict touches it\n".into()));
+    let out = run(&["edges", "-", "replay"], &REPLAY[..33]);
+    assert_eq!((out.status.code(), out.stdout.len()), (Some(2), 0));
+    assert!(said(&out.stderr).starts_with("refused 1 at the whole file"));
+}
+
 #[test]
 fn an_endless_text_is_cut_and_a_small_room_leaves_whole_lines() {
     let out = run(&["explain", "-"], DECK_PANEL);
@@ -123,7 +199,7 @@ fn an_endless_text_is_cut_and_a_small_room_leaves_whole_lines() {
 
 #[test]
 fn wrong_usage_is_status_64_and_a_file_that_is_not_there_1() {
-    for words in [&[][..], &["explain"], &["draw", "-"], &["check", "-", "--indent"], &["explain", "-", "--room", "many"], &["check", "a", "b"]] {
+    for words in [&[][..], &["explain"], &["draw", "-"], &["edges"], &["edges", "--all"], &["check", "-", "--indent"], &["explain", "-", "--room", "many"], &["check", "a", "b"]] {
         assert_eq!(run(words, &[]).status.code(), Some(64), "{words:?}");
     }
     assert_eq!(run(&["check", "there/is/no/such.rec"], &[]).status.code(), Some(1));

@@ -1,7 +1,7 @@
 //! Every call runs on a thread with 128 KiB of stack and a guard page behind it.
 
 use std::thread::Builder;
-use urzulempa::{check, explain, explain_plain, graphviz, nodes, Node, MOST_NODES};
+use urzulempa::{check, edge_numbers, edges, explain, explain_plain, graphviz, nodes, Node, MOST_EDGES, MOST_NODES};
 
 const SAMPLES: [&[u8]; 5] = [
     include_bytes!("../../../samples/replay.rec"),
@@ -38,12 +38,14 @@ fn graphviz_fits() {
 }
 
 #[test]
-fn check_and_nodes_fit() {
+fn check_nodes_and_edges_fit() {
     let mut list = vec![Node::default(); MOST_NODES];
+    let mut numbers = vec![0; 5 * MOST_EDGES];
     on_small_stack(move || {
         for file in SAMPLES {
             assert!(check(file).is_done());
             assert!(nodes(file, &mut list).is_done());
+            assert!(edge_numbers(file, &mut numbers).is_done());
         }
     });
 }
@@ -60,4 +62,18 @@ fn p7_to_the_byte() {
     let answer = explain(SAMPLES[0], 0, &mut room);
     assert_eq!((answer.number, answer.place, answer.bytes), (10, 2, 100));
     assert_eq!(room[100..], [7; 54]);
+}
+
+#[test]
+fn edges_are_as_many_as_the_numbers_say() {
+    for file in SAMPLES {
+        let (answer, list) = edges(file);
+        assert_eq!((answer.number, answer.place, answer.bytes, answer.units, answer.depth), (0, 0, 10 * list.len() as u64, 1, 0));
+        let mut short = vec![7; (5 * list.len()).saturating_sub(1)];
+        let answer = edge_numbers(file, &mut short);
+        assert_eq!((answer.number, answer.place, answer.bytes, answer.units, answer.depth), (10, 0, 0, 0, 0));
+        assert!(short.iter().all(|&n| n == 7));
+    }
+    let (answer, list) = edges(&[7; 33]);
+    assert_eq!((answer.number, list.len()), (1, 0));
 }

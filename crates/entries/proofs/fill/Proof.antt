@@ -63,7 +63,7 @@ use Rattle.entries.proofs.fill.Code as code
 use Rattle.entries.proofs.fill.Code.Mir as code-mir
 
 -- ---- numbers and truth values
-scaled : (i n : ℕ) → i < n → n * 8 < 2 ^ 63 → i * 8 < 2 ^ 64
+scaled : (i n : ℕ) → i < n → n * 10 < 2 ^ 63 → i * 10 < 2 ^ 64
 scaled i n l h = omega (arith, l, h)
 
 one-more : (i : ℕ) → i + 1 ≡ suc i
@@ -213,7 +213,7 @@ module _ {M : Type 1} (𝓤 : URA M) (H : Heap 𝓤) (A : Atoms 𝓤) (W : Given
           land ! (from ! (stop !)) (init ! 6 refl (typed r u is)) $
           assigns ! (bin ! (load ! (from ! (stop !)) (look ! 4 refl)) (lit ! tt) (record { fits = scaled i (length xs) inside (room .1) })) (from ! (stop !)) (init ! 7 refl (tt, record { fits = scaled i (length xs) inside (room .1) })) $
           assigns ! (bin ! (load ! (from ! (fld ! refl (stop !))) (look-in ! 9 (sub ! 0 refl (whole !)))) (load ! (from ! (stop !)) (look ! 7 refl)) tt) (from ! (stop !)) (init ! 8 refl (tt, tt)) $
-          rewrite ! 8 (λ (p : ℕ). ‵ (fat fullShare tyPtr l₈ 0 (vptr b p))) (sym (place-is 8 o i)) refl $
+          rewrite ! 8 (λ (p : ℕ). ‵ (fat fullShare tyPtr l₈ 0 (vptr b p))) (sym (place-is 10 o i)) refl $
           move ! (3 ∷ []) $ elem-out ! T.the-row (Is T.the-row) (shows 𝓤 H A T.the-row) (LL.vals T.the-type T′.the-laws) (LL.tells T.the-type T′.the-laws) fullShare (ys i) i r b o here (λ _.
           -- [list[i]; what it owns; the others; the result; the token; what words owns; _4; _5; _6; _7; _8; _1; …]
           assigns ! (of-opd ! (load ! (from ! (stop !)) (look ! 8 refl))) (from ! (hop ! (look ! 10 refl) (stop !))) (store-raw ! 0 refl (typed r u is)) $

@@ -20,5 +20,5 @@ build-core-spec =
     tie.close
     (tie.spec
     Inv-loop μ-loop
-    (λ c. search laws) (λ c κs. search needs) (λ c. search needs) (λ c κs. search needs) (λ c. search laws)
+    (λ c. search laws) (λ c κs. (search needs, (search needs, search needs))) (λ c. search needs) (λ c κs. search needs) (λ c. search laws)
     (λ c. search needs) (λ c. search needs) (λ c. search needs) (λ c. search laws) (λ c. search laws))

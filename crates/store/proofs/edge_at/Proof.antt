@@ -8,4 +8,4 @@ edge-at-spec =
     tie.close
     (tie.spec
     (λ c κs. search needs) (λ c. search needs) (λ c κs. search needs) (λ c. search needs)
-    (λ c. search needs) (λ c. search (needs, reads)))
+    (λ c. search needs) (λ c. search needs) (λ c. search (needs, reads)))

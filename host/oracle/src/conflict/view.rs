@@ -3,19 +3,27 @@
 use std::fmt::{self, Write as _};
 
 use petgraph::graph::NodeIndex;
+use petgraph::visit::EdgeRef as _;
 
-use super::{Conflict, ConflictGraph, ConflictNode, DisplayUnsat};
-use crate::limits;
+use super::{Conflict, ConflictCause, ConflictEdge, ConflictGraph, ConflictNode, DisplayUnsat};
+use crate::limits::{self, AddedBy};
 use crate::provider::{FileSolver, Provider};
 use crate::rooms::{Lines, Pieces, Room};
 use crate::standins::internal::id::ClauseId;
 use crate::standins::Interner;
 use crate::watch::Package;
-use crate::{Answer, Node, Refusal};
+use crate::{Answer, Edge, Node, Refusal};
 
 /// The graph of a file with its groups and labels.
 pub struct View<'p, 'a> {
     unsat: DisplayUnsat<'p, Provider<'a>>,
+    added: AddedBy,
+}
+
+/// The graph of a file alone, with the clauses that added its nodes and edges.
+pub struct Drawn {
+    graph: ConflictGraph,
+    added: AddedBy,
 }
 
 /// A text cut short, or whole; and whether `fmt_graph` came to its end by itself.
@@ -25,19 +33,53 @@ pub struct Told {
 }
 
 /// Refusals 7 to 9, or the graph alone.
-pub fn drawn(solver: &FileSolver<'_>, core: &[ClauseId]) -> Result<ConflictGraph, Refusal> {
+pub fn drawn(solver: &FileSolver<'_>, core: &[ClauseId]) -> Result<Drawn, Refusal> {
     let mut conflict = Conflict::default();
     for &clause in core {
         conflict.add_clause(clause);
     }
-    limits::caught(&solver.state.limits, || conflict.graph(solver))
+    let (graph, added) = limits::caught(&solver.state.progress, || conflict.graph(solver))?;
+    assert_eq!(
+        (added.nodes.len(), added.edges.len()),
+        (graph.graph.node_count(), graph.graph.edge_count()),
+        "a clause is noted for each node and each edge"
+    );
+    Ok(Drawn { graph, added })
+}
+
+impl Drawn {
+    /// Oldest first: an edge's index is its place in the order of adding, since only unresolved is ever removed, and only when
+    /// no edge leads there; none leaves it.
+    pub fn edges(&self) -> Vec<Edge> {
+        let edges = self.graph.graph.edge_references().zip(&self.added.edges);
+        edges
+            .map(|(edge, &clause)| {
+                let (kind, named) = match *edge.weight() {
+                    ConflictEdge::Requires(requirement) => (0, requirement.0),
+                    ConflictEdge::Conflict(ConflictCause::Locked(solvable)) => (1, solvable.0),
+                    ConflictEdge::Conflict(ConflictCause::Constrains(set)) => (2, set.0),
+                    ConflictEdge::Conflict(ConflictCause::ForbidMultipleInstances) => (3, 0),
+                    ConflictEdge::Conflict(ConflictCause::Excluded) => (4, 0),
+                };
+                Edge {
+                    source: edge.source().index() as u16,
+                    target: edge.target().index() as u16,
+                    kind,
+                    named,
+                    clause,
+                }
+            })
+            .collect()
+    }
 }
 
 impl<'p, 'a> View<'p, 'a> {
     /// Refusals 7 to 9, or the graph with its groups and labels.
     pub fn build(solver: &'p FileSolver<'a>, core: &[ClauseId]) -> Result<Self, Refusal> {
+        let Drawn { graph, added } = drawn(solver, core)?;
         Ok(View {
-            unsat: DisplayUnsat::new(drawn(solver, core)?, solver.provider()),
+            unsat: DisplayUnsat::new(graph, solver.provider()),
+            added,
         })
     }
 
@@ -108,6 +150,7 @@ impl<'p, 'a> View<'p, 'a> {
             group: self.first_of_group(node).index() as u16,
             installable: unsat.installable_set.contains(&node).into(),
             missing: unsat.missing_set.contains(&node).into(),
+            clause: self.added.nodes[node.index()],
         }
     }
 

@@ -3,7 +3,7 @@
 
 #![allow(dead_code)]
 
-use oracle::{Answer, Node, Problem};
+use oracle::{Answer, Edge, Node, Problem};
 
 fn same(theirs: Answer, ours: urzulempa::Answer) -> Answer {
     let port = Answer {
@@ -48,12 +48,21 @@ pub fn nodes(file: &[u8], list: &mut [Node]) -> Answer {
         group: n.group,
         installable: n.installable,
         missing: n.missing,
+        clause: n.clause,
     };
     let mut ours: Vec<urzulempa::Node> = list.iter().map(entry).collect();
     let port = urzulempa::nodes(file, &mut ours);
     let answer = same(oracle::nodes(file, list), port);
     let theirs: Vec<urzulempa::Node> = list.iter().map(entry).collect();
     assert_eq!(ours, theirs, "the port leaves other entries");
+    answer
+}
+
+pub fn edge_numbers(file: &[u8], list: &mut [u16]) -> Answer {
+    let mut ours = list.to_vec();
+    let port = urzulempa::edge_numbers(file, &mut ours);
+    let answer = same(oracle::edges(file, list), port);
+    assert!(ours == list, "the port leaves other numbers");
     answer
 }
 
@@ -96,12 +105,28 @@ pub fn list(file: &[u8]) -> Vec<Node> {
     list
 }
 
-/// The port shows no count of edges: it has to draw the same text.
+/// How many edges there are; the port has to draw the same text, too.
 pub fn edges(file: &[u8]) -> usize {
     drawn(file, 0);
-    let problem = Problem::read(file).expect("the reader takes the file");
-    let model = problem.model().expect("the graph can be built");
-    model.edge_count()
+    edge_list(file).len()
+}
+
+/// The edges, oldest first.
+pub fn edge_list(file: &[u8]) -> Vec<Edge> {
+    let mut list = vec![0; 5 * 1_024];
+    let answer = edge_numbers(file, &mut list);
+    assert_eq!(answer.number, 0);
+    let five = |n: &[u16]| Edge {
+        source: n[0],
+        target: n[1],
+        kind: n[2],
+        named: n[3],
+        clause: n[4],
+    };
+    list.chunks(5)
+        .take(answer.bytes as usize / 10)
+        .map(five)
+        .collect()
 }
 
 /// Number and place of what `check` answers.

@@ -1,5 +1,5 @@
 use borrow.Author.Needs.{needs}
-use Rattle.replay.specs.Again.{at-check, at-explain, at-plain, at-graph, at-list, at-none}
+use Rattle.replay.specs.Again.{at-check, at-explain, at-plain, at-graph, at-list, at-edges, at-none}
 use Rattle.replay.proofs.calls.replayed.Statement.{statement}
 use Rattle.replay.proofs.calls.replayed.Tie as tie
 
@@ -17,5 +17,7 @@ replayed-spec =
     (λ c. search at-graph)
     (λ c κs. search needs)
     (λ c. search at-list)
+    (λ c κs. search needs)
+    (λ c. search at-edges)
     (λ c κs. search needs)
     (λ c. search at-none))

@@ -8,4 +8,4 @@ mixed-entry-spec =
     tie.close
     (tie.spec (λ c. search needs) (λ c κs. search needs) (λ c. search needs) (λ c κs. search needs) (λ c. search needs)
     (λ c κs. search needs) (λ c. search needs) (λ c κs. search needs) (λ c. search needs) (λ c κs. search needs)
-    (λ c. (search entry-mixed, search needs)))
+    (λ c. search needs) (λ c κs. search needs) (λ c. (search entry-mixed, search needs)))

@@ -1,0 +1,4 @@
+pub mod Noted
+pub mod Cored
+pub mod Other
+pub mod Laws
