@@ -1,12 +1,12 @@
 -- The keys of a node's outgoing (d true) or incoming (d false) edges, walked along its chain: one set of laws for both.
 use mathlib.Core.Path.{_≡_, refl, sym, ap, _∙_}
-use mathlib.Core.Bool.{Bool, true, false, cond, true≢false, false≢true}
+use mathlib.Core.Bool.{Bool, true, false, cond, _&&_, true≢false, false≢true}
 use mathlib.Core.List.{List, [], _∷_, map, reverse}
 use Prim.Native.Nat.{ℕ, zero, suc, _+_, _*_, _-_, _<_, _≤_}
 use native.Mathlib.Omega.{arith}
 use lib.ListN.{length, length-map, length-reverse}
 use lib.Dec.{eqb}
-use borrow.Author.Tests.{eq-eqb, ne-eqb}
+use borrow.Author.Tests.{eqb-true, eqb-false, eq-eqb, ne-eqb}
 use Rattle.basis.specs.Lists.{all, filter}
 use Rattle.basis.specs.Members.{split}
 use Rattle.store.specs.declared.Edge.{Edge}
@@ -17,7 +17,7 @@ use Rattle.links.specs.Build.{Chains}
 use Rattle.links.specs.Walk.{Out, Into, firstOut, nextOut, firstIn, nextIn, outLeft, intoLeft, out-start, out-all, out-next, out-less, out-cons, out-end, into-start, into-all, into-next, into-less, into-cons, into-end}
 use Rattle.groups.specs.Small.{filter-short}
 use Rattle.groups.specs.Groups.{outKey, inKey, outKeys, inKeys}
-use Rattle.groups.specs.Multi.{bump, count, evenly, Rest, rest-none, rest-both, sameKeys, even-is}
+use Rattle.groups.specs.Multi.{bump, count, evenly, Rest, rest-none, rest-both, sameKeys, even-is, ended-same, long-apart}
 
 unfoldable pub keysIn : Graph → Bool → ℕ → List ℕ
 keysIn G true n = outKeys G n
@@ -205,10 +205,42 @@ even-end g s d m n e Z i l = sym (sym i ∙ rw (way-end g d m e l))
 unfoldable pub sameIn : Graph → Bool → ℕ → ℕ → Bool
 sameIn G d m n = sameKeys (keysIn G d m) (keysIn G d n)
 
-pub same-via : (g : List ℕ) (s : Size) (ls : List ℕ) (d : Bool) (m n a b : ℕ) (r : Bool) → Skipped g ls d m n (keysIn (graphIn g s) d m) (keysIn (graphIn g s) d n) a b → r ≡ evenLeft g s d m n a → length (keysIn (graphIn g s) d m) ≡ length (keysIn (graphIn g s) d n) → r ≡ sameIn (graphIn g s) d m n
-unfolding sameIn evenLeft
-same-via g s ls d m n a b r S q l =
-    q ∙ even-is (keysIn (graphIn g s) d m) (keysIn (graphIn g s) d n) (keysLeft g d m a) (keysLeft g d n b) (S .rest) l
+module _ (g : List ℕ) (s : Size) (ls : List ℕ) (d : Bool) (m n a b : ℕ) (S : Skipped g ls d m n (keysIn (graphIn g s) d m) (keysIn (graphIn g s) d n) a b) where
+  -- m's end first: then n's have to end as well
+  pub same-ended : a ≡ 0 → eqb b 0 ≡ sameIn (graphIn g s) d m n
+  unfolding sameIn
+  same-ended z =
+      let x : keysLeft g d m a ≡ [] = way-end g d m a (omega arith) in
+      split (eqb b 0)
+      (λ t. let y : keysLeft g d n b ≡ [] = way-end g d n b (let h : b ≡ 0 = eqb-true b 0 t in omega arith) in
+      t ∙ sym (ended-same (keysIn (graphIn g s) d m) (keysIn (graphIn g s) d n) (rw (x, y) at (S .rest))))
+      (λ t. let y : keysLeft g d n b ≡ keyAt g d (b - 1) ∷ keysLeft g d n (nextKey ls d (b - 1)) = way-cons g ls d n b (nextKey ls d (b - 1)) (S .right-way) (omega (arith, eqb-false b 0 t)) refl in
+      let r : Rest (keysIn (graphIn g s) d m) (keysIn (graphIn g s) d n) [] (keyAt g d (b - 1) ∷ keysLeft g d n (nextKey ls d (b - 1))) = rw (x, y) at (S .rest) in
+      t ∙ sym (long-apart (keysIn (graphIn g s) d m) (keysIn (graphIn g s) d n) (λ q. omega (arith, r .lengths))))
+
+  module _ (x y : ℕ) (p : x ≡ length (keysIn (graphIn g s) d m)) (q : y ≡ length (keysIn (graphIn g s) d n)) where
+    pub same-long : (x ≡ y → ⊥) → false ≡ sameIn (graphIn g s) d m n
+    unfolding sameIn
+    same-long f = sym (long-apart (keysIn (graphIn g s) d m) (keysIn (graphIn g s) d n) (λ e. f (p ∙ e ∙ sym q)))
+
+    pub same-via : (r : Bool) → x ≡ y → r ≡ evenLeft g s d m n a → r ≡ sameIn (graphIn g s) d m n
+    unfolding sameIn evenLeft
+    same-via r e k =
+        k ∙ even-is (keysIn (graphIn g s) d m) (keysIn (graphIn g s) d n) (keysLeft g d m a) (keysLeft g d n b) (S .rest) (sym p ∙ e ∙ q)
+
+-- both directions
+unfoldable pub sameEdges : Graph → ℕ → ℕ → Bool
+unfolding sameIn
+sameEdges G m n = sameIn G false m n && sameIn G true m n
+
+module _ (G : Graph) (m n : ℕ) (u : Bool) (k : u ≡ sameIn G false m n) where
+  pub same-both : (v : Bool) → u ≡ true → v ≡ sameIn G true m n → v ≡ sameEdges G m n
+  unfolding sameEdges
+  same-both v t q = rw (← k, t, ← q)
+
+  pub same-none : u ≡ false → false ≡ sameEdges G m n
+  unfolding sameEdges
+  same-none t = rw (← k, t)
 
 -- ---- a chain has at most 1,024 edges
 

@@ -22,8 +22,10 @@ use Rattle.links.specs.Build.{Chains}
 use Rattle.groups.specs.Small.{both, eq-refl, filter-same}
 use Rattle.groups.specs.Groups.{sort, outKeys, inKeys, mergesBy, titleOf, matesBy, headOr, leadBy}
 use Rattle.groups.specs.Counts.{Alike, alike, same-row}
-use Rattle.groups.specs.Multi.{sameKeys, length-sort}
-use Rattle.groups.specs.Keys.{keysIn, sameIn, keys-few}
+use Rattle.groups.specs.Multi.{sameKeys}
+use Rattle.groups.specs.Keys.{keysIn, sameIn, sameEdges}
+use Rattle.groups.specs.Prints.{printOf, Printed}
+use Rattle.groups.specs.Laws.Prints.{print-sorted, twinsTo, alone}
 
 -- a table that gives each node the number of its name's text stands for the texts: equal numbers, equal texts
 unfoldable pub titleIn : List ℕ → ℕ → List ℕ
@@ -33,10 +35,6 @@ titleIn ids n = getD ids n 0 ∷ []
 unfoldable pub leadsTo : (ℕ → List ℕ) → Graph → ℕ → List ℕ → List ℕ
 leadsTo title G zero l = l
 leadsTo title G (suc k) l = set (leadsTo title G k l) k (leadBy title G k)
-
--- what is compared first: 0 for no solvable, else 1 and how many edges go out and come in
-unfoldable pub sigOf : Graph → ℕ → ℕ
-sigOf G n = cond (isSolvable (nodeAt G n)) (1 + length (keysIn G true n) + 2048 * length (keysIn G false n)) 0
 
 -- ---- the first that merges
 
@@ -113,113 +111,63 @@ module _ (title : ℕ → List ℕ) (G : Graph) where
 
 -- ---- what is compared first
 
-module _ (title : ℕ → List ℕ) (g : List ℕ) (s : Size) (S : Stored g s) (m n : ℕ) where
-  merges-sig : mergesBy title (graphIn g s) m n ≡ true → sigOf (graphIn g s) m ≡ sigOf (graphIn g s) n
-  unfolding sigOf keysIn
-  merges-sig t =
-      let a = alike title (graphIn g s) m n t in
-      let i : length (inKeys (graphIn g s) m) ≡ length (inKeys (graphIn g s) n) = sym (length-sort (inKeys (graphIn g s) m)) ∙ ap length (a .ins) ∙ length-sort (inKeys (graphIn g s) n) in
-      let o : length (outKeys (graphIn g s) m) ≡ length (outKeys (graphIn g s) n) = sym (length-sort (outKeys (graphIn g s) m)) ∙ ap length (a .outs) ∙ length-sort (outKeys (graphIn g s) n) in
-      rw (a .left-is, a .right-is, i, o)
-
-  record Equally : Type 0 where
-    left-is : isSolvable (nodeAt (graphIn g s) m) ≡ true
-    right-is : isSolvable (nodeAt (graphIn g s) n) ≡ true
-    outs : length (keysIn (graphIn g s) true m) ≡ length (keysIn (graphIn g s) true n)
-    ins : length (keysIn (graphIn g s) false m) ≡ length (keysIn (graphIn g s) false n)
-
-  equally : sigOf (graphIn g s) m ≡ sigOf (graphIn g s) n → isSolvable (nodeAt (graphIn g s) n) ≡ true → Equally
-  unfolding sigOf
-  equally e r =
-      split (isSolvable (nodeAt (graphIn g s) m))
-      (λ t.
-      let z : 1 + length (keysIn (graphIn g s) true m) + 2048 * length (keysIn (graphIn g s) false m) ≡ 1 + length (keysIn (graphIn g s) true n) + 2048 * length (keysIn (graphIn g s) false n) = rw (t, r) at e in
-      record {
-        left-is = t;
-        right-is = r;
-        outs = omega (arith, z, keys-few g s S true m, keys-few g s S true n);
-        ins = omega (arith, z, keys-few g s S true m, keys-few g s S true n);
-      })
-      (λ t. absurd (clash (rw (t, r) at e)))
-    where
-      clash : _≡_ {A = ℕ} 0 (1 + length (keysIn (graphIn g s) true n) + 2048 * length (keysIn (graphIn g s) false n)) → ⊥
-      clash z = omega arith
-
--- ---- the tables
-
--- the table holds what is compared first, of the nodes below k
-pub record Signed (G : Graph) (sigs : List ℕ) (k : ℕ) : Type 0 where
-  pub long : length sigs ≡ 128
-  pub sig : (j : ℕ) → j < k → getD sigs j 0 ≡ sigOf G j
-
-pub sign-none : (G : Graph) (sigs : List ℕ) → length sigs ≡ 128 → Signed G sigs 0
-sign-none G sigs h = record { long = h; sig = λ j l. absurd (not-suc-le-zero l) }
-
-pub sign-next : (g : List ℕ) (s : Size) (ls sigs : List ℕ) (i v : ℕ) → Signed (graphIn g s) sigs i → v ≡ sigOf (graphIn g s) i → i < s .nodes → Chains g s ls → Signed (graphIn g s) (set sigs i v) (i + 1)
-sign-next g s ls sigs i v S q h c = record { long = rw length-set (S .long); sig = each }
-  where
-    inside : i < length sigs
-    inside = omega (arith, S .long, c .stored .nodes-most)
-
-    each : (j : ℕ) → j < i + 1 → getD (set sigs i v) j 0 ≡ sigOf (graphIn g s) j
-    each j l =
-        split (eqb j i) (λ t. rw (eqb-true j i t, getD-set-same sigs i v 0 inside) q)
-        (λ t. rw (getD-set-other sigs i j v 0 (eqb-false j i t)) (S .sig j (omega (arith, eqb-false j i t))))
-
-pub sign-all : (G : Graph) (sigs : List ℕ) (i k : ℕ) → Signed G sigs i → k ≤ i → Signed G sigs k
-sign-all G sigs i k S h = record { long = S .long; sig = λ j l. S .sig j (omega arith) }
+merges-print : (title : ℕ → List ℕ) (G : Graph) (m n : ℕ) → mergesBy title G m n ≡ true → printOf G m ≡ printOf G n
+merges-print title G m n t = let a = alike title G m n t in print-sorted G m n (a .outs) (a .ins)
 
 -- all that finding node n's lead needs
-pub record Ready (g : List ℕ) (s : Size) (ls ids sigs leads : List ℕ) (n : ℕ) : Type 0 where
+pub record Ready (g : List ℕ) (s : Size) (ls ids prints leads : List ℕ) (n : ℕ) : Type 0 where
   pub chains : Chains g s ls
-  pub signed : Signed (graphIn g s) sigs (s .nodes)
+  pub printed : Printed (graphIn g s) prints
   pub led : Led (titleIn ids) (graphIn g s) leads n
   pub node : n < s .nodes
   pub small : n < 128
 
--- the cheap part: equally many edges, the same name, and m a first member
+-- the cheap part: equal fingerprints, the same name, and m a first member
 unfoldable pub alikeOf : List ℕ → List ℕ → List ℕ → ℕ → ℕ → Bool
-alikeOf ids sigs leads m n = eqb (getD sigs m 0) (getD sigs n 0) && (eqb (getD ids m 0) (getD ids n 0) && eqb (getD leads m 0) m)
+alikeOf ids prints leads m n = eqb (getD prints m 0) (getD prints n 0) && (eqb (getD ids m 0) (getD ids n 0) && eqb (getD leads m 0) m)
 
-module _ (ids sigs leads : List ℕ) (m n : ℕ) where
-  pub alike-sig : (getD sigs m 0 ≡ getD sigs n 0 → ⊥) → false ≡ alikeOf ids sigs leads m n
+module _ (ids prints leads : List ℕ) (m n : ℕ) where
+  pub alike-print : (getD prints m 0 ≡ getD prints n 0 → ⊥) → false ≡ alikeOf ids prints leads m n
   unfolding alikeOf
-  alike-sig f = rw (ne-eqb (getD sigs m 0) (getD sigs n 0) f)
+  alike-print f = rw (ne-eqb (getD prints m 0) (getD prints n 0) f)
 
-  pub alike-id : (getD ids m 0 ≡ getD ids n 0 → ⊥) → getD sigs m 0 ≡ getD sigs n 0 → false ≡ alikeOf ids sigs leads m n
+  pub alike-id : (getD ids m 0 ≡ getD ids n 0 → ⊥) → getD prints m 0 ≡ getD prints n 0 → false ≡ alikeOf ids prints leads m n
   unfolding alikeOf
-  alike-id f e = rw (eq-eqb (getD sigs m 0) (getD sigs n 0) e, ne-eqb (getD ids m 0) (getD ids n 0) f)
+  alike-id f e = rw (eq-eqb (getD prints m 0) (getD prints n 0) e, ne-eqb (getD ids m 0) (getD ids n 0) f)
 
-  pub alike-lead : (l : ℕ) → getD ids m 0 ≡ getD ids n 0 → getD sigs m 0 ≡ getD sigs n 0 → l ≡ getD leads m 0 → eqb l m ≡ alikeOf ids sigs leads m n
+  pub alike-lead : (l : ℕ) → getD ids m 0 ≡ getD ids n 0 → getD prints m 0 ≡ getD prints n 0 → l ≡ getD leads m 0 → eqb l m ≡ alikeOf ids prints leads m n
   unfolding alikeOf
-  alike-lead l f e q = rw (eq-eqb (getD sigs m 0) (getD sigs n 0) e, eq-eqb (getD ids m 0) (getD ids n 0) f, q)
+  alike-lead l f e q = rw (eq-eqb (getD prints m 0) (getD prints n 0) e, eq-eqb (getD ids m 0) (getD ids n 0) f, q)
 
   record AlikeAll : Type 0 where
-    sig : getD sigs m 0 ≡ getD sigs n 0
+    print : getD prints m 0 ≡ getD prints n 0
     id : getD ids m 0 ≡ getD ids n 0
     lead : eqb (getD leads m 0) m ≡ true
 
-  alike-all : alikeOf ids sigs leads m n ≡ true → AlikeAll
+  alike-all : alikeOf ids prints leads m n ≡ true → AlikeAll
   unfolding alikeOf
   alike-all e =
-      let x = both (eqb (getD sigs m 0) (getD sigs n 0)) (eqb (getD ids m 0) (getD ids n 0) && eqb (getD leads m 0) m) e in
+      let x = both (eqb (getD prints m 0) (getD prints n 0)) (eqb (getD ids m 0) (getD ids n 0) && eqb (getD leads m 0) m) e in
       let y = both (eqb (getD ids m 0) (getD ids n 0)) (eqb (getD leads m 0) m) (x .1) in
-      record { sig = eqb-true (getD sigs m 0) (getD sigs n 0) (x .0); id = eqb-true (getD ids m 0) (getD ids n 0) (y .0); lead = y .1 }
+      record { print = eqb-true (getD prints m 0) (getD prints n 0) (x .0); id = eqb-true (getD ids m 0) (getD ids n 0) (y .0); lead = y .1 }
 
-  alike-none : alikeOf ids sigs leads m n ≡ false → (getD sigs m 0 ≡ getD sigs n 0 → ⊥) ⊎ ((getD ids m 0 ≡ getD ids n 0 → ⊥) ⊎ (eqb (getD leads m 0) m ≡ false))
+  alike-none : alikeOf ids prints leads m n ≡ false → (getD prints m 0 ≡ getD prints n 0 → ⊥) ⊎ ((getD ids m 0 ≡ getD ids n 0 → ⊥) ⊎ (eqb (getD leads m 0) m ≡ false))
   unfolding alikeOf
   alike-none e =
-      split (eqb (getD sigs m 0) (getD sigs n 0))
+      split (eqb (getD prints m 0) (getD prints n 0))
       (λ t. split (eqb (getD ids m 0) (getD ids n 0))
       (λ u. inr (inr (rw (t, u) at e)))
       (λ u. inr (inl (eqb-false (getD ids m 0) (getD ids n 0) u))))
-      (λ t. inl (eqb-false (getD sigs m 0) (getD sigs n 0) t))
+      (λ t. inl (eqb-false (getD prints m 0) (getD prints n 0) t))
 
 -- m leads, and merges with n
 unfoldable pub fitsOf : Graph → List ℕ → List ℕ → ℕ → ℕ → Bool
 fitsOf G ids leads m n = eqb (getD leads m 0) m && mergesBy (titleIn ids) G m n
 
 -- a node's kind
+pub is-solvable : (t x : Bool) → t ≡ true → t ≡ x → x ≡ true
+is-solvable t x e q = sym q ∙ e
+
 module _ (r x : ConflictNode) where
   pub no-root : r ≡ N.Root → r ≡ x → false ≡ isSolvable x
   no-root e q = rw (← q, e)
@@ -233,31 +181,31 @@ module _ (r x : ConflictNode) where
   pub no-reason : (t : ℕ) → r ≡ N.Excluded t → r ≡ x → false ≡ isSolvable x
   no-reason t e q = rw (← q, e)
 
-module _ (g : List ℕ) (s : Size) (ls : List ℕ) (n : ℕ) (t : Bool) (c : Chains g s ls) (h : n < s .nodes) (q : t ≡ isSolvable (nodeIn g n)) where
-  kind-is : t ≡ isSolvable (nodeAt (graphIn g s) n)
-  kind-is = q ∙ ap isSolvable (node-in g s (c .stored) n h)
-
-  pub sig-none : t ≡ false → 0 ≡ sigOf (graphIn g s) n
-  unfolding sigOf
-  sig-none e = rw (← kind-is, e, cond)
-
-  pub sig-some : (o i : ℕ) → t ≡ true → o ≡ length (keysIn (graphIn g s) true n) → i ≡ length (keysIn (graphIn g s) false n) → 1 + o + 2048 * i ≡ sigOf (graphIn g s) n
-  unfolding sigOf
-  sig-some o i e p r = rw (← kind-is, e, cond, p, r)
-
-module _ (g : List ℕ) (s : Size) (ls ids sigs leads : List ℕ) (n : ℕ) (R : Ready g s ls ids sigs leads n) where
+module _ (g : List ℕ) (s : Size) (ls ids prints leads : List ℕ) (n : ℕ) (R : Ready g s ls ids prints leads n) where
   count-is : length (graphIn g s .nodes) ≡ s .nodes
   count-is = nodes-count g s (R .chains .stored)
 
-  pub lead-zero : (y : ℕ) → y ≡ 0 → y ≡ getD sigs n 0 → n ≡ leadBy (titleIn ids) (graphIn g s) n
-  unfolding sigOf
-  lead-zero y z q =
-      split (isSolvable (nodeAt (graphIn g s) n))
-      (λ t. absurd (never (rw (t, cond) at (sym z ∙ q ∙ R .signed .sig n (R .node)))))
-      (λ t. sym (lead-alone (titleIn ids) (graphIn g s) n t))
+  kind-is : (m : ℕ) → m < s .nodes → isSolvable (nodeIn g m) ≡ isSolvable (nodeAt (graphIn g s) m)
+  kind-is m h = ap isSolvable (node-in g s (R .chains .stored) m h)
+
+  pub small-is : n < 128
+  small-is = R .small
+
+  -- what is no solvable does not merge
+  pub lead-kind : (t : Bool) → t ≡ false → t ≡ isSolvable (nodeIn g n) → n ≡ leadBy (titleIn ids) (graphIn g s) n
+  lead-kind t z q = sym (lead-alone (titleIn ids) (graphIn g s) n (sym (kind-is n (R .node)) ∙ sym q ∙ z))
+
+  -- no earlier node has its fingerprint
+  pub lead-lone : (c : ℕ) → c ≡ 0 → c ≡ twinsTo prints (getD prints n 0) n → n ≡ leadBy (titleIn ids) (graphIn g s) n
+  lead-lone c z q = sym (lead-own (titleIn ids) (graphIn g s) n (rw count-is (R .node)) (record { each = each }))
     where
-      never : _≡_ {A = ℕ} 0 (1 + length (keysIn (graphIn g s) true n) + 2048 * length (keysIn (graphIn g s) false n)) → ⊥
-      never z = omega arith
+      differs : (j : ℕ) → j < n → mergesBy (titleIn ids) (graphIn g s) j n ≡ true → ⊥
+      differs j l e =
+          alone prints (getD prints n 0) n j (sym q ∙ z) l
+          (R .printed .print j (omega (arith, R .small)) ∙ merges-print (titleIn ids) (graphIn g s) j n e ∙ sym (R .printed .print n (R .small)))
+
+      each : (j : ℕ) → j < n → mergesBy (titleIn ids) (graphIn g s) j n ≡ false
+      each j l = split (mergesBy (titleIn ids) (graphIn g s) j n) (λ t. absurd (differs j l t)) (λ t. t)
 
   module _ (m : ℕ) (lt : m < n) where
     m-node : m < s .nodes
@@ -274,47 +222,26 @@ module _ (g : List ℕ) (s : Size) (ls ids sigs leads : List ℕ) (n : ℕ) (R :
     never-merges : (mergesBy (titleIn ids) (graphIn g s) m n ≡ true → ⊥) → false ≡ fitsOf (graphIn g s) ids leads m n
     never-merges f = wrong (split (mergesBy (titleIn ids) (graphIn g s) m n) (λ t. absurd (f t)) (λ t. t))
 
-    pub fits-unlike : (t : Bool) → t ≡ false → t ≡ alikeOf ids sigs leads m n → false ≡ fitsOf (graphIn g s) ids leads m n
+    pub fits-unlike : (t : Bool) → t ≡ false → t ≡ alikeOf ids prints leads m n → false ≡ fitsOf (graphIn g s) ids leads m n
     unfolding fitsOf titleIn
     fits-unlike t z q =
-        either (alike-none ids sigs leads m n (sym q ∙ z))
-        (λ f. never-merges (λ e. f (R .signed .sig m m-node ∙ merges-sig (titleIn ids) g s (R .chains .stored) m n e ∙ sym (R .signed .sig n (R .node)))))
+        either (alike-none ids prints leads m n (sym q ∙ z))
+        (λ f. never-merges (λ e. f (R .printed .print m (omega (arith, R .small)) ∙ merges-print (titleIn ids) (graphIn g s) m n e ∙ sym (R .printed .print n (R .small)))))
         (λ f. either f (λ f. never-merges (λ e. f (heads (alike (titleIn ids) (graphIn g s) m n e .titles)))) (λ f. rw f))
       where
         heads : getD ids m 0 ∷ [] ≡ getD ids n 0 ∷ [] → getD ids m 0 ≡ getD ids n 0
         heads e = cc
 
-    module _ (t : Bool) (z : t ≡ true) (q : t ≡ alikeOf ids sigs leads m n) (nz : getD sigs n 0 ≡ 0 → ⊥) where
-      cheap : AlikeAll ids sigs leads m n
-      cheap = alike-all ids sigs leads m n (sym q ∙ z)
+    module _ (v : Bool) (k : v ≡ isSolvable (nodeIn g m)) where
+      pub fits-kind : v ≡ false → false ≡ fitsOf (graphIn g s) ids leads m n
+      fits-kind w = never-merges (λ e. no-both (isSolvable (nodeAt (graphIn g s) m)) (alike (titleIn ids) (graphIn g s) m n e .left-is) (sym (kind-is m m-node) ∙ sym k ∙ w))
 
-      n-solvable : isSolvable (nodeAt (graphIn g s) n) ≡ true
-      unfolding sigOf
-      n-solvable =
-          split (isSolvable (nodeAt (graphIn g s) n)) (λ t. t) (λ t. absurd (nz (R .signed .sig n (R .node) ∙ rw (t, cond))))
-
-      sized : Equally (titleIn ids) g s (R .chains .stored) m n
-      sized = equally (titleIn ids) g s (R .chains .stored) m n (sym (R .signed .sig m m-node) ∙ cheap .sig ∙ R .signed .sig n (R .node)) n-solvable
-
-      pub sizes-in : length (keysIn (graphIn g s) false m) ≡ length (keysIn (graphIn g s) false n)
-      sizes-in = sized .ins
-
-      pub sizes-out : length (keysIn (graphIn g s) true m) ≡ length (keysIn (graphIn g s) true n)
-      sizes-out = sized .outs
-
-      module _ (u : Bool) (k : u ≡ sameIn (graphIn g s) false m n) where
-        pub fits-in : u ≡ false → false ≡ fitsOf (graphIn g s) ids leads m n
-        unfolding sameIn sameKeys keysIn mergesBy
-        fits-in w = wrong (rw (sized .left-is, sized .right-is, ← k, w) (no (eqList (titleIn ids m) (titleIn ids n))))
-          where
-            no : (b : Bool) → b && false ≡ false
-            no true = refl
-            no false = refl
-
-        pub fits-out : (v : Bool) → u ≡ true → v ≡ sameIn (graphIn g s) true m n → v ≡ fitsOf (graphIn g s) ids leads m n
-        unfolding fitsOf sameIn sameKeys keysIn mergesBy titleIn
-        fits-out v w o =
-            rw (cheap .lead, sized .left-is, sized .right-is, cheap .id, eq-eqb (getD ids n 0) (getD ids n 0) refl, eqList, ← k, w, ← o)
+      -- the full comparison decides
+      pub fits-edges : (r t : Bool) → r ≡ sameEdges (graphIn g s) m n → v ≡ true → t ≡ true → t ≡ alikeOf ids prints leads m n → isSolvable (nodeIn g n) ≡ true → r ≡ fitsOf (graphIn g s) ids leads m n
+      unfolding fitsOf sameEdges sameIn sameKeys keysIn mergesBy titleIn
+      fits-edges r t q w z a i =
+          let cheap = alike-all ids prints leads m n (sym a ∙ z) in
+          rw (q, cheap .lead, sym (kind-is m m-node) ∙ sym k ∙ w, sym (kind-is n (R .node)) ∙ i, cheap .id, eq-eqb (getD ids n 0) (getD ids n 0) refl, eqList)
 
   -- ---- the search
 
@@ -358,11 +285,11 @@ leads-at title G (suc k) l h j i =
     split (eqb j k) (λ t. rw (eqb-true j k t) (getD-set-same (leadsTo title G k l) k (leadBy title G k) 0 (rw leads-long (omega arith))))
     (λ t. getD-set-other (leadsTo title G k l) k j (leadBy title G k) 0 (eqb-false j k t) ∙ leads-at title G k l (omega arith) j (omega (arith, eqb-false j k t)))
 
-pub ready-at : (g : List ℕ) (s : Size) (ls ids sigs leads l : List ℕ) (n : ℕ) → leads ≡ leadsTo (titleIn ids) (graphIn g s) n l → Chains g s ls → Signed (graphIn g s) sigs (s .nodes) → length l ≡ 128 → n < s .nodes → Ready g s ls ids sigs leads n
-ready-at g s ls ids sigs leads l n q c S k h =
+pub ready-at : (g : List ℕ) (s : Size) (ls ids prints leads l : List ℕ) (n : ℕ) → leads ≡ leadsTo (titleIn ids) (graphIn g s) n l → Chains g s ls → Printed (graphIn g s) prints → length l ≡ 128 → n < s .nodes → Ready g s ls ids prints leads n
+ready-at g s ls ids prints leads l n q c S k h =
     record {
       chains = c;
-      signed = S;
+      printed = S;
       led = record { lead = λ j i. rw q (leads-at (titleIn ids) (graphIn g s) n l (omega (arith, c .stored .nodes-most)) j i) };
       node = h;
       small = omega (arith, c .stored .nodes-most);

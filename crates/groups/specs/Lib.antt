@@ -4,5 +4,7 @@ pub mod Samples
 pub mod Counts
 pub mod Multi
 pub mod Keys
+pub mod Prints
+pub mod Laws
 pub mod Leads
 pub mod Texts

@@ -7,7 +7,7 @@ ghost use lib.Dec.{eqb};
 ghost use Rattle.store.specs.Table.{graphIn};
 ghost use Rattle.links.specs.Build.{Chains};
 ghost use Rattle.groups.specs.Multi.{bump, count};
-ghost use Rattle.groups.specs.Keys.{keysIn, firstKey, nextKey, keyAt, Way, Skipped, evenLeft, sameIn};
+ghost use Rattle.groups.specs.Keys.{keysIn, firstKey, nextKey, keyAt, Way, Skipped, evenLeft, sameIn, sameEdges};
 use store::Size;
 
 // Where two chains go on past equal beginnings.
@@ -40,8 +40,8 @@ fn next(ls: &[u16; 3456], d: bool, e: usize) -> usize
     links::next_in(ls, e)
 }
 
-fn key_at(g: &[u64; 1152], d: bool, e: usize) -> u64
-    ensures { λ r. ⌜ r ≡ keyAt (now (g .entry)) d e ⌝ }
+pub fn key_at(g: &[u64; 1152], d: bool, e: usize) -> u64
+    ensures { λ r. ⌜ (r ≡ keyAt (now (g .entry)) d e) × (r < 33554432) ⌝ }
 {
     let q = store::requires_at(g, e);
     if d {
@@ -79,7 +79,7 @@ fn count_of(g: &[u64; 1152], s: Size, ls: &[u16; 3456], d: bool, n: usize, k: u6
 }
 
 // How many keys n has.
-pub fn degree(g: &[u64; 1152], s: Size, ls: &[u16; 3456], d: bool, n: usize) -> usize
+fn degree(g: &[u64; 1152], s: Size, ls: &[u16; 3456], d: bool, n: usize) -> usize
     requires { ⌜ Chains (now g) s (now ls) ⌝ }
     requires { ⌜ n < s .nodes ⌝ }
     ensures { λ r. ⌜ (r ≡ length (keysIn (graphIn (now (g .entry)) s) d n)) × (r ≤ 1024) ⌝ }
@@ -147,13 +147,35 @@ fn even_from(
     true
 }
 
-// m's and n's keys, which are equally many, are equal as sorted lists.
-pub fn same_keys(g: &[u64; 1152], s: Size, ls: &[u16; 3456], d: bool, m: usize, n: usize) -> bool
+// m's and n's keys are equal as sorted lists.
+fn same_keys(g: &[u64; 1152], s: Size, ls: &[u16; 3456], d: bool, m: usize, n: usize) -> bool
     requires { ⌜ Chains (now g) s (now ls) ⌝ }
     requires { ⌜ (m < s .nodes) × (n < s .nodes) ⌝ }
-    requires { ⌜ length (keysIn (graphIn (now g) s) d m) ≡ length (keysIn (graphIn (now g) s) d n) ⌝ }
     ensures { λ r. ⌜ r ≡ sameIn (graphIn (now (g .entry)) s) d m n ⌝ }
 {
     let p = skip(g, s, ls, d, m, n);
-    even_from(g, s, ls, d, m, n, p.left)
+    let a = p.left;
+    let b = p.right;
+    if a == 0 {
+        return b == 0;
+    }
+    let x = degree(g, s, ls, d, m);
+    let y = degree(g, s, ls, d, n);
+    if x != y {
+        return false;
+    }
+    even_from(g, s, ls, d, m, n, a)
+}
+
+// The full comparison: m's and n's incoming and outgoing edges are equal as sorted lists.
+pub fn same_edges(g: &[u64; 1152], s: Size, ls: &[u16; 3456], m: usize, n: usize) -> bool
+    requires { ⌜ Chains (now g) s (now ls) ⌝ }
+    requires { ⌜ (m < s .nodes) × (n < s .nodes) ⌝ }
+    ensures { λ r. ⌜ r ≡ sameEdges (graphIn (now (g .entry)) s) m n ⌝ }
+{
+    let u = same_keys(g, s, ls, false, m, n);
+    if u {
+        return same_keys(g, s, ls, true, m, n);
+    }
+    false
 }

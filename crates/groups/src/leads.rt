@@ -1,13 +1,15 @@
 // Each node's first member. A node is compared with the earlier nodes that are first members themselves, and its edges only
-// where the name and the numbers of edges are equal.
+// where the fingerprints and the names are equal.
 ghost use mathlib.Core.Path.{_≡_};
+ghost use mathlib.Core.Bool.{true};
 ghost use Prim.Native.Nat.{_<_, _≤_};
-ghost use lib.ListN.{length, getD};
+ghost use lib.ListN.{length};
 ghost use Rattle.store.specs.Graph.{isSolvable};
 ghost use Rattle.store.specs.Table.{graphIn, nodeIn};
 ghost use Rattle.links.specs.Build.{Chains};
 ghost use Rattle.groups.specs.Groups.{leadBy};
-ghost use Rattle.groups.specs.Leads.{titleIn, leadsTo, sigOf, Signed, Ready, alikeOf, fitsOf};
+ghost use Rattle.groups.specs.Prints.{Printed};
+ghost use Rattle.groups.specs.Leads.{titleIn, leadsTo, Ready, alikeOf, fitsOf};
 use store::ConflictNode;
 use store::Size;
 
@@ -23,40 +25,12 @@ fn solvable_at(g: &[u64; 1152], n: usize) -> bool
     }
 }
 
-// What is compared first: 0 for no solvable, else 1 and the numbers of edges, each at most 1,024.
-fn sig_of(g: &[u64; 1152], s: Size, ls: &[u16; 3456], n: usize) -> u32
-    requires { ⌜ Chains (now g) s (now ls) ⌝ }
-    requires { ⌜ n < s .nodes ⌝ }
-    ensures { λ r. ⌜ r ≡ sigOf (graphIn (now (g .entry)) s) n ⌝ }
-{
-    let t = solvable_at(g, n);
-    if t {
-        let o = crate::keys::degree(g, s, ls, true, n);
-        let i = crate::keys::degree(g, s, ls, false, n);
-        return (1 + o + 2048 * i) as u32;
-    }
-    0
-}
-
-pub fn sign_all(g: &[u64; 1152], s: Size, ls: &[u16; 3456], sigs: &mut [u32; 128])
-    requires { ⌜ Chains (now g) s (now ls) ⌝ }
-    requires { ⌜ length (now sigs) ≡ 128 ⌝ }
-    ensures { λ _. ⌜ Signed (graphIn (now (g .entry)) s) (now (sigs .exit)) (s .nodes) ⌝ }
-{
-    let mut i: usize = 0;
-    while i < s.nodes {
-        let v = sig_of(g, s, ls, i);
-        sigs[i] = v;
-        i += 1;
-    }
-}
-
-// What costs little: as many edges, the same name, and m a first member.
-fn alike(ids: &[u16; 128], sigs: &[u32; 128], leads: &[u16; 128], m: usize, n: usize) -> bool
+// What costs little: the same fingerprint, the same name, and m a first member.
+fn alike(ids: &[u16; 128], prints: &[u32; 128], leads: &[u16; 128], m: usize, n: usize) -> bool
     requires { ⌜ (m < n) × (n < 128) ⌝ }
-    ensures { λ r. ⌜ r ≡ alikeOf (now (ids .entry)) (now (sigs .entry)) (now (leads .entry)) m n ⌝ }
+    ensures { λ r. ⌜ r ≡ alikeOf (now (ids .entry)) (now (prints .entry)) (now (leads .entry)) m n ⌝ }
 {
-    if sigs[m] != sigs[n] {
+    if prints[m] != prints[n] {
         return false;
     }
     if ids[m] != ids[n] {
@@ -72,51 +46,72 @@ fn fits(
     s: Size,
     ls: &[u16; 3456],
     ids: &[u16; 128],
-    sigs: &[u32; 128],
+    prints: &[u32; 128],
     leads: &[u16; 128],
     m: usize,
     n: usize,
 ) -> bool
-    requires { ⌜ Ready (now g) s (now ls) (now ids) (now sigs) (now leads) n ⌝ }
+    requires { ⌜ Ready (now g) s (now ls) (now ids) (now prints) (now leads) n ⌝ }
     requires { ⌜ m < n ⌝ }
-    requires { ⌜ (getD (now sigs) n 0 ≡ 0 → ⊥) ⌝ }
+    requires { ⌜ isSolvable (nodeIn (now g) n) ≡ true ⌝ }
     ensures { λ r. ⌜ r ≡ fitsOf (graphIn (now (g .entry)) s) (now (ids .entry)) (now (leads .entry)) m n ⌝ }
 {
-    let t = alike(ids, sigs, leads, m, n);
+    let t = alike(ids, prints, leads, m, n);
     if t {
-        let u = crate::keys::same_keys(g, s, ls, false, m, n);
-        if u {
-            return crate::keys::same_keys(g, s, ls, true, m, n);
+        let v = solvable_at(g, m);
+        if v {
+            return crate::keys::same_edges(g, s, ls, m, n);
         }
         return false;
     }
     false
 }
 
-// Node n's first member.
+// The first member of node n, a solvable, among the nodes before it.
+fn first_fit(
+    g: &[u64; 1152],
+    s: Size,
+    ls: &[u16; 3456],
+    ids: &[u16; 128],
+    prints: &[u32; 128],
+    leads: &[u16; 128],
+    n: usize,
+) -> usize
+    requires { ⌜ Ready (now g) s (now ls) (now ids) (now prints) (now leads) n ⌝ }
+    requires { ⌜ isSolvable (nodeIn (now g) n) ≡ true ⌝ }
+    ensures { λ r. ⌜ (r ≡ leadBy (titleIn (now (ids .entry))) (graphIn (now (g .entry)) s) n) × (r ≤ n) ⌝ }
+{
+    let mut m: usize = 0;
+    while m < n {
+        let t = fits(g, s, ls, ids, prints, leads, m, n);
+        if t {
+            return m;
+        }
+        m += 1;
+    }
+    n
+}
+
+// Node n's first member: itself where no earlier node has its fingerprint.
 fn lead_of(
     g: &[u64; 1152],
     s: Size,
     ls: &[u16; 3456],
     ids: &[u16; 128],
-    sigs: &[u32; 128],
+    prints: &[u32; 128],
     leads: &[u16; 128],
     n: usize,
 ) -> usize
-    requires { ⌜ Ready (now g) s (now ls) (now ids) (now sigs) (now leads) n ⌝ }
+    requires { ⌜ Ready (now g) s (now ls) (now ids) (now prints) (now leads) n ⌝ }
     ensures { λ r. ⌜ (r ≡ leadBy (titleIn (now (ids .entry))) (graphIn (now (g .entry)) s) n) × (r ≤ n) ⌝ }
 {
-    let y = sigs[n];
-    if y == 0 {
+    let c = crate::prints::twins(prints, n);
+    if c == 0 {
         return n;
     }
-    let mut m: usize = 0;
-    while m < n {
-        let t = fits(g, s, ls, ids, sigs, leads, m, n);
-        if t {
-            return m;
-        }
-        m += 1;
+    let t = solvable_at(g, n);
+    if t {
+        return first_fit(g, s, ls, ids, prints, leads, n);
     }
     n
 }
@@ -126,17 +121,17 @@ pub fn lead_all(
     s: Size,
     ls: &[u16; 3456],
     ids: &[u16; 128],
-    sigs: &[u32; 128],
+    prints: &[u32; 128],
     leads: &mut [u16; 128],
 )
     requires { ⌜ Chains (now g) s (now ls) ⌝ }
-    requires { ⌜ Signed (graphIn (now g) s) (now sigs) (s .nodes) ⌝ }
+    requires { ⌜ Printed (graphIn (now g) s) (now prints) ⌝ }
     requires { ⌜ length (now leads) ≡ 128 ⌝ }
     ensures { λ _. ⌜ now (leads .exit) ≡ leadsTo (titleIn (now (ids .entry))) (graphIn (now (g .entry)) s) (s .nodes) (now (leads .entry)) ⌝ }
 {
     let mut n: usize = 0;
     while n < s.nodes {
-        let r = lead_of(g, s, ls, ids, sigs, leads, n);
+        let r = lead_of(g, s, ls, ids, prints, leads, n);
         leads[n] = r as u16;
         n += 1;
     }

@@ -2,9 +2,10 @@
 mod keys;
 mod leads;
 pub mod names;
+mod prints;
 
 ghost use mathlib.Core.Path.{_≡_};
-ghost use lib.ListN.{length};
+ghost use lib.ListN.{length, replicate};
 ghost use Rattle.store.specs.Table.{graphIn};
 ghost use Rattle.links.specs.Build.{Chains};
 ghost use Rattle.groups.specs.Leads.{titleIn, leadsTo};
@@ -16,14 +17,15 @@ fn group_in(
     ls: &[u16; 3456],
     ids: &[u16; 128],
     leads: &mut [u16; 128],
-    sigs: &mut [u32; 128],
+    prints: &mut [u32; 128],
 )
     requires { ⌜ Chains (now g) s (now ls) ⌝ }
-    requires { ⌜ (length (now leads) ≡ 128) × (length (now sigs) ≡ 128) ⌝ }
+    requires { ⌜ length (now leads) ≡ 128 ⌝ }
+    requires { ⌜ now prints ≡ replicate 128 0 ⌝ }
     ensures { λ _. ⌜ now (leads .exit) ≡ leadsTo (titleIn (now (ids .entry))) (graphIn (now (g .entry)) s) (s .nodes) (now (leads .entry)) ⌝ }
 {
-    leads::sign_all(g, s, ls, sigs);
-    leads::lead_all(g, s, ls, ids, sigs, leads);
+    prints::print_all(g, s, prints);
+    leads::lead_all(g, s, ls, ids, prints, leads);
 }
 
 // Each node's first member, its own number where it is unmerged. `ids` gives each solvable node a number that is equal where
@@ -33,6 +35,6 @@ pub fn group(g: &[u64; 1152], s: Size, ls: &[u16; 3456], ids: &[u16; 128], leads
     requires { ⌜ length (now leads) ≡ 128 ⌝ }
     ensures { λ _. ⌜ now (leads .exit) ≡ leadsTo (titleIn (now (ids .entry))) (graphIn (now (g .entry)) s) (s .nodes) (now (leads .entry)) ⌝ }
 {
-    let mut sigs = [0u32; 128];
-    group_in(g, s, ls, ids, leads, &mut sigs);
+    let mut prints = [0u32; 128];
+    group_in(g, s, ls, ids, leads, &mut prints);
 }

@@ -1,6 +1,8 @@
 //! Port and conflict.rs side by side in one run: same inputs, both built for release, rooms cleared the same way.
 //! Times are the least of several rounds, taken in turns; ratios above 1 mean that the port is faster.
 
+mod merging;
+
 use oracle::generate;
 use std::hint::black_box;
 use std::process::ExitCode;
@@ -16,6 +18,7 @@ fn main() -> ExitCode {
     graphs();
     edge_lists();
     texts();
+    merging::table();
     growth();
     ExitCode::SUCCESS
 }
@@ -93,10 +96,6 @@ fn graphs() {
         let mut ours = [urzulempa::Node::default(); 128];
         let labelled = both(|| keep(black_box(oracle::nodes(black_box(file), &mut theirs))), || keep(black_box(urzulempa::nodes(black_box(file), &mut ours))));
         row(&format!("file to labelled graph, {name}"), file.len(), labelled);
-        if *name == "largest load" {
-            let graph = both(|| keep(black_box(oracle::check(black_box(file)))), || keep(black_box(urzulempa::check(black_box(file)))));
-            row(&format!("the groups and labels of it alone, {name}"), file.len(), (labelled.0 - graph.0, labelled.1 - graph.1));
-        }
     }
 }
 

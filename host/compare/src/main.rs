@@ -41,10 +41,10 @@ fn main() -> ExitCode {
 
 const CHECK: Trial = Trial { call: Call::Check, option: 0, room: 0, fill: 0 };
 
-/// Files made by hand: the samples, and a group whose members differ in their labels.
+/// Files made by hand: the samples, a group whose members differ in their labels, packages whose fingerprints collide.
 fn hand_made() -> Vec<(String, Vec<u8>)> {
-    let cycle = ("unequal labels".to_string(), oracle::samples::unequal_labels());
-    oracle::samples::all().into_iter().map(|(name, file)| (name.to_string(), file)).chain([cycle]).collect()
+    let others = [("unequal labels", oracle::samples::unequal_labels()), ("equal fingerprints", oracle::samples::equal_fingerprints())];
+    oracle::samples::all().into_iter().chain(others).map(|(name, file)| (name.to_string(), file)).collect()
 }
 
 /// True if a difference was found.

@@ -56,6 +56,10 @@ impl Model<'_, '_> {
         absent()
     }
 
+    pub fn ends(&self) -> Vec<(usize, usize, Option<u16>)> {
+        absent()
+    }
+
     pub fn depth_bound(&self) -> u64 {
         absent()
     }

@@ -73,6 +73,11 @@ impl Model<'_, '_> {
         self.view.edge_count()
     }
 
+    /// Each edge's source and target, and its requirement, none for a conflict.
+    pub fn ends(&self) -> Vec<(usize, usize, Option<u16>)> {
+        self.view.ends()
+    }
+
     /// "the bound of demand 3": g + (g + 1) × u, for g groups and u unmerged solvables.
     pub fn depth_bound(&self) -> u64 {
         let nodes = self.nodes();

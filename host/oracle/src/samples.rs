@@ -118,6 +118,32 @@ pub fn unequal_labels() -> Vec<u8> {
     d.file()
 }
 
+/// Requirements by which two packages, each with one edge for each of them to the same package, get the same fingerprint: the
+/// first two only because the sum wraps, the others as whole numbers. host/oracle/tests/fingerprints.rs searches for them.
+pub const COLLIDING: [[&[u16]; 2]; 2] = [[&[0, 192], &[64, 128]], [&[0, 4, 5], &[1, 2, 6]]];
+
+/// Two decks and two panels. Each of a pair requires x as often as the other, by other requirements, and the fingerprints of
+/// their edges are equal.
+pub fn equal_fingerprints() -> Vec<u8> {
+    let mut d = Draft::new();
+    let x = d.package("x", "1");
+    for number in 0..=192 {
+        d.requirement(&format!("x {number}"), &[x]);
+    }
+    for (text, pair) in ["deck", "panel"].into_iter().zip(COLLIDING) {
+        let name = d.name(text);
+        let members = [d.solvable(name, "1"), d.solvable(name, "2")];
+        d.root_needs(&format!("{text} *"), &members);
+        for (member, requirements) in members.into_iter().zip(pair) {
+            let variable = d.of(member);
+            for &requirement in requirements {
+                d.requires(variable, requirement);
+            }
+        }
+    }
+    d.file()
+}
+
 /// The sample files by name.
 pub fn all() -> Vec<(&'static str, Vec<u8>)> {
     vec![

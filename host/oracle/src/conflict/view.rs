@@ -136,6 +136,21 @@ impl<'p, 'a> View<'p, 'a> {
         self.unsat.graph.graph.edge_count()
     }
 
+    /// Each edge's source and target, and its requirement, none for a conflict.
+    pub fn ends(&self) -> Vec<(usize, usize, Option<u16>)> {
+        let edges = self.unsat.graph.graph.edge_references();
+        let requirement = |edge: ConflictEdge<_>| edge.try_requires().map(|r| r.0);
+        edges
+            .map(|e| {
+                (
+                    e.source().index(),
+                    e.target().index(),
+                    requirement(*e.weight()),
+                )
+            })
+            .collect()
+    }
+
     fn node(&self, node: NodeIndex) -> Node {
         let unsat = &self.unsat;
         let (kind, number) = match unsat.graph.graph[node] {

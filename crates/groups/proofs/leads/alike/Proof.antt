@@ -1,5 +1,5 @@
 use borrow.Author.Needs.{needs}
-use Rattle.groups.specs.Leads.{alike-sig, alike-id, alike-lead}
+use Rattle.groups.specs.Leads.{alike-print, alike-id, alike-lead}
 use Rattle.groups.proofs.leads.alike.Statement.{statement}
 use Rattle.groups.proofs.leads.alike.Tie as tie
 
@@ -11,7 +11,7 @@ alike-spec =
     (λ c. search needs)
     (λ c. search needs)
     (λ c. search needs)
-    (λ c. search alike-sig)
+    (λ c. search alike-print)
     (λ c. search needs)
     (λ c. search needs)
     (λ c. search needs)

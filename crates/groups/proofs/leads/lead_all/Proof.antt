@@ -7,10 +7,10 @@ use Rattle.groups.proofs.leads.lead_all.Statement.{statement}
 use Rattle.groups.proofs.leads.lead_all.Tie as tie
 
 abbrev Inv-loop : tie.InvT-loop
-Inv-loop g s ls ids sigs leads₀ n₀ leads n = (n ≤ s .nodes) × (leads ≡ leadsTo (titleIn ids) (graphIn g s) n leads₀)
+Inv-loop g s ls ids prints leads₀ n₀ leads n = (n ≤ s .nodes) × (leads ≡ leadsTo (titleIn ids) (graphIn g s) n leads₀)
 
 abbrev μ-loop : tie.MeasureT-loop
-μ-loop g s ls ids sigs leads₀ n₀ leads n = s .nodes - n
+μ-loop g s ls ids prints leads₀ n₀ leads n = s .nodes - n
 
 pub lead-all-spec : {M : Type 1} → statement M
 lead-all-spec =
