@@ -108,6 +108,18 @@ const REPLACEMENTS: &[Replacement] = &[
         to: "crate::limits::all_reached(&graph, &visited_nodes);
         assert_eq!(graph.node_count(), visited_nodes.len());",
     },
+    // Document 02, order 11: "In edition 2 every package, merged or not, is reported when first shown and skipped afterwards."
+    // The members of a merged one are put among the reported where its text is made; an unmerged one is put there at the same
+    // step, before it is known which line shows it. In edition 1 nothing is put there.
+    Replacement {
+        name: "unmerged packages among the reported, in edition 2",
+        matches: 1,
+        from: "} else if let Some(solvable_id) = solvable_id.solvable() {",
+        to: "} else if let Some(solvable_id) = solvable_id.solvable() {
+                        if self.interner.watch().reports_unmerged() {
+                            reported.insert(SolvableIdOrRoot::from(solvable_id));
+                        }",
+    },
     // The branch of openings is kept beside the stack: see `watch`.
     Replacement {
         name: "popping an entry",

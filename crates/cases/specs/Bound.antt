@@ -18,7 +18,7 @@ use Rattle.machine.specs.Units.{Result}
 use Rattle.machine.specs.Bound.{most}
 use Rattle.machine.specs.Count.{groups, unmerged}
 use Rattle.plan.specs.Plan.{shownOf, planOf}
-use Rattle.explanation.specs.Explain.{refusal, explainFile, explainTables}
+use Rattle.explanation.specs.Explain.{refusal, explainFile, explainEdition, explainTables}
 use Rattle.explanation.specs.Contract.{Drawn, theBound, file-depth}
 use Rattle.urzulempa.specs.declared.Answer.{Answer}
 use Rattle.urzulempa.specs.Says.{Says, resultBy}
@@ -37,12 +37,12 @@ unfolding cut shapeOf readFrom readOf graphOf shownOf solvables
 boundOf file = boundRead (readOf file)
 
 -- it is the contract's
-pub the-bound : (file : List ℕ) (opt : ℕ) (T : Tables) (G : Graph) (x : Drawn file opt T G) → theBound file opt T G x ≡ boundOf file
+pub the-bound : (file : List ℕ) (opt : ℕ) (T : Tables) (G : Graph) (x : Drawn 1 file opt T G) → theBound 1 file opt T G x ≡ boundOf file
 unfolding boundOf
 the-bound file opt T G x = rw (x .tables, x .graph) refl
 
 -- no answer that the contract allows is deeper
-module _ (file : List ℕ) (opt : ℕ) (out left : List ℕ) (r : Answer) (S : Says file opt out left r) where
+module _ (file : List ℕ) (opt : ℕ) (out left : List ℕ) (r : Answer) (S : Says 1 file opt out left r) where
   shallow : (k p : ℕ) → explainFile (S .is .turns) file opt (length out) ≡ some (refusal k p) → r .depth ≤ boundOf file
   shallow k p e =
       let z : r .depth ≡ 0 = same (sym (S .is .so) ∙ e) in
@@ -52,14 +52,14 @@ module _ (file : List ℕ) (opt : ℕ) (out left : List ℕ) (r : Answer) (S : S
       same q = cc
 
   pub says-deep : r .depth ≤ boundOf file
-  says-deep = split (leb opt 1) (λ o. reading o (readOf file) refl) (λ o. shallow 12 0 (rw (o, explainFile)))
+  says-deep = split (leb opt 1) (λ o. reading o (readOf file) refl) (λ o. shallow 12 0 (rw (o, explainEdition)))
     where
       outcome : (T : Tables) → leb opt 1 ≡ true → readOf file ≡ good T → (o : Outcome) → graphOf T ≡ o → r .depth ≤ boundOf file
-      outcome T o t (refused k p) g = shallow k p (rw (o, explainFile, t, g, explainTables))
+      outcome T o t (refused k p) g = shallow k p (rw (o, explainEdition, t, g, explainTables))
       outcome T o t (drawn G) g =
-          let d : Drawn file opt T G = record { option = leb-true opt 1 o; tables = t; graph = g } in
-          rw (← the-bound file opt T G d) (file-depth file opt T G d (length out) (resultBy r (S .text)) (S .is))
+          let d : Drawn 1 file opt T G = record { edition = refl; option = leb-true opt 1 o; tables = t; graph = g } in
+          rw (← the-bound file opt T G d) (file-depth 1 file opt T G d (length out) (resultBy r (S .text)) (S .is))
 
       reading : leb opt 1 ≡ true → (y : Reading) → readOf file ≡ y → r .depth ≤ boundOf file
-      reading o (bad k p) t = shallow k p (rw (o, explainFile, t))
+      reading o (bad k p) t = shallow k p (rw (o, explainEdition, t))
       reading o (good T) t = outcome T o t (graphOf T) refl

@@ -125,3 +125,10 @@ desk =
     ++ requirement 0 "desk *" ++ requirement 1 "codec 9" ++ requirement 2 "panel 5" ++ requirement 3 "driver 12" ++ requirement 4 "frame 3"
     ++ candidate 0 0 ++ candidate 1 1 ++ candidate 2 2 ++ rootVariable 0 ++ variableOf 1 0 ++ variableOf 2 1 ++ variableOf 3 2
     ++ requires 0 0 ++ requires 1 1 ++ requires 1 2 ++ requires 2 3 ++ requires 3 4
+
+-- one package below two others: the root needs a and b, and each of the two needs d, which has no edges of its own
+abbrev pub shared : List ℕ
+shared =
+    name 0 "a" ++ name 1 "b" ++ name 2 "d" ++ solvable 0 0 "1" ++ solvable 1 1 "1" ++ solvable 2 2 "1"
+    ++ requirement 0 "a *" ++ requirement 1 "b *" ++ requirement 2 "d *" ++ candidate 0 0 ++ candidate 1 1 ++ candidate 2 2
+    ++ rootVariable 0 ++ variableOf 1 0 ++ variableOf 2 1 ++ variableOf 3 2 ++ requires 0 0 ++ requires 0 1 ++ requires 1 2 ++ requires 2 2

@@ -6,4 +6,5 @@ pub mod Bound
 pub mod Room
 pub mod Right
 pub mod Wrong
+pub mod Editions
 pub mod Drawing

@@ -37,10 +37,10 @@ checkAs (denied k p) = refusalOf k p
 
 pub record Right (c : Case) : Type 0 where
   -- `urzulempa_explain`: all that its contract allows in a room of the row is the row's answer, and the row's text before the room's old bytes
-  pub says : (out left : List ℕ) (r : Answer) → Fits (c .rooms) (length out) → Says (c .file) (c .option) out left r
+  pub says : (out left : List ℕ) (r : Answer) → Fits (c .rooms) (length out) → Says 1 (c .file) (c .option) out left r
       → (r ≡ c .answer) × (left ≡ over (c .text) out)
   -- and that is allowed
-  pub said : (out : List ℕ) → Fits (c .rooms) (length out) → Says (c .file) (c .option) out (over (c .text) out) (c .answer)
+  pub said : (out : List ℕ) → Fits (c .rooms) (length out) → Says 1 (c .file) (c .option) out (over (c .text) out) (c .answer)
   -- `urzulempa_check`
   pub checks : checkOf (c .file) ≡ checkAs (c .nodes)
   -- `urzulempa_nodes`, for every list that is lent: the row's entries, 10 where they do not fit, or the row's refusal
@@ -139,13 +139,13 @@ row-twoRuns = record { tells = refl; longer = refl; listed = refl; bounded = ref
 
 -- ---- from what is computed to what is said
 
-uncut-not : (k : ℕ) → not (eqb k 10) ≡ true → k ≡ 10 → ⊥
+pub uncut-not : (k : ℕ) → not (eqb k 10) ≡ true → k ≡ 10 → ⊥
 uncut-not k h q = false≢true (rw (eq-eqb k 10 q) at h)
 
 fits-room : (file : List ℕ) (opt : ℕ) (r : Result) (R : Rooms) → told file opt (shortest R) ≡ some r → uncut R (r .number) ≡ true
     → (room : ℕ) → Fits R room → explainFile 100000 file opt room ≡ some r
 unfolding told
-fits-room file opt r (atLeast n) e u room h = more-room n room h r (uncut-not (r .number) u) 100000 opt file e
+fits-room file opt r (atLeast n) e u room h = more-room n room h r (uncut-not (r .number) u) 1 100000 opt file e
 fits-room file opt r (exactly n) e u room h = rw h e
 
 check-nodes : (file : List ℕ) → checkOf file ≡ checkAs (nodesOf file)
@@ -161,7 +161,7 @@ check-nodes file = reading (readOf file)
     reading (good T) = outcome T (graphOf T)
 
 module _ (c : Case) (x : Computed c) where
-  row-said : (out : List ℕ) → Fits (c .rooms) (length out) → Says (c .file) (c .option) out (over (c .text) out) (c .answer)
+  row-said : (out : List ℕ) → Fits (c .rooms) (length out) → Says 1 (c .file) (c .option) out (over (c .text) out) (c .answer)
   row-said out h =
       let e = fits-room (c .file) (c .option) (resultBy (c .answer) (c .text)) (c .rooms) (x .tells) (x .longer) (length out) h in
       record { text = c .text; is = record { turns = 100000; so = e }; room = refl }
@@ -170,7 +170,7 @@ module _ (c : Case) (x : Computed c) where
   unfolding nodesAnswer nodesLeft
   row-right =
       record {
-        says = λ out left r h S. says-one (c .file) (c .option) out left (over (c .text) out) r (c .answer) S (row-said out h);
+        says = λ out left r h S. says-one 1 (c .file) (c .option) out left (over (c .text) out) r (c .answer) S (row-said out h);
         said = row-said;
         checks = check-nodes (c .file) ∙ ap checkAs (x .listed);
         lists = λ l. (ap (λ (y : Nodes). nodesBy y (length l)) (x .listed), ap (λ (y : Nodes). listOver (listedBy y (length l)) l) (x .listed));

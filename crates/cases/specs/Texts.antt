@@ -69,3 +69,16 @@ deskLines =
     ∷ "      └─ panel 5 would require"
     ∷ "         └─ frame 3, for which no candidates were found."
     ∷ []
+
+-- one package below two others
+abbrev pub sharedLines : List String
+sharedLines =
+    "a * can be installed with any of the following options:"
+    ∷ "└─ a 1 would require"
+    ∷ "   └─ d *, which can be installed with any of the following options:"
+    ∷ "      └─ d 1"
+    ∷ "b * can be installed with any of the following options:"
+    ∷ "└─ b 1 would require"
+    ∷ "   └─ d *, which can be installed with any of the following options:"
+    ∷ "      └─ d 1"
+    ∷ []

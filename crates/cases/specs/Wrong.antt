@@ -21,20 +21,20 @@ Program = List ℕ → ℕ → List ℕ → Answer × List ℕ
 
 -- the contract holds of it on every input
 abbrev pub Meets : Program → Type 0
-Meets f = (file : List ℕ) (opt : ℕ) (out : List ℕ) → Says file opt out (f file opt out .1) (f file opt out .0)
+Meets f = (file : List ℕ) (opt : ℕ) (out : List ℕ) → Says 1 file opt out (f file opt out .1) (f file opt out .0)
 
 -- there is a program that meets it
 abbrev pub theProgram : Program
-theProgram file opt out = let r = file-answers file opt (length out) .0 in (resultAnswer r, over (r .text) out)
+theProgram file opt out = let r = file-answers 1 file opt (length out) .0 in (resultAnswer r, over (r .text) out)
 
 pub the-program : Meets theProgram
-the-program file opt out = let r = file-answers file opt (length out) in record { text = r .0 .text; is = r .1; room = refl }
+the-program file opt out = let r = file-answers 1 file opt (length out) in record { text = r .0 .text; is = r .1; room = refl }
 
 -- and every other does the same
 pub same-program : (f : Program) → Meets f → (file : List ℕ) (opt : ℕ) (out : List ℕ)
     → (f file opt out .0 ≡ theProgram file opt out .0) × (f file opt out .1 ≡ theProgram file opt out .1)
 same-program f m file opt out =
-    says-one file opt out (f file opt out .1) (theProgram file opt out .1) (f file opt out .0) (theProgram file opt out .0) (m file opt out) (the-program file opt out)
+    says-one 1 file opt out (f file opt out .1) (theProgram file opt out .1) (f file opt out .0) (theProgram file opt out .0) (m file opt out) (the-program file opt out)
 
 -- ---- rows
 

@@ -5,4 +5,6 @@ pub mod Turned
 pub mod Deep
 pub mod Walk
 pub mod Explain
+pub mod Openings
 pub mod Contract
+pub mod Laws

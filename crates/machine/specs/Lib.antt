@@ -15,3 +15,5 @@ pub mod Turns
 pub mod Frames
 pub mod Writes
 pub mod Tried
+pub mod Edition
+pub mod Laws

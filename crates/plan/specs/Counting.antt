@@ -1,4 +1,4 @@
--- "With at most 126 solvable nodes the bound of demand 3 is at most 2,079", for the plan of a graph and for its tables.
+-- What demand 3 asks of a graph's groups: they are named after members and have two or more, and the kids of any run are solvable nodes.
 use mathlib.Core.Path.{_≡_, refl, sym, ap, _∙_}
 use mathlib.Core.Logic.{inl, inr}
 use mathlib.Core.Bool.{Bool, true, false, cond, _&&_, not, false≢true}
@@ -17,12 +17,9 @@ use Rattle.store.specs.Graph.{Graph, nodeAt, isSolvable}
 use Rattle.groups.specs.Counts.{solvables}
 use Rattle.labels.specs.Runs.{Run}
 use Rattle.machine.specs.Machine.{Plan}
-use Rattle.machine.specs.Bound.{Counted, most}
-use Rattle.machine.specs.Count.{Grouped, groups, unmerged, counts, most-of, leading, following}
-use Rattle.plan.specs.Plan.{Shown, shownOf, isMerged, leadOf, offered, dedup, kidsOf, noCandidates, runInstallable, isInstallable, planOf, groupOf}
+use Rattle.machine.specs.Count.{Grouped, leading, following}
+use Rattle.plan.specs.Plan.{Shown, shownOf, isMerged, leadOf, offered, dedup, kidsOf, noCandidates, runInstallable, isInstallable, groupOf}
 use Rattle.plan.specs.Mates.{upto-in, in-upto, upto-distinct, filter-distinct, named-lead, another-mate}
-use Rattle.plan.specs.Fields.{planIn, kidsIn}
-use Rattle.plan.specs.Planned.{Planned}
 
 -- past the nodes stands the root
 pub node-solvable : (xs : List ConflictNode) (n : ℕ) → isSolvable (getD xs n N.Root) ≡ true → n < length xs
@@ -86,32 +83,3 @@ module _ (T : Tables) (G : Graph) where
 
     pub kid-solvable : (q : Run) (n : ℕ) → In n (kidsOf S q) → (n < length (S .graph .nodes)) × (isSolvable (nodeAt (S .graph) n) ≡ true)
     kid-solvable q n i = let s = kid-offered q n i in (node-solvable (S .graph .nodes) n s, s)
-
-  -- ---- B1's premises
-
-  abbrev pub shownPlan : Plan Run
-  shownPlan = planOf (shownOf T G)
-
-  show-grouped : Grouped shownPlan (solvables G)
-  show-grouped = grouped shownPlan (λ n h. refl) (λ n h. refl)
-
-  pub show-counted : (r : Run) (n : ℕ) → In n (shownPlan .kids r) → Counted shownPlan (groups shownPlan (solvables G)) (unmerged shownPlan (solvables G)) n
-  unfolding shownOf
-  show-counted r n i =
-      let k = kid-solvable (shownOf T G) r n i in counts shownPlan (solvables G) show-grouped n (solvable-in n (k .0) (k .1))
-
-  pub show-most : length (solvables G) ≤ 126 → most shownPlan (groups shownPlan (solvables G)) (unmerged shownPlan (solvables G)) ≤ 2079
-  show-most h = most-of shownPlan (solvables G) show-grouped h
-
-  -- the same for the packed tables
-  module _ (p k : List ℕ) (z : Planned (shownOf T G) p k) where
-    plan-grouped : Grouped (planIn p k) (solvables G)
-    unfolding planIn shownOf
-    plan-grouped = grouped (planIn p k) (λ n h. z .nodes n h .merged) (λ n h. z .nodes n h .lead)
-
-    pub plan-counted : (r n : ℕ) → In n (planIn p k .kids r) → Counted (planIn p k) (groups (planIn p k) (solvables G)) (unmerged (planIn p k) (solvables G)) n
-    unfolding planIn shownOf
-    plan-counted r n i = let x = z .kids r n i in counts (planIn p k) (solvables G) plan-grouped n (solvable-in n (x .0) (x .1))
-
-    pub plan-most : length (solvables G) ≤ 126 → most (planIn p k) (groups (planIn p k) (solvables G)) (unmerged (planIn p k) (solvables G)) ≤ 2079
-    plan-most h = most-of (planIn p k) (solvables G) plan-grouped h

@@ -193,7 +193,7 @@ module _ (p : List ℕ) (n m : ℕ) (is : m ≡ mateField p n) where
   unfolding mateField
   mate-past h = let z : m ≡ 0 = is ∙ rw (← head-out p n h) in mate-none (omega arith)
 
-abbrev matesBy : List ℕ → ℕ → ℕ → List ℕ
+abbrev pub matesBy : List ℕ → ℕ → ℕ → List ℕ
 matesBy p zero x = []
 matesBy p (suc c) zero = []
 matesBy p (suc c) (suc n) = n ∷ matesBy p c (mateIn p n)

@@ -6,3 +6,5 @@ pub mod Planned
 pub mod Alike
 pub mod Mates
 pub mod Counting
+pub mod Marking
+pub mod Laws

@@ -1,5 +1,7 @@
 // What `fmt_graph` shows of a labelled graph: as definitions (specs/Plan.antt), and packed into two lent tables
 // (specs/Fields.antt). All reads are total: past its part of a table a node or a run has the word 0.
+pub mod reading;
+
 ghost use mathlib.Core.Path.{_≡_};
 ghost use Prim.Native.Nat.{_<_};
 ghost use Rattle.plan.specs.Fields.{headIn, tailIn, runIn, runFirst, runEnd, tagIn, mergedIn, leadIn, mateField, mateIn, solvableIn, setsFirst, setsEnd, reasonIn, textLength, opensIn, kidFirst, kidEnd, requirementIn, wordingIn, kidAt, setAt};

@@ -34,7 +34,7 @@ blank n = replicate n 165
 -- the explanation of a file in the room `out`
 pub record Told (file : List ℕ) (opt : ℕ) (out : List ℕ) (r : Seen) : Type 0 where
   pub left : List ℕ
-  pub says : Says file opt out left (answerIn r)
+  pub says : Says 1 file opt out left (answerIn r)
   pub sums : r .sum ≡ sumOf left
 
 -- the graph text in the room `out`
@@ -67,13 +67,13 @@ checkedIn file = seenOf (checkOf file) (sumOf [])
 -- two results that it allows are equal
 pub told-one : (file : List ℕ) (opt : ℕ) (out : List ℕ) (r q : Seen) → Told file opt out r → Told file opt out q → r ≡ q
 told-one file opt out r q S T =
-    let e = says-one file opt out (S .left) (T .left) (answerIn r) (answerIn q) (S .says) (T .says) in
+    let e = says-one 1 file opt out (S .left) (T .left) (answerIn r) (answerIn q) (S .says) (T .says) in
     let s : r .sum ≡ q .sum = S .sums ∙ ap sumOf (e .1) ∙ sym (T .sums) in
     ap (λ (a : Answer). seenOf a (r .sum)) (e .0) ∙ ap (seenOf (answerIn q)) s
 
 -- ---- the ways through the code
 
-pub told-in : (file : List ℕ) (opt : ℕ) (out left : List ℕ) (a : Answer) (s : ℕ) (r : Seen) → Says file opt out left a → s ≡ sumOf left → r ≡ seenOf a s
+pub told-in : (file : List ℕ) (opt : ℕ) (out left : List ℕ) (a : Answer) (s : ℕ) (r : Seen) → Says 1 file opt out left a → s ≡ sumOf left → r ≡ seenOf a s
     → Told file opt out r
 told-in file opt out left a s r S e q = rw q (record { left = left; says = S; sums = e })
 

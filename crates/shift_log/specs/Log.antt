@@ -21,14 +21,14 @@ unreadMore s = record { done = s .done; refused = s .refused; unread = (s .unrea
 pub record Numbered (file : List ℕ) (r : ℕ) : Type 0 where
   pub answer : Answer
   pub left : List ℕ
-  pub says : Says file 0 (replicate 65536 0) left answer
+  pub says : Says 1 file 0 (replicate 65536 0) left answer
   pub is : r ≡ answer .number
 
 -- two numbers that it allows are equal
 pub numbered-one : (file : List ℕ) (r q : ℕ) → Numbered file r → Numbered file q → r ≡ q
 numbered-one file r q R Q =
     R .is
-    ∙ ap (λ (a : Answer). a .number) (says-one file 0 (replicate 65536 0) (R .left) (Q .left) (R .answer) (Q .answer) (R .says) (Q .says) .0)
+    ∙ ap (λ (a : Answer). a .number) (says-one 1 file 0 (replicate 65536 0) (R .left) (Q .left) (R .answer) (Q .answer) (R .says) (Q .says) .0)
     ∙ sym (Q .is)
 
 -- ---- the ways through the code

@@ -1,13 +1,13 @@
--- The explanation of a file: what the answer and the room say, for every file, option and room.
+-- The explanation of a file: what the answer and the room say, for every edition, file, option and room.
 use mathlib.Core.Path.{_≡_, refl, sym, ap, _∙_, subst}
-use mathlib.Core.Bool.{Bool, true, false, cond}
+use mathlib.Core.Bool.{Bool, true, false, cond, _&&_, _||_}
 use mathlib.Core.List.{List, []}
 use mathlib.Core.Option.{Option, some}
 use Prim.Native.Nat.{ℕ, zero, suc, _≤_, _<_, zero-le}
 use native.Mathlib.Omega.{arith}
 use lib.ListN.{length, getD, length-set}
 use lib.Dec.{leb, eqb}
-use borrow.Author.Tests.{le-leb, lt-leb}
+use borrow.Author.Tests.{le-leb, lt-leb, ne-eqb}
 use Rattle.records.specs.Tables.{Tables}
 use Rattle.records.specs.Read.{Reading, good, bad, readOf, tablesOf}
 use Rattle.index.specs.Index.{Loaded}
@@ -28,15 +28,19 @@ use Rattle.graph.specs.Files.{Makes, makes-refused}
 use Rattle.shape.specs.Graphed.{Graphed, graphed}
 use Rattle.machine.specs.Units.{Result}
 use Rattle.texts.specs.Wrote.{Wrote, over}
-use Rattle.plan.specs.Plan.{shownOf}
+use Rattle.plan.specs.Plan.{Shown, shownOf}
 use Rattle.plan.specs.Planned.{Planned}
+use Rattle.plan.specs.Marking.{readAs}
+use Rattle.plan.specs.Laws.Marking.{Reads, read-reads}
+use Rattle.measuring.specs.Exact.{PlanMade}
 use Rattle.measuring.specs.Assembly.{Labelled, marks-are, lead-group}
 use Rattle.lines.specs.Lines.{topOf}
 use Rattle.explanation.specs.declared.walk.Told.{Told}
 use Rattle.explanation.specs.Walk.{Ready}
 use Rattle.explanation.specs.Walk.{Answered}
-use Rattle.explanation.specs.Explain.{explainFile, explainTables, refusal}
-use Rattle.explanation.specs.Contract.{ExplainedFile, planned-ready, answered-file, file-unique}
+use Rattle.explanation.specs.Explain.{isEdition, explainEdition, explainTables, refusal}
+use Rattle.explanation.specs.Contract.{ExplainedFile, Drawn, file-unique}
+use Rattle.explanation.specs.Laws.Reading.{read-ready, read-file}
 use Rattle.drawing.specs.Same.{optionOf}
 use Rattle.urzulempa.specs.declared.Answer.{Answer}
 use Rattle.urzulempa.specs.Answers.{refusalOf}
@@ -45,19 +49,24 @@ use Rattle.urzulempa.specs.Answers.{refusalOf}
 abbrev pub resultBy : Answer → List ℕ → Result
 resultBy r t = record { number = r .number; place = r .place; bytes = r .bytes; units = r .units; depth = r .depth; text = t }
 
--- the answer is the explanation's for this file, option and room, and the room holds its text: "lent bytes past those written stay"
-pub record Says (file : List ℕ) (opt : ℕ) (out left : List ℕ) (r : Answer) : Type 0 where
+-- the answer is the explanation's for this edition, file, option and room, and the room holds its text: "lent bytes past those written stay"
+pub record Says (e : ℕ) (file : List ℕ) (opt : ℕ) (out left : List ℕ) (r : Answer) : Type 0 where
   pub text : List ℕ
-  pub is : ExplainedFile file opt (length out) (resultBy r text)
+  pub is : ExplainedFile e file opt (length out) (resultBy r text)
   pub room : left ≡ over text out
 
 -- two results that the contract allows are equal
-pub says-one : (file : List ℕ) (opt : ℕ) (out a b : List ℕ) (r q : Answer) → Says file opt out a r → Says file opt out b q → (r ≡ q) × (a ≡ b)
-says-one file opt out a b r q S T =
-    let e : resultBy r (S .text) ≡ resultBy q (T .text) = file-unique file opt (length out) (resultBy r (S .text)) (resultBy q (T .text)) (S .is) (T .is) in (
-      ap (λ (x : Result). record { number = x .number; place = x .place; bytes = x .bytes; units = x .units; depth = x .depth }) e,
-      S .room ∙ ap (λ (x : Result). over (x .text) out) e ∙ sym (T .room),
+pub says-one : (e : ℕ) (file : List ℕ) (opt : ℕ) (out a b : List ℕ) (r q : Answer) → Says e file opt out a r → Says e file opt out b q → (r ≡ q) × (a ≡ b)
+says-one e file opt out a b r q S T =
+    let h : resultBy r (S .text) ≡ resultBy q (T .text) = file-unique e file opt (length out) (resultBy r (S .text)) (resultBy q (T .text)) (S .is) (T .is) in (
+      ap (λ (x : Result). record { number = x .number; place = x .place; bytes = x .bytes; units = x .units; depth = x .depth }) h,
+      S .room ∙ ap (λ (x : Result). over (x .text) out) h ∙ sym (T .room),
     )
+
+-- the edition that reports every package, and the one that does not
+abbrev pub editionOf : Bool → ℕ
+editionOf true = 2
+editionOf false = 1
 
 -- ---- labels and groups as the plan takes them
 
@@ -79,6 +88,20 @@ labelled T g s w ms ld l q e C h =
       long = ap length e ∙ leads-length (titleOf (nameOf T) (graphIn g s)) (graphIn g s) (s .nodes) l ∙ h;
     }
 
+-- the plan's table stays as long as it was
+pub made-long : (T : Tables) (g ls ms ld : List ℕ) (m : ℕ) (t p₀ k₀ gr p k : List ℕ) → PlanMade T g ls ms ld m t p₀ k₀ gr p k → length p ≡ 1280
+made-long T g ls ms ld m t p₀ k₀ gr p k M = M .sizes .long ∙ M .nodes .p-long
+
+-- a plan of S that an edition reads
+pub record PlannedAs (every : Bool) (S : Shown) (q k : List ℕ) : Type 0 where
+  pub before : List ℕ
+  pub plan : Planned S before k
+  pub long : length before ≡ 1280
+  pub read : q ≡ readAs every before
+
+pub planned-as : (S : Shown) (p q k : List ℕ) (every : Bool) → q ≡ readAs every p → Planned S p k → length p ≡ 1280 → PlannedAs every S q k
+planned-as S p q k every h z l = record { before = p; plan = z; long = l; read = h }
+
 -- ---- a drawn graph
 
 abbrev pub toldAs : Told → Answer
@@ -96,51 +119,91 @@ option-low : (t : Bool) → optionOf t ≤ 1
 option-low true = omega arith
 option-low false = zero-le
 
+edition-is : (every : Bool) → isEdition (editionOf every) ≡ true
+edition-is true = refl
+edition-is false = refl
+
+edition-every : (every : Bool) → eqb (editionOf every) 2 ≡ every
+edition-every true = refl
+edition-every false = refl
+
+-- neither the edition nor the option is refused
+both-asked : (every t : Bool) → isEdition (editionOf every) && leb (optionOf t) 1 ≡ true
+both-asked every t = rw (edition-is every) (le-leb (optionOf t) 1 (option-low t))
+
 module _ (file ix g : List ℕ) (s : Size) (L : Loaded file ix) (e : graphOf (tablesOf file) ≡ drawn (graphIn g s)) where
   is-graphed : Graphed (tablesOf file) (graphIn g s)
   is-graphed = graphed (tablesOf file) (loaded-valid file ix L) (graphIn g s) e .0
 
-  pub whole-ready : (p k : List ℕ) → Planned (shownOf (tablesOf file) (graphIn g s)) p k → Ready (tablesOf file) p k
-  whole-ready p k z = planned-ready (tablesOf file) (graphIn g s) p k is-graphed z
+  module _ (q k : List ℕ) (every : Bool) (z : PlannedAs every (shownOf (tablesOf file) (graphIn g s)) q k) where
+    reads : Reads every (z .before) q
+    reads = rw (z .read) (read-reads every (z .before) (z .long))
 
-  pub whole-says : (p k out left : List ℕ) (t : Bool) (a : Told) (r : Answer) → r ≡ toldAs a → Answered (tablesOf file) p k t out left a → Planned (shownOf (tablesOf file) (graphIn g s)) p k
-      → Says file (optionOf t) out left r
-  whole-says p k out left t a r q w z =
-      let w′ : Answered (tablesOf file) p k (topOf (optionOf t)) out left a = rw (option-top t) w in
-      rw q
-      (record {
-        text = w′ .text;
-        is = answered-file file (optionOf t) (tablesOf file) (graphIn g s) (record { option = option-low t; tables = loaded-good file ix L; graph = e }) p k is-graphed z out left a w′;
-        room = w′ .room .leaves;
-      })
+    pub whole-ready : Ready (tablesOf file) q k
+    whole-ready = read-ready (tablesOf file) (graphIn g s) is-graphed (z .before) q k (z .plan) every reads
+
+    pub whole-says : (out left : List ℕ) (t : Bool) (a : Told) (r : Answer) → r ≡ toldAs a → Answered (tablesOf file) q k t out left a
+        → Says (editionOf every) file (optionOf t) out left r
+    whole-says out left t a r u w =
+        let w′ : Answered (tablesOf file) q k (topOf (optionOf t)) out left a = rw (option-top t) w in
+        let d : Drawn (editionOf every) file (optionOf t) (tablesOf file) (graphIn g s) =
+        record { edition = edition-is every; option = option-low t; tables = loaded-good file ix L; graph = e } in
+        rw u
+        (record {
+          text = w′ .text;
+          is = read-file (tablesOf file) (graphIn g s) is-graphed (z .before) q k (z .plan) every reads (editionOf every) (edition-every every) file (optionOf t) d out left a w′;
+          room = w′ .room .leaves;
+        })
 
 -- ---- refusals write nothing
 
-nothing : (file : List ℕ) (opt : ℕ) (out : List ℕ) (k p : ℕ) → explainFile 0 file opt (length out) ≡ some (refusal k p) → Says file opt out out (refusalOf k p)
-nothing file opt out k p h = record { text = []; is = record { turns = 0; so = h }; room = refl }
+nothing : (e : ℕ) (file : List ℕ) (opt : ℕ) (out : List ℕ) (k p : ℕ) → explainEdition e 0 file opt (length out) ≡ some (refusal k p) → Says e file opt out out (refusalOf k p)
+nothing e file opt out k p h = record { text = []; is = record { turns = 0; so = h }; room = refl }
 
-pub says-option : (file : List ℕ) (opt : ℕ) (out : List ℕ) (r : Answer) → 1 < opt → r ≡ refusalOf 12 0 → Says file opt out out r
-says-option file opt out r h q = rw q (nothing file opt out 12 0 (rw (lt-leb opt 1 h, explainFile)))
+-- 12
+unasked : (e : ℕ) (file : List ℕ) (opt : ℕ) (out : List ℕ) (r : Answer) → isEdition e && leb opt 1 ≡ false → r ≡ refusalOf 12 0 → Says e file opt out out r
+unasked e file opt out r h q = rw q (nothing e file opt out 12 0 (rw (h, explainEdition)))
+
+either-false : (b c : Bool) → c ≡ false → b && c ≡ false
+either-false true c h = h
+either-false false c h = refl
+
+pub says-option : (e : ℕ) (file : List ℕ) (opt : ℕ) (out : List ℕ) (r : Answer) → 1 < opt → r ≡ refusalOf 12 0 → Says e file opt out out r
+says-option e file opt out r h q = unasked e file opt out r (either-false (isEdition e) (leb opt 1) (lt-leb opt 1 h)) q
+
+pub says-zeroth : (e : ℕ) (file : List ℕ) (opt : ℕ) (out : List ℕ) (r : Answer) → e ≡ 0 → r ≡ refusalOf 12 0 → Says e file opt out out r
+says-zeroth e file opt out r h q = unasked e file opt out r (rw h) q
+
+pub says-later : (e : ℕ) (file : List ℕ) (opt : ℕ) (out : List ℕ) (r : Answer) → 2 < e → r ≡ refusalOf 12 0 → Says e file opt out out r
+says-later e file opt out r h q =
+    unasked e file opt out r (rw (ne-eqb e 1 (λ z. omega arith), ne-eqb e 2 (λ z. omega arith))) q
 
 -- what reading leads to, before a turn is taken
-abbrev explainRead : ℕ → ℕ → Reading → Option Result
-explainRead opt room y = elim y [ bad k p ↦ some (refusal k p) | good T ↦ explainTables 0 T opt room ]
+abbrev explainRead : ℕ → ℕ → ℕ → Reading → Option Result
+explainRead e opt room y = elim y [ bad k p ↦ some (refusal k p) | good T ↦ explainTables e 0 T opt room ]
 
 -- m is what the file makes
 module _ (file ix g w : List ℕ) (m : Made) (R : Makes file ix g w m) where
-  pub says-refused : (t : Bool) (out : List ℕ) (r : Answer) (k p : ℕ) → m ≡ M.Refused k p → r ≡ refusalOf k p → Says file (optionOf t) out out r
-  says-refused t out r k p e h =
+  pub says-refused : (t every : Bool) (out : List ℕ) (r : Answer) (k p : ℕ) → m ≡ M.Refused k p → r ≡ refusalOf k p → Says (editionOf every) file (optionOf t) out out r
+  says-refused t every out r k p e h =
       rw h
-      (nothing file (optionOf t) out k p
-      (rw (le-leb (optionOf t) 1 (option-low t), explainFile)
-      (makes-refused file ix g w m R (explainRead (optionOf t) (length out)) (λ l i. some (refusal l i)) (λ l i. refl) (λ T l i z. rw (z, explainTables)) k p e)))
+      (nothing (editionOf every) file (optionOf t) out k p
+      (rw (both-asked every t, explainEdition)
+      (makes-refused file ix g w m R (explainRead (editionOf every) (optionOf t) (length out)) (λ l i. some (refusal l i)) (λ l i. refl) (λ T l i z. rw (z, explainTables)) k p e)))
 
--- ---- the option
+-- ---- the edition and the option
 
-pub says-file : (file : List ℕ) (opt : ℕ) (out left : List ℕ) (r : Answer) → opt ≤ 1 → Says file (optionOf (eqb opt 1)) out left r → Says file opt out left r
-says-file file opt out left r h S = subst (λ (o : ℕ). Says file o out left r) (same opt h) S
+pub says-file : (e : ℕ) (file : List ℕ) (opt : ℕ) (out left : List ℕ) (r : Answer) → (e ≡ 0 → ⊥) → e ≤ 2 → opt ≤ 1 → Says (editionOf (eqb e 2)) file (optionOf (eqb opt 1)) out left r
+    → Says e file opt out left r
+says-file e file opt out left r f h g S = subst (λ (o : ℕ). Says e file o out left r) (option opt g) (subst (λ (d : ℕ). Says d file (optionOf (eqb opt 1)) out left r) (edition e f h) S)
   where
-    same : (n : ℕ) → n ≤ 1 → optionOf (eqb n 1) ≡ n
-    same zero l = refl
-    same (suc zero) l = refl
-    same (suc (suc n)) l = let f : ⊥ = omega arith in absurd f
+    edition : (n : ℕ) → (n ≡ 0 → ⊥) → n ≤ 2 → editionOf (eqb n 2) ≡ n
+    edition zero f l = absurd (f refl)
+    edition (suc zero) f l = refl
+    edition (suc (suc zero)) f l = refl
+    edition (suc (suc (suc n))) f l = let z : ⊥ = omega arith in absurd z
+
+    option : (n : ℕ) → n ≤ 1 → optionOf (eqb n 1) ≡ n
+    option zero l = refl
+    option (suc zero) l = refl
+    option (suc (suc n)) l = let z : ⊥ = omega arith in absurd z

@@ -11,7 +11,7 @@ ghost use Rattle.plan.specs.Plan.{shownOf};
 ghost use Rattle.plan.specs.Planned.{Planned};
 ghost use Rattle.planning.specs.Building.{FreshPlan};
 ghost use Rattle.drawing.specs.Same.{optionOf};
-ghost use Rattle.urzulempa.specs.Says.{Says, toldAs};
+ghost use Rattle.urzulempa.specs.Says.{Says, PlannedAs, editionOf, toldAs};
 use crate::Answer;
 use crate::checks::refusal;
 use crate::checks::wide;
@@ -33,6 +33,7 @@ fn plan_of(
     requires { ⌜ Chains (now g) s (now ls) ⌝ }
     requires { ⌜ FreshPlan (now p) (now k) ⌝ }
     ensures { λ _. ⌜ Planned (shownOf (tablesOf (now (file .entry))) (graphIn (now (g .entry)) s)) (now (p .exit)) (now (k .exit)) ⌝ }
+    ensures { λ _. ⌜ length (now (p .exit)) ≡ 1280 ⌝ }
 {
     let mut marks = [0u16; 128];
     labels::label(g, s, ls, &mut marks);
@@ -40,6 +41,26 @@ fn plan_of(
     naming::group_named(file, ix, g, s, ls, &mut leads);
     let mut gr = [0u16; 128];
     measuring::build_plan(file, ix, g, s, ls, &marks, &leads, &mut gr, p, k);
+}
+
+// The plan as the edition reads it (order 11).
+fn plan_as(
+    file: &[u8],
+    ix: &[u16; 10432],
+    g: &[u64; 1152],
+    s: Size,
+    ls: &[u16; 3456],
+    p: &mut [u64; 1280],
+    k: &mut [u16; 1024],
+    every: bool,
+)
+    requires { ⌜ Loaded (now file) (now ix) ⌝ }
+    requires { ⌜ Chains (now g) s (now ls) ⌝ }
+    requires { ⌜ FreshPlan (now p) (now k) ⌝ }
+    ensures { λ _. ⌜ PlannedAs every (shownOf (tablesOf (now (file .entry))) (graphIn (now (g .entry)) s)) (now (p .exit)) (now (k .exit)) ⌝ }
+{
+    plan_of(file, ix, g, s, ls, p, k);
+    plan::reading::read_as(p, every);
 }
 
 fn told(t: Told) -> Answer
@@ -63,16 +84,17 @@ fn explain_whole(
     ls: &[u16; 3456],
     p: &mut [u64; 1280],
     top: bool,
+    every: bool,
     room: &mut [u8],
 ) -> Answer
     requires { ⌜ Loaded (now file) (now ix) ⌝ }
     requires { ⌜ Chains (now g) s (now ls) ⌝ }
     requires { ⌜ graphOf (tablesOf (now file)) ≡ drawn (graphIn (now g) s) ⌝ }
-    ensures { λ r. ⌜ Says (now (file .entry)) (optionOf top) (now (room .entry)) (now (room .exit)) r ⌝ }
+    ensures { λ r. ⌜ Says (editionOf every) (now (file .entry)) (optionOf top) (now (room .entry)) (now (room .exit)) r ⌝ }
 {
     *p = [0u64; 1280];
     let mut k = [0u16; 1024];
-    plan_of(file, ix, g, s, ls, p, &mut k);
+    plan_as(file, ix, g, s, ls, p, &mut k, every);
     let t = explanation::walk::explain_plan(file, ix, p, &k, room, top);
     told(t)
 }
@@ -80,6 +102,7 @@ fn explain_whole(
 pub fn explain_in(
     file: &[u8],
     top: bool,
+    every: bool,
     ix: &mut [u16; 10432],
     g: &mut [u64; 1152],
     tr: &mut [u64; 1280],
@@ -90,11 +113,11 @@ pub fn explain_in(
     requires { ⌜ now g ≡ replicate 1152 0 ⌝ }
     requires { ⌜ length (now tr) ≡ 1280 ⌝ }
     requires { ⌜ now ls ≡ replicate 3456 0 ⌝ }
-    ensures { λ r. ⌜ Says (now (file .entry)) (optionOf top) (now (room .entry)) (now (room .exit)) r ⌝ }
+    ensures { λ r. ⌜ Says (editionOf every) (now (file .entry)) (optionOf top) (now (room .entry)) (now (room .exit)) r ⌝ }
 {
     let m = graph::of_file(file, ix, g, tr, ls);
     match m {
         Made::Refused(k, p) => refusal(k, p),
-        Made::Whole(s) => explain_whole(file, ix, g, s, ls, tr, top, room),
+        Made::Whole(s) => explain_whole(file, ix, g, s, ls, tr, top, every, room),
     }
 }

@@ -52,11 +52,23 @@ pub extern "C" fn urzulempa_graphviz(file: &[u8], option: u64, room: &mut [u8]) 
     graphs::draw_in(file, option == 1, &mut ix, &mut g, &mut tr, &mut ls, room)
 }
 
-// The explanation; option 1 indents the top level.
+// The explanation by the reading rules of an edition (order 11): 1 is the Rust's, in 2 every package is reported when first shown.
+// Option 1 indents the top level.
 #[no_mangle]
-pub extern "C" fn urzulempa_explain(file: &[u8], option: u64, room: &mut [u8]) -> Answer
-    ensures { λ r. ⌜ Says (now (file .entry)) option (now (room .entry)) (now (room .exit)) r ⌝ }
+pub extern "C" fn urzulempa_explain_edition(
+    file: &[u8],
+    edition: u64,
+    option: u64,
+    room: &mut [u8],
+) -> Answer
+    ensures { λ r. ⌜ Says edition (now (file .entry)) option (now (room .entry)) (now (room .exit)) r ⌝ }
 {
+    if edition == 0 {
+        return checks::refusal(12, 0);
+    }
+    if 2 < edition {
+        return checks::refusal(12, 0);
+    }
     if 1 < option {
         return checks::refusal(12, 0);
     }
@@ -64,13 +76,30 @@ pub extern "C" fn urzulempa_explain(file: &[u8], option: u64, room: &mut [u8]) -
     let mut g = [0u64; 1152];
     let mut tr = [0u64; 1280];
     let mut ls = [0u16; 3456];
-    explains::explain_in(file, option == 1, &mut ix, &mut g, &mut tr, &mut ls, room)
+    explains::explain_in(
+        file,
+        option == 1,
+        edition == 2,
+        &mut ix,
+        &mut g,
+        &mut tr,
+        &mut ls,
+        room,
+    )
+}
+
+// The explanation by edition 1; option 1 indents the top level.
+#[no_mangle]
+pub extern "C" fn urzulempa_explain(file: &[u8], option: u64, room: &mut [u8]) -> Answer
+    ensures { λ r. ⌜ Says 1 (now (file .entry)) option (now (room .entry)) (now (room .exit)) r ⌝ }
+{
+    urzulempa_explain_edition(file, 1, option, room)
 }
 
 // The explanation by a plain call, which means option 0.
 #[no_mangle]
 pub extern "C" fn urzulempa_explain_plain(file: &[u8], room: &mut [u8]) -> Answer
-    ensures { λ r. ⌜ Says (now (file .entry)) 0 (now (room .entry)) (now (room .exit)) r ⌝ }
+    ensures { λ r. ⌜ Says 1 (now (file .entry)) 0 (now (room .entry)) (now (room .exit)) r ⌝ }
 {
     urzulempa_explain(file, 0, room)
 }

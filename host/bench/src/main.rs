@@ -19,6 +19,7 @@ fn main() -> ExitCode {
     edge_lists();
     texts();
     merging::table();
+    editions();
     growth();
     ExitCode::SUCCESS
 }
@@ -129,6 +130,35 @@ fn texts() {
     let file = largest("nodes-and-edges");
     let (mut a, mut b) = (vec![0; 1 << 20], vec![0; 1 << 20]);
     row("graph text, largest load", file.len(), both(|| keep(black_box(oracle::graphviz(black_box(&file), 1, &mut a))), || keep(black_box(urzulempa::graphviz(black_box(&file), 1, &mut b)))));
+}
+
+/// The same file by the rules of both editions. Edition 2 of conflict.rs is the oracle's: every shown package among the reported.
+fn editions() {
+    println!();
+    println!("| explanation by edition | edition | answer | lines | bytes | depth | conflict.rs | port | ratio |");
+    println!("|---|---|---|---|---|---|---|---|---|");
+    let sample = |name: &str| oracle::samples::all().into_iter().find(|s| s.0 == name).map(|s| s.1).unwrap_or_default();
+    let loads = [
+        ("deck-panel.rec (P9)", sample("deck-panel.rec"), 4096),
+        ("merged-pair.rec (P10)", sample("merged-pair.rec"), 4096),
+        ("rack.rec", sample("rack.rec"), 16 << 10),
+        ("exploding DAG, room of 64 MiB", largest("dag-exploding-limit"), 64 << 20),
+        ("the file of depth 2,079, room of 32 MiB", made("depth-largest", 1), 32 << 20),
+    ];
+    for (name, file, size) in &loads {
+        for edition in [1, 2] {
+            let (mut a, mut b) = (vec![0; *size], vec![0; *size]);
+            let times = both(
+                || keep(black_box(oracle::explain_edition(black_box(file), edition, 0, &mut a))),
+                || keep(black_box(urzulempa::explain_edition(black_box(file), edition, 0, &mut b))),
+            );
+            let answer = urzulempa::explain_edition(file, edition, 0, &mut b);
+            let same = oracle::explain_edition(file, edition, 0, &mut a).bytes == answer.bytes && a == b;
+            let (lines, bytes, depth) = (answer.units, answer.bytes, answer.depth);
+            let said = if same { "" } else { ", rooms DIFFER" };
+            println!("| {name} | {edition} | {}{said} | {lines} | {bytes} | {depth} | {} | {} | {:.2} |", answer.number, time(times.0), time(times.1), times.0 / times.1);
+        }
+    }
 }
 
 /// How the time grows with the size of the load, in one thing at a time: what one more of it costs must not grow.

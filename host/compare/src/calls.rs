@@ -7,6 +7,8 @@ pub enum Call {
     Check,
     Explain,
     Plain,
+    /// The explanation by the rules of this edition.
+    Edition(u64),
     Graph,
     Nodes,
     Edges,
@@ -44,8 +46,14 @@ impl Trial {
         let (a, b) = match self.call {
             Call::Graph => (oracle::graphviz(file, self.option, &mut theirs), urzulempa::graphviz(file, self.option, &mut ours)),
             Call::Plain => (oracle::explain(file, 0, &mut theirs), urzulempa::explain_plain(file, &mut ours)),
+            // "Edition 1 stays for the archive and remains the Rust's."
+            Call::Edition(1) => (oracle::explain(file, self.option, &mut theirs), urzulempa::explain_edition(file, 1, self.option, &mut ours)),
+            Call::Edition(e) => (oracle::explain_edition(file, e, self.option, &mut theirs), urzulempa::explain_edition(file, e, self.option, &mut ours)),
             _ => (oracle::explain(file, self.option, &mut theirs), urzulempa::explain(file, self.option, &mut ours)),
         };
+        if self.call == Call::Edition(2) && a.number == 11 {
+            return Err("edition 2 gives 11".into());
+        }
         same(self, a, b, &theirs, &ours)
     }
 
@@ -112,7 +120,7 @@ fn same(trial: &Trial, theirs: oracle::Answer, ours: urzulempa::Answer, their_ro
 }
 
 /// Every call on a file: options 0, 1 and bad ones; rooms 0, exact, one short, random and ample; lists of edges with one number
-/// more as well.
+/// more as well; both editions and bad ones.
 pub fn trials(file: &[u8], rng: &mut Rng) -> Vec<Trial> {
     let mut trials = vec![Trial { call: Call::Check, option: 0, room: 0, fill: 0 }];
     let whole = oracle::check(file).number == 0;
@@ -138,11 +146,53 @@ pub fn trials(file: &[u8], rng: &mut Rng) -> Vec<Trial> {
     for room in [0, numbers, numbers.saturating_sub(1), numbers + 1, some, ALL_EDGES] {
         trials.push(Trial { call: Call::Edges, option: 0, room, fill: rng.next() });
     }
+    // One in three, since each has its like among the calls above; `compare editions` makes them all.
+    let editions = editions(file, rng, 1);
+    trials.extend(editions.into_iter().filter(|_| rng.next() % 3 == 0));
+    trials
+}
+
+/// The explanation by edition: both with options 0 and 1, in rooms 0, exact, one short, one more, random and ample, and around the
+/// ends of at most so many lines; bad editions and bad options, each alone and both.
+pub fn editions(file: &[u8], rng: &mut Rng, lines: usize) -> Vec<Trial> {
+    let mut trials = Vec::new();
+    let whole = oracle::check(file).number == 0;
+    for edition in [1, 2] {
+        let call = Call::Edition(edition);
+        for option in [0, 1] {
+            let mut room = vec![0; AMPLE];
+            let exact = if whole { measure(call, file, option, &mut room) } else { 0 };
+            let mut rooms = vec![0, exact, exact.saturating_sub(1), exact + 1, (rng.next() % (exact as u64 + 40)) as usize, AMPLE];
+            let mut ends: Vec<usize> = room[..exact].iter().enumerate().filter(|(_, byte)| **byte == b'\n').map(|(at, _)| at + 1).collect();
+            // The end of the last line is the exact room.
+            ends.pop();
+            while ends.len() > lines {
+                ends.swap_remove((rng.next() % ends.len() as u64) as usize);
+            }
+            rooms.extend(ends.into_iter().flat_map(|end| [end - 1, end, end + 1]));
+            trials.extend(rooms.into_iter().map(|room| Trial { call, option, room, fill: rng.next() }));
+        }
+    }
+    let some = |rng: &mut Rng| [3, 4, 255, 256, 257, 258, (1 << 32) | 1, (1 << 32) | 2, rng.next() | 4][(rng.next() % 9) as usize];
+    for edition in [0, 3, u64::MAX, some(rng)] {
+        for option in [0, 1, 2] {
+            trials.push(Trial { call: Call::Edition(edition), option, room: (rng.next() % 300) as usize, fill: rng.next() });
+        }
+    }
+    for edition in [1, 2] {
+        for option in [2, u64::MAX, some(rng)] {
+            trials.push(Trial { call: Call::Edition(edition), option, room: (rng.next() % 300) as usize, fill: rng.next() });
+        }
+    }
     trials
 }
 
 fn measure(call: Call, file: &[u8], option: u64, room: &mut [u8]) -> usize {
-    let answer = if call == Call::Graph { oracle::graphviz(file, option, room) } else { oracle::explain(file, option, room) };
+    let answer = match call {
+        Call::Graph => oracle::graphviz(file, option, room),
+        Call::Edition(edition) => oracle::explain_edition(file, edition, option, room),
+        _ => oracle::explain(file, option, room),
+    };
     usize::try_from(answer.bytes).unwrap_or(0)
 }
 

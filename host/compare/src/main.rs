@@ -13,6 +13,7 @@ const USAGE: &str = "usage: compare files N SEED   the hand-made files, then N g
        compare check N SEED   the same with the call `check` alone
        compare nodes N SEED   the same with the node list alone
        compare edges N SEED   the same with the edge list alone
+       compare editions N SEED the same with the explanation by edition alone, in rooms around the ends of more lines
        compare bytes          a small file with every kind of record, each byte set to each value
 Status: 0 no difference, 1 a difference, 64 wrong usage, 77 without conflict.rs.";
 
@@ -20,7 +21,7 @@ fn main() -> ExitCode {
     let words: Vec<String> = std::env::args().skip(1).collect();
     let words: Vec<&str> = words.iter().map(String::as_str).collect();
     let job = match words[..] {
-        ["files" | "check" | "nodes" | "edges", n, seed] => match (n.parse(), seed.parse()) {
+        ["files" | "check" | "nodes" | "edges" | "editions", n, seed] => match (n.parse(), seed.parse()) {
             (Ok(n), Ok(seed)) => Some((n, seed)),
             _ => None,
         },
@@ -38,6 +39,9 @@ fn main() -> ExitCode {
     let found = if words[0] == "bytes" { bytes() } else { files(n, seed, words[0]) };
     if found { ExitCode::from(1) } else { ExitCode::SUCCESS }
 }
+
+/// Around the ends of so many lines of a text rooms are lent by `compare editions`.
+const LINE_ENDS: usize = 8;
 
 const CHECK: Trial = Trial { call: Call::Check, option: 0, room: 0, fill: 0 };
 
@@ -77,7 +81,7 @@ struct Tally {
 impl Tally {
     /// All trials of a file, or those of one call; a difference is reported.
     fn differs(&mut self, only: &str, whence: &str, file: &[u8], rng: &mut Rng) -> bool {
-        let mut trials = calls::trials(file, rng);
+        let mut trials = if only == "editions" { calls::editions(file, rng, LINE_ENDS) } else { calls::trials(file, rng) };
         match only {
             "check" => trials.retain(|t| t.call == Call::Check),
             "nodes" => trials.retain(|t| t.call == Call::Nodes),

@@ -17,7 +17,7 @@ fn run(words: &[&str], file: &[u8]) -> Output {
 #[test]
 fn ten_thousand_damaged_files_get_an_answer() {
     let shapes = ["double-faults", "wrong-origins", "bits-flipped", "fields-changed", "cut", "records-swapped", "unused-bytes", "random-records", "random-bytes", "bytes-65568"];
-    let calls = [&["check", "-"][..], &["explain", "-", "--room", "3000"], &["graph", "-", "--simplify", "--room", "3000"], &["nodes", "-"], &["edges", "-"]];
+    let calls = [&["check", "-"][..], &["explain", "-", "--room", "3000"], &["explain", "-", "--edition", "2"], &["graph", "-", "--simplify", "--room", "3000"], &["nodes", "-"], &["edges", "-"]];
     let mut refused = 0;
     for index in 0..10_000 {
         let shape = shapes[index % shapes.len()];

@@ -3,7 +3,7 @@
 
 use std::marker::PhantomData;
 
-use crate::{Answer, Edge, Node, Refusal, Rules};
+use crate::{Answer, Edge, Edition, Node, Refusal, Rules};
 
 fn absent() -> ! {
     panic!("conflict.rs could not be had at build time: ask oracle::AVAILABLE before a call")
@@ -40,11 +40,19 @@ impl Model<'_, '_> {
         absent()
     }
 
+    pub fn explain_edition(&self, _: Edition, _: bool, _: &mut [u8]) -> Answer {
+        absent()
+    }
+
     pub fn graphviz(&self, _: bool, _: &mut [u8]) -> Answer {
         absent()
     }
 
     pub fn rules(&self, _: bool, _: &mut [u8], _: u64) -> Rules {
+        absent()
+    }
+
+    pub fn rules_edition(&self, _: Edition, _: bool, _: &mut [u8], _: u64) -> Rules {
         absent()
     }
 
@@ -63,9 +71,17 @@ impl Model<'_, '_> {
     pub fn depth_bound(&self) -> u64 {
         absent()
     }
+
+    pub fn openings_bound(&self) -> u64 {
+        absent()
+    }
 }
 
 pub fn explain(_: &[u8], _: u64, _: &mut [u8]) -> Answer {
+    absent()
+}
+
+pub fn explain_edition(_: &[u8], _: u64, _: u64, _: &mut [u8]) -> Answer {
     absent()
 }
 

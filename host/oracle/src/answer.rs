@@ -59,6 +59,28 @@ impl Edge {
     }
 }
 
+/// The reading rules of the explanation (document 02, order 11): "Edition 1 stays for the archive and remains the Rust's."
+#[derive(Clone, Copy, Debug, Default, PartialEq, Eq)]
+pub enum Edition {
+    #[default]
+    One,
+    Two,
+}
+
+impl Edition {
+    /// "12 also for an edition that is not 1 or 2".
+    pub fn of(number: u64) -> Result<Edition, Refusal> {
+        match number {
+            1 => Ok(Edition::One),
+            2 => Ok(Edition::Two),
+            _ => Err(Refusal {
+                number: 12,
+                place: 0,
+            }),
+        }
+    }
+}
+
 /// How the rules of `fmt_graph` went without refusal 11.
 #[derive(Clone, Copy, Debug, PartialEq, Eq)]
 pub struct Rules {
@@ -66,4 +88,6 @@ pub struct Rules {
     pub ended: bool,
     pub bytes: u64,
     pub lines: u64,
+    /// "would require" lines in the whole text.
+    pub openings: u64,
 }

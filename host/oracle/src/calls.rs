@@ -1,11 +1,11 @@
-//! The calls of document 01 on the oracle.
+//! The calls of documents 01 and 02 on the oracle.
 
 use crate::conflict::view::{self, View};
 use crate::provider::{solver_of, FileSolver};
 use crate::reader;
 use crate::rooms::Room;
 use crate::standins::internal::id::ClauseId;
-use crate::{Answer, Edge, Node, Refusal, Rules};
+use crate::{Answer, Edge, Edition, Node, Refusal, Rules};
 
 /// A file that refusals 1 to 6 let through.
 pub struct Problem<'a> {
@@ -47,8 +47,12 @@ impl<'a> Problem<'a> {
 
 impl Model<'_, '_> {
     pub fn explain(&self, indent: bool, room: &mut [u8]) -> Answer {
+        self.explain_edition(Edition::One, indent, room)
+    }
+
+    pub fn explain_edition(&self, edition: Edition, indent: bool, room: &mut [u8]) -> Answer {
         let room = Room::new(room, u64::MAX);
-        self.view.explain(indent, true, room).answer
+        self.view.explain(edition, indent, true, room).answer
     }
 
     pub fn graphviz(&self, simplify: bool, room: &mut [u8]) -> Answer {
@@ -57,11 +61,24 @@ impl Model<'_, '_> {
 
     /// The rules alone, without refusal 11, for at most `lines` lines.
     pub fn rules(&self, indent: bool, room: &mut [u8], lines: u64) -> Rules {
-        let told = self.view.explain(indent, false, Room::new(room, lines));
+        self.rules_edition(Edition::One, indent, room, lines)
+    }
+
+    /// The same by the rules of an edition.
+    pub fn rules_edition(
+        &self,
+        edition: Edition,
+        indent: bool,
+        room: &mut [u8],
+        lines: u64,
+    ) -> Rules {
+        let room = Room::new(room, lines);
+        let told = self.view.explain(edition, indent, false, room);
         Rules {
             ended: told.ended,
             bytes: told.answer.bytes,
             lines: told.answer.units,
+            openings: told.openings,
         }
     }
 
@@ -80,6 +97,18 @@ impl Model<'_, '_> {
 
     /// "the bound of demand 3": g + (g + 1) × u, for g groups and u unmerged solvables.
     pub fn depth_bound(&self) -> u64 {
+        let (groups, unmerged) = self.packages();
+        groups + (groups + 1) * unmerged
+    }
+
+    /// "all openings in the whole text together are at most g + u" in edition 2.
+    pub fn openings_bound(&self) -> u64 {
+        let (groups, unmerged) = self.packages();
+        groups + unmerged
+    }
+
+    /// g groups and u unmerged solvables.
+    fn packages(&self) -> (u64, u64) {
         let nodes = self.nodes();
         let solvables = || (0u16..).zip(&nodes).filter(|(_, node)| node.kind == 1);
         let has_company = |at: u16| {
@@ -90,7 +119,7 @@ impl Model<'_, '_> {
             .filter(|&(at, node)| has_company(at) && node.group == at)
             .count() as u64;
         let unmerged = solvables().filter(|&(at, _)| !has_company(at)).count() as u64;
-        groups + (groups + 1) * unmerged
+        (groups, unmerged)
     }
 }
 
@@ -114,6 +143,16 @@ pub fn explain(file: &[u8], option: u64, room: &mut [u8]) -> Answer {
     answered(|| {
         let indent = flag(option)?;
         Ok(Problem::read(file)?.model()?.explain(indent, room))
+    })
+}
+
+/// The explanation by the rules of an edition. "12 for a bad edition or option, place 0, before all others."
+pub fn explain_edition(file: &[u8], edition: u64, option: u64, room: &mut [u8]) -> Answer {
+    answered(|| {
+        let edition = Edition::of(edition)?;
+        let indent = flag(option)?;
+        let problem = Problem::read(file)?;
+        Ok(problem.model()?.explain_edition(edition, indent, room))
     })
 }
 

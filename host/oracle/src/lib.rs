@@ -1,10 +1,10 @@
 //! The test oracle: conflict.rs as it is, over real petgraph and itertools, behind the calls that
 //! document 01 describes and document 02 adds. Small stand-ins take the place of the solver's types.
 //!
-//! [`explain`], [`graphviz`], [`check`], [`nodes`] and [`edges`] take any bytes. [`Problem`] and its
-//! [`Model`] are the same in steps, for many calls on one file. Where conflict.rs could not be
-//! had at build time, [`AVAILABLE`] is false and these must not be called; the reader, the
-//! generator and the samples are there all the same.
+//! [`explain`], [`explain_edition`], [`graphviz`], [`check`], [`nodes`] and [`edges`] take any
+//! bytes. [`Problem`] and its [`Model`] are the same in steps, for many calls on one file. Where
+//! conflict.rs could not be had at build time, [`AVAILABLE`] is false and these must not be called;
+//! the reader, the generator and the samples are there all the same.
 
 mod answer;
 pub mod cases;
@@ -37,9 +37,10 @@ mod writer;
 #[path = "absent.rs"]
 mod calls;
 
-pub use answer::{Answer, Edge, Node, Refusal, Rules};
+pub use answer::{Answer, Edge, Edition, Node, Refusal, Rules};
 pub use calls::{
-    check, edges, explain, graphviz, nodes, rewritten, rules, written, Model, Problem,
+    check, edges, explain, explain_edition, graphviz, nodes, rewritten, rules, written, Model,
+    Problem,
 };
 
 /// Whether conflict.rs was there when this crate was built.

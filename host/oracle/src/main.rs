@@ -8,6 +8,7 @@ usage: oracle cases                        P1 to P11 of document 01 on the real 
        oracle gen SHAPE SEED OUT           one generated file
        oracle shapes                       the names of the shapes
        oracle explain FILE [OPTION] [ROOM] the explanation
+       oracle edition FILE N [OPTION] [ROOM] the explanation by the rules of edition N
        oracle graph FILE [OPTION] [ROOM]   the graph text
        oracle nodes FILE                   the node list
        oracle edges FILE                   the edge list
@@ -77,8 +78,8 @@ fn usage() -> Result<u8, String> {
 /// What needs conflict.rs.
 fn run(args: &[&str]) -> Result<u8, String> {
     match *args {
-        ["cases" | "explain" | "graph" | "nodes" | "edges" | "check" | "survey" | "record"
-        | "written", ..]
+        ["cases" | "explain" | "edition" | "graph" | "nodes" | "edges" | "check" | "survey"
+        | "record" | "written", ..]
             if !oracle::AVAILABLE =>
         {
             let step = args[0];
@@ -87,6 +88,13 @@ fn run(args: &[&str]) -> Result<u8, String> {
         }
         ["cases"] => with_conflict::cases(),
         ["explain", file, ref rest @ ..] => with_conflict::text(oracle::explain, file, rest),
+        ["edition", file, edition, ref rest @ ..] => {
+            let edition = number(edition)?;
+            let call = move |file: &[u8], option, room: &mut [u8]| {
+                oracle::explain_edition(file, edition, option, room)
+            };
+            with_conflict::text(call, file, rest)
+        }
         ["graph", file, ref rest @ ..] => with_conflict::text(oracle::graphviz, file, rest),
         ["nodes", file] => with_conflict::nodes(file),
         ["edges", file] => with_conflict::edges(file),
@@ -129,7 +137,7 @@ mod with_conflict {
     }
 
     pub fn text(
-        call: fn(&[u8], u64, &mut [u8]) -> Answer,
+        call: impl Fn(&[u8], u64, &mut [u8]) -> Answer,
         file: &str,
         rest: &[&str],
     ) -> Result<u8, String> {

@@ -4,7 +4,10 @@
 use std::collections::BTreeMap;
 
 use crate::rng::Rng;
-use crate::{check, edges, explain, generate, graphviz, nodes, Answer, Edge, Node, Problem};
+use crate::{
+    check, edges, explain, explain_edition, generate, graphviz, nodes, Answer, Edge, Edition,
+    Model, Node, Problem,
+};
 
 /// How the calls of one kind were answered.
 type Counts = BTreeMap<u64, u64>;
@@ -68,6 +71,7 @@ fn one<'a>(file: &[u8], rng: &mut Rng, room: &mut [u8]) -> Result<Vec<(&'a str, 
     let length = length.min(room.len());
     let checked = check(file);
     let explained = explain(file, option, &mut room[..length]);
+    let second = explain_edition(file, 2, option, &mut room[..length]);
     let drawn = graphviz(file, option, &mut room[..length]);
     let mut list = [Node::default(); 128];
     let listed = nodes(file, &mut list[..if rng.chance(5) { 3 } else { 128 }]);
@@ -77,23 +81,24 @@ fn one<'a>(file: &[u8], rng: &mut Rng, room: &mut [u8]) -> Result<Vec<(&'a str, 
         &mut numbers[..if rng.chance(5) { 12 } else { 5 * 1_024 }],
     );
     if checked.number == 0 {
-        promises(file, &[explained, drawn])?;
+        promises(file, &[explained, second, drawn], second)?;
     } else {
         let same = |answers: &[Answer]| answers.iter().all(|&answer| answer == checked);
-        if !same(&[listed, linked]) || option < 2 && !same(&[explained, drawn]) {
+        if !same(&[listed, linked]) || option < 2 && !same(&[explained, second, drawn]) {
             return Err("calls refuse one file differently".to_string());
         }
     }
     Ok(vec![
         ("check", checked),
         ("explain", explained),
+        ("explain_edition 2", second),
         ("graphviz", drawn),
         ("nodes", listed),
         ("edges", linked),
     ])
 }
 
-fn promises(file: &[u8], answers: &[Answer]) -> Result<(), String> {
+fn promises(file: &[u8], answers: &[Answer], second: Answer) -> Result<(), String> {
     let trouble = |refusal| format!("check accepts, and then {refusal:?}");
     let problem = Problem::read(file).map_err(trouble)?;
     let model = problem.model().map_err(trouble)?;
@@ -105,6 +110,24 @@ fn promises(file: &[u8], answers: &[Answer]) -> Result<(), String> {
     let bound = model.depth_bound();
     if answers.iter().any(|answer| answer.depth > bound) {
         return Err(format!("depth above the bound {bound}"));
+    }
+    second_edition(&model, second)
+}
+
+/// What document 02 states of edition 2, order 11: "In edition 2 refusal 11 is never given, and all openings in the whole text
+/// together are at most g + u". The rules end without that refusal's help.
+fn second_edition(model: &Model<'_, '_>, answer: Answer) -> Result<(), String> {
+    let bound = model.openings_bound();
+    let mut room = vec![0; 1 << 24];
+    let rules = model.rules_edition(Edition::Two, false, &mut room, u64::MAX);
+    if answer.number == 11 {
+        return Err("edition 2 gives 11".to_string());
+    }
+    if !rules.ended || rules.openings > bound || answer.depth > rules.openings {
+        let depth = answer.depth;
+        return Err(format!(
+            "edition 2, bound {bound}, depth {depth}: {rules:?}"
+        ));
     }
     Ok(())
 }

@@ -8,6 +8,8 @@
 use std::cell::{Cell, RefCell};
 use std::fmt;
 
+use crate::Edition;
+
 /// What the watch has to know of a node: the number of its solvable, and whether it is merged.
 #[derive(Clone, Copy, Default)]
 pub struct Package {
@@ -41,6 +43,7 @@ pub struct Watch {
 #[derive(Default)]
 struct State {
     packages: Vec<Package>,
+    edition: Edition,
     refuses: bool,
     openings: Vec<Opening>,
     /// For each entry of the stack, the newest opening above it.
@@ -48,14 +51,17 @@ struct State {
     /// The newest opening on the branch of the entry popped last, its own included.
     current: usize,
     depth: u64,
+    /// How many openings were written, on all branches together.
+    opened: u64,
 }
 
 impl Watch {
     /// Begins a text. With `refuses` off the rules run on past a repeated package.
-    pub fn start(&self, packages: Vec<Package>, refuses: bool) {
+    pub fn start(&self, packages: Vec<Package>, edition: Edition, refuses: bool) {
         self.repeated.set(None);
         self.state.replace(State {
             packages,
+            edition,
             refuses,
             openings: vec![TOP],
             ..State::default()
@@ -66,6 +72,7 @@ impl Watch {
         let state = &mut *self.state.borrow_mut();
         // The line of an opening is written once the next entry is asked for.
         state.depth = state.depth.max(state.openings[state.current].depth);
+        state.opened = state.openings.len() as u64 - 1;
         state.branches.resize(stack.len(), state.current);
         state.current = state.branches.pop().unwrap_or(0);
         stack.pop()
@@ -90,12 +97,21 @@ impl Watch {
         Ok(())
     }
 
+    /// Whether a package in no group is reported when it is shown, as a merged one is.
+    pub fn reports_unmerged(&self) -> bool {
+        self.state.borrow().edition == Edition::Two
+    }
+
     pub fn repeated(&self) -> Option<u16> {
         self.repeated.get()
     }
 
     pub fn depth(&self) -> u64 {
         self.state.borrow().depth
+    }
+
+    pub fn opened(&self) -> u64 {
+        self.state.borrow().opened
     }
 }
 

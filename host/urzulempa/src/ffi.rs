@@ -1,4 +1,4 @@
-//! The six exported functions of the library (include/urzulempa.h). None of them has a precondition: a slice is all they ask.
+//! The seven exported functions of the library (include/urzulempa.h). None of them has a precondition: a slice is all they ask.
 
 use crate::{Answer, Node};
 use std::mem::{align_of, size_of};
@@ -6,6 +6,7 @@ use std::mem::{align_of, size_of};
 extern "C" {
     fn urzulempa_explain(file: *const u8, file_len: usize, option: u64, room: *mut u8, room_len: usize) -> Answer;
     fn urzulempa_explain_plain(file: *const u8, file_len: usize, room: *mut u8, room_len: usize) -> Answer;
+    fn urzulempa_explain_edition(file: *const u8, file_len: usize, edition: u64, option: u64, room: *mut u8, room_len: usize) -> Answer;
     fn urzulempa_graphviz(file: *const u8, file_len: usize, option: u64, room: *mut u8, room_len: usize) -> Answer;
     fn urzulempa_check(file: *const u8, file_len: usize) -> Answer;
     fn urzulempa_nodes(file: *const u8, file_len: usize, list: *mut Node, list_len: usize) -> Answer;
@@ -16,7 +17,7 @@ extern "C" {
 const _: () = assert!(size_of::<Answer>() == 40 && align_of::<Answer>() == 8);
 const _: () = assert!(size_of::<Node>() == 10 && align_of::<Node>() == 2);
 
-// SAFETY, for all six: pointer and length are those of one slice, and the library reads and writes inside it only (proved).
+// SAFETY, for all seven: pointer and length are those of one slice, and the library reads and writes inside it only (proved).
 
 pub fn explain(file: &[u8], option: u64, room: &mut [u8]) -> Answer {
     unsafe { urzulempa_explain(file.as_ptr(), file.len(), option, room.as_mut_ptr(), room.len()) }
@@ -24,6 +25,10 @@ pub fn explain(file: &[u8], option: u64, room: &mut [u8]) -> Answer {
 
 pub fn explain_plain(file: &[u8], room: &mut [u8]) -> Answer {
     unsafe { urzulempa_explain_plain(file.as_ptr(), file.len(), room.as_mut_ptr(), room.len()) }
+}
+
+pub fn explain_edition(file: &[u8], edition: u64, option: u64, room: &mut [u8]) -> Answer {
+    unsafe { urzulempa_explain_edition(file.as_ptr(), file.len(), edition, option, room.as_mut_ptr(), room.len()) }
 }
 
 pub fn graphviz(file: &[u8], option: u64, room: &mut [u8]) -> Answer {

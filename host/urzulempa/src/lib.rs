@@ -28,10 +28,12 @@
 //! ```
 
 mod edge;
+mod edition;
 mod ffi;
 mod refusal;
 
 pub use edge::{Edge, EdgeKind};
+pub use edition::Edition;
 pub use refusal::Refusal;
 
 /// What a call says: the text is whole, or a numbered refusal with its place; and what was written.
@@ -97,6 +99,24 @@ pub fn explain(file: &[u8], option: u64, room: &mut [u8]) -> Answer {
 /// Writes the explanation with option 0.
 pub fn explain_plain(file: &[u8], room: &mut [u8]) -> Answer {
     ffi::explain_plain(file, room)
+}
+
+/// Writes the explanation by the rules of an edition, 1 or 2, as [`Edition`] numbers them; any other is refused, as a bad option is,
+/// before all else.
+///
+/// ```
+/// use urzulempa::{explain_edition, Refusal};
+///
+/// // Deck needs panel and panel needs deck: without end in edition 1, five lines in edition 2.
+/// let file = include_bytes!("../../../samples/deck-panel.rec");
+/// let mut room = [0; 1024];
+/// assert_eq!(explain_edition(file, 1, 0, &mut room).refusal(), Some(Refusal::Endless(0)));
+/// let answer = explain_edition(file, 2, 0, &mut room);
+/// assert_eq!((answer.number, answer.units, answer.depth), (0, 5, 2));
+/// assert_eq!(explain_edition(file, 3, 0, &mut room).refusal(), Some(Refusal::Option));
+/// ```
+pub fn explain_edition(file: &[u8], edition: u64, option: u64, room: &mut [u8]) -> Answer {
+    ffi::explain_edition(file, edition, option, room)
 }
 
 /// Writes the graph in the DOT language; option 1 draws each merge group once.

@@ -6,12 +6,14 @@ mod lists;
 use std::fs;
 use std::io::{self, Read, Write};
 use std::process::ExitCode;
-use urzulempa::{check, edges, explain, graphviz, grown, Answer, Refusal};
+use urzulempa::{check, edges, graphviz, grown, Answer, Edition, Refusal};
 
 const HELP: &str = "\
 urzulempa: why a load of packages has no solution, from a file of clause records
 
   urzulempa explain FILE [--indent] [--room N]   the explanation; --indent draws the top level too
+            [--edition E]                        E is 1, the Rust's rules and the default, by which a text may have no end, or 2,
+                                                 by which every package is shown once and a text always ends
   urzulempa graph FILE [--simplify] [--room N]   the graph in the DOT language; --simplify draws a merge group once
   urzulempa nodes FILE                           the nodes: number, kind, what it names, first node of its group, labels, and the
                                                  clause that first added it (65535: none) with its record
@@ -25,6 +27,7 @@ Exit status: 0 done, 2 refused, 1 trouble with a file, 64 wrong usage.
 
 Examples:
   urzulempa explain samples/replay.rec
+  urzulempa explain samples/deck-panel.rec --edition 2
   urzulempa graph samples/replay.rec --simplify | dot -Tsvg > replay.svg
   urzulempa edges samples/rack.rec deck 3.1
   urzulempa check - < samples/rack.rec
@@ -49,6 +52,7 @@ fn run(words: &[String]) -> Result<ExitCode, String> {
     }
     let (mut file, mut package) = (None, None);
     let (mut option, mut room) = (0, DEFAULT_ROOM);
+    let mut edition = Edition::One;
     let mut rest = words[1..].iter();
     while let Some(word) = rest.next() {
         match (words[0].as_str(), word.as_str()) {
@@ -56,6 +60,10 @@ fn run(words: &[String]) -> Result<ExitCode, String> {
             ("explain" | "graph", "--room") => match rest.next().and_then(|n| n.parse().ok()) {
                 Some(n) => room = n,
                 None => return Ok(usage("--room wants a number of bytes")),
+            },
+            ("explain", "--edition") => match rest.next().and_then(|n| n.parse().ok()).and_then(Edition::of) {
+                Some(e) => edition = e,
+                None => return Ok(usage("--edition wants 1 or 2")),
             },
             // A version behind a name needs no quotes, and a name may begin with a hyphen.
             ("edges", w) if file.is_some() => {
@@ -75,7 +83,7 @@ fn run(words: &[String]) -> Result<ExitCode, String> {
     let Some(name) = file else { return Ok(usage("FILE is missing")) };
     let bytes = read(&name)?;
     match words[0].as_str() {
-        "explain" => text(&bytes, grown(room, |r| explain(&bytes, option, r))),
+        "explain" => text(&bytes, grown(room, |r| edition.explain(&bytes, option, r))),
         "graph" => text(&bytes, grown(room, |r| graphviz(&bytes, option, r))),
         "nodes" => node_list(&bytes),
         "edges" => edge_list(&bytes, package.as_deref()),
@@ -143,6 +151,9 @@ fn told(file: &[u8], answer: &Answer) -> ExitCode {
     if let Some((record, said)) = record.and_then(|r| decode::describe(file, r).map(|said| (r, said))) {
         let fault = decode::fault(file, answer.number, record).map(|f| format!("{f}; ")).unwrap_or_default();
         say(&format!("record {record}: {said}; {fault}{}", decode::defined(file, record)));
+    }
+    if let Refusal::Endless(_) = refusal {
+        say("with --edition 2 every package is shown once, and the text ends");
     }
     ExitCode::from(2)
 }

@@ -78,7 +78,7 @@ impl fmt::Display for Refusal {
             Self::Unreached(n) => write!(f, "node {n} is not reached from the root: the core lacks a clause that leads to it"),
             Self::Room(u) => write!(f, "the room, or the list, holds no more than {u} whole units: lend a larger one"),
             Self::Endless(s) => write!(f, "solvable {s} comes to be opened below itself, so the explanation would never end: the lines before that are whole, and the load has a cycle to break"),
-            Self::Option => write!(f, "the option is neither 0 nor 1: pass one of them"),
+            Self::Option => write!(f, "the option is neither 0 nor 1, or the edition neither 1 nor 2: pass one of them"),
             Self::Unknown(n) => write!(f, "refusal {n}, which no call gives"),
         }
     }

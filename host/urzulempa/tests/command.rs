@@ -198,9 +198,36 @@ fn an_endless_text_is_cut_and_a_small_room_leaves_whole_lines() {
 }
 
 #[test]
+fn edition_2_shows_each_package_once_and_ends() {
+    let out = run(&["explain", "-", "--edition", "2"], DECK_PANEL);
+    assert_eq!((out.status.code(), said(&out.stderr)), (Some(0), String::new()));
+    let wanted = "deck * cannot be installed because there are no viable options:\n\
+                  └─ deck 1 would require\n   \
+                  └─ panel *, which cannot be installed because there are no viable options:\n      \
+                  └─ panel 1 would require\n         \
+                  └─ deck *, which cannot be installed because there are no viable options:\n";
+    assert_eq!(said(&out.stdout), wanted);
+    // Edition 1 is what comes without the word, to the byte, and points to edition 2 where it has no end.
+    for file in [DECK_PANEL, REPLAY, RACK] {
+        for more in [&[][..], &["--indent"], &["--room", "300"]] {
+            let (plain, first) = (run(&[&["explain", "-"], more].concat(), file), run(&[&["explain", "-", "--edition", "1"], more].concat(), file));
+            assert_eq!((plain.status.code(), plain.stdout, &plain.stderr), (first.status.code(), first.stdout, &first.stderr));
+            assert_eq!(said(&plain.stderr).contains("--edition 2"), plain.status.code() == Some(2) && said(&plain.stderr).starts_with("refused 11"));
+        }
+    }
+    let out = run(&["explain", "--edition", "2", "-", "--indent", "--room", "120"], DECK_PANEL);
+    assert_eq!((out.status.code(), said(&out.stdout).lines().count()), (Some(2), 2));
+    assert!(said(&out.stderr).starts_with("refused 10 at unit 2"));
+}
+
+#[test]
 fn wrong_usage_is_status_64_and_a_file_that_is_not_there_1() {
     for words in [&[][..], &["explain"], &["draw", "-"], &["edges"], &["edges", "--all"], &["check", "-", "--indent"], &["explain", "-", "--room", "many"], &["check", "a", "b"]] {
         assert_eq!(run(words, &[]).status.code(), Some(64), "{words:?}");
+    }
+    for words in [&["explain", "-", "--edition"][..], &["explain", "-", "--edition", "0"], &["explain", "-", "--edition", "3"], &["explain", "-", "--edition", "two"], &["graph", "-", "--edition", "2"], &["check", "-", "--edition", "2"]] {
+        let out = run(words, REPLAY);
+        assert_eq!((out.status.code(), out.stdout.len()), (Some(64), 0), "{words:?}");
     }
     assert_eq!(run(&["check", "there/is/no/such.rec"], &[]).status.code(), Some(1));
     assert_eq!(run(&["--help"], &[]).status.code(), Some(0));

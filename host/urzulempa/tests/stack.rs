@@ -1,7 +1,7 @@
 //! Every call runs on a thread with 128 KiB of stack and a guard page behind it.
 
 use std::thread::Builder;
-use urzulempa::{check, edge_numbers, edges, explain, explain_plain, graphviz, nodes, Node, MOST_EDGES, MOST_NODES};
+use urzulempa::{check, edge_numbers, edges, explain, explain_edition, explain_plain, graphviz, nodes, Node, MOST_EDGES, MOST_NODES};
 
 const SAMPLES: [&[u8]; 5] = [
     include_bytes!("../../../samples/replay.rec"),
@@ -23,6 +23,8 @@ fn explain_fits() {
         for file in SAMPLES {
             assert!([0, 11].contains(&explain(file, 1, &mut room).number));
             assert!([0, 11].contains(&explain_plain(file, &mut room).number));
+            assert!([0, 11].contains(&explain_edition(file, 1, 0, &mut room).number));
+            assert!(explain_edition(file, 2, 1, &mut room).is_done());
         }
     });
 }

@@ -17,6 +17,7 @@ use Rattle.groups.specs.Groups.{mates}
 use Rattle.machine.specs.Machine.{Plan, Entry, Op, requirement, candidate, start}
 use Rattle.machine.specs.Units.{Result}
 use Rattle.machine.specs.Explained.{explain}
+use Rattle.machine.specs.Edition.{edited}
 use Rattle.texts.specs.Indent.{indent}
 use Rattle.plan.specs.Plan.{Shown, shownOf, Kind, excluded, bare, conflicting, constraining, requiring, reasonsBy, isForbid, setsBy, joinSet, setsOf, bySets, byReasons, isRequiring, isMerged, leadOf, sorted, popped, kidsOf, reasonsOf, kindOf, planOf, startOf}
 use Rattle.plan.specs.Display.{solvableOf}
@@ -92,11 +93,11 @@ module _ (f : Edge → ℕ) (fs : List ℕ) (h : ℕ) (T : Tables) (G : Graph) (
       go (requirement r) = refl
       go (candidate n) = ap (packageLines R opt (e .marks) n) (kind-same n) ∙ package-same opt (e .marks) n (kindOf S n)
 
-  shown-same : (n opt room : ℕ) → explainShown n R opt room ≡ explainShown n S opt room
-  shown-same n opt room =
-      ap (λ (P : Plan Run). explain P (linesOf R opt) (solvableOf S) n (startOf R) room) plan-same
-      ∙ ap (λ (ls : Entry Run → List (List ℕ)). explain (planOf S) ls (solvableOf S) n (startOf R) room) (fun-ext (lines-same opt))
-      ∙ ap (λ (rs : List Run). explain (planOf S) (linesOf S opt) (solvableOf S) n (start rs) room) (popped-same 0)
+  shown-same : (ed n opt room : ℕ) → explainShown ed n R opt room ≡ explainShown ed n S opt room
+  shown-same ed n opt room =
+      ap (λ (P : Plan Run). explain (edited ed P) (linesOf R opt) (solvableOf S) n (startOf R) room) plan-same
+      ∙ ap (λ (ls : Entry Run → List (List ℕ)). explain (edited ed (planOf S)) ls (solvableOf S) n (startOf R) room) (fun-ext (lines-same opt))
+      ∙ ap (λ (rs : List Run). explain (edited ed (planOf S)) (linesOf S opt) (solvableOf S) n (start rs) room) (popped-same 0)
 
 module _ (f : Edge → ℕ) (fs : List ℕ) (h : ℕ) (T : Tables) (G : Graph) where
   abbrev shownBy : List ℕ → (ℕ → List ℕ) → Shown
@@ -111,9 +112,9 @@ module _ (f : Edge → ℕ) (fs : List ℕ) (h : ℕ) (T : Tables) (G : Graph) w
       ap (λ (is : List ℕ). shownBy is (mates name (other f fs h G))) (installables-ignore f fs h G)
       ∙ ap (shownBy (installables G)) (fun-ext (mates-ignores f fs h G name))
 
-  -- n: however many turns are taken
-  pub explain-ignores : (n opt room : ℕ) → explainShown n (shownOf T (other f fs h G)) opt room ≡ explainShown n (shownOf T G) opt room
+  -- by the rules of either edition; n: however many turns are taken
+  pub explain-ignores : (ed n opt room : ℕ) → explainShown ed n (shownOf T (other f fs h G)) opt room ≡ explainShown ed n (shownOf T G) opt room
   unfolding shownOf
-  explain-ignores n opt room =
-      ap (λ (x : Shown). explainShown n x opt room) labelled-same
-      ∙ shown-same f fs h T G (installables G) (map (mates name G) (upto (length (G .nodes)) 0)) n opt room
+  explain-ignores ed n opt room =
+      ap (λ (x : Shown). explainShown ed n x opt room) labelled-same
+      ∙ shown-same f fs h T G (installables G) (map (mates name G) (upto (length (G .nodes)) 0)) ed n opt room

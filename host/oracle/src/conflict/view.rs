@@ -12,7 +12,7 @@ use crate::rooms::{Lines, Pieces, Room};
 use crate::standins::internal::id::ClauseId;
 use crate::standins::Interner;
 use crate::watch::Package;
-use crate::{Answer, Edge, Node, Refusal};
+use crate::{Answer, Edge, Edition, Node, Refusal};
 
 /// The graph of a file with its groups and labels.
 pub struct View<'p, 'a> {
@@ -30,6 +30,7 @@ pub struct Drawn {
 pub struct Told {
     pub answer: Answer,
     pub ended: bool,
+    pub openings: u64,
 }
 
 /// Refusals 7 to 9, or the graph alone.
@@ -85,9 +86,9 @@ impl<'p, 'a> View<'p, 'a> {
 
     /// `fmt_graph` on all outgoing edges of the root. With `refuses` off only the room and the
     /// budget of lines end a text that never ends.
-    pub fn explain(&self, indent: bool, refuses: bool, room: Room<'_>) -> Told {
+    pub fn explain(&self, edition: Edition, indent: bool, refuses: bool, room: Room<'_>) -> Told {
         let watch = self.unsat.interner.watch();
-        watch.start(self.packages(), refuses);
+        watch.start(self.packages(), edition, refuses);
         let mut lines = Lines::new(room);
         let ended = write!(lines, "{}", Top { view: self, indent }).is_ok();
         let (units, bytes) = (lines.room.units_written(), lines.room.bytes_written());
@@ -106,6 +107,7 @@ impl<'p, 'a> View<'p, 'a> {
                 depth,
             },
             ended,
+            openings: watch.opened(),
         }
     }
 

@@ -33,6 +33,19 @@ pub fn explain(file: &[u8], option: u64, room: &mut [u8]) -> Answer {
     answer
 }
 
+/// Edition 1 has to be what `explain` gives, too.
+pub fn explain_edition(file: &[u8], edition: u64, option: u64, room: &mut [u8]) -> Answer {
+    let (mut ours, mut first) = (room.to_vec(), room.to_vec());
+    let port = urzulempa::explain_edition(file, edition, option, &mut ours);
+    let answer = same(oracle::explain_edition(file, edition, option, room), port);
+    assert!(ours == room, "the port leaves other bytes");
+    if edition == 1 {
+        assert_eq!(explain(file, option, &mut first), answer);
+        assert!(first == room, "edition 1 leaves other bytes than explain");
+    }
+    answer
+}
+
 pub fn graphviz(file: &[u8], option: u64, room: &mut [u8]) -> Answer {
     let mut ours = room.to_vec();
     let port = urzulempa::graphviz(file, option, &mut ours);
@@ -69,6 +82,15 @@ pub fn edge_numbers(file: &[u8], list: &mut [u16]) -> Answer {
 /// The explanation with room to spare.
 pub fn told(file: &[u8], option: u64) -> (Answer, String) {
     written(explain, file, option)
+}
+
+/// The explanation by the rules of an edition, option 0, with room to spare.
+pub fn told_edition(file: &[u8], edition: u64) -> (Answer, Vec<String>) {
+    let mut room = vec![0; 1 << 16];
+    let answer = explain_edition(file, edition, 0, &mut room);
+    room.truncate(answer.bytes as usize);
+    let text = String::from_utf8(room).expect("whole units are UTF-8");
+    (answer, text.lines().map(str::to_string).collect())
 }
 
 /// The graph text with room to spare.

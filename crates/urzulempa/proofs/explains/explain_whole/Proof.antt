@@ -5,13 +5,13 @@ use Rattle.urzulempa.proofs.explains.explain_whole.Statement.{statement
 use Rattle.urzulempa.proofs.explains.explain_whole.Tie as tie
 use Rattle.urzulempa.proofs.explains.explain_whole.Reads as reads
 use Rattle.urzulempa.proofs.explains.explain_whole.Lts as lts
-use Rattle.urzulempa.proofs.explains.plan_of.Reads as plan-of-reads
+use Rattle.urzulempa.proofs.explains.plan_as.Reads as plan-as-reads
 use Rattle.explanation.proofs.walk.explain_plan.Reads as explain-plan-reads
 use Rattle.urzulempa.proofs.explains.told.Reads as told-reads
 
 -- src/explains.rt:99:5
-plan-of-requires : tie.Need-plan-of-requires
-plan-of-requires c κs = (search needs, (search needs, search (needs, fresh-plan)))
+plan-as-requires : tie.Need-plan-as-requires
+plan-as-requires c κs = (search needs, (search needs, search (needs, fresh-plan)))
 
 -- src/explains.rt:100:9
 explain-plan-requires : tie.Need-explain-plan-requires
@@ -31,4 +31,4 @@ returns c = search (needs, whole-says)
 
 pub explain-whole-spec : {M : Type 1} → statement M
 explain-whole-spec =
-    tie.close (tie.spec plan-of-requires explain-plan-requires told-requires same-length returns)
+    tie.close (tie.spec plan-as-requires explain-plan-requires told-requires same-length returns)

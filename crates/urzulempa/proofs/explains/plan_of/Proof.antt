@@ -1,4 +1,4 @@
-use Rattle.urzulempa.specs.Says.{labelled}
+use Rattle.urzulempa.specs.Says.{labelled, made-long}
 use borrow.Author.Needs.{needs}
 use Rattle.urzulempa.proofs.explains.plan_of.Statement.{statement}
 use Rattle.urzulempa.proofs.explains.plan_of.Tie as tie
@@ -32,7 +32,7 @@ build-plan-requires c κs = (
 
 -- src/explains.rt:25:1
 returns : tie.Need-returns
-returns c = search needs
+returns c = (search needs, search (needs, made-long))
 
 pub plan-of-spec : {M : Type 1} → statement M
 plan-of-spec = tie.close (tie.spec label-requires group-named-requires build-plan-requires returns)

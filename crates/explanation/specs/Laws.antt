@@ -1,0 +1,5 @@
+pub mod Solvables
+pub mod Numbers
+pub mod Reading
+pub mod First
+pub mod Second
