@@ -3,13 +3,13 @@ use mathlib.Core.Path.{_≡_, refl, sym, ap, _∙_}
 use mathlib.Core.Bool.{Bool, true, false}
 use mathlib.Core.Option.{Option, none, some}
 use mathlib.Core.List.{List, [], _∷_, _++_, map, map-append}
-use Prim.Native.Nat.{ℕ, zero, suc, _+_, _*_, _/_, _%_, _<_, _≤_}
+use Prim.Native.Nat.{ℕ, zero, suc, _+_, _*_, _-_, _/_, _%_, _<_, _≤_}
 use native.Mathlib.Numerals.{add-one}
 use native.Mathlib.Omega.{arith}
 use lib.ListN.{length, getD, take, drop, set, replicate, length-replicate, length-set, length-drop, drop-of-length-le}
 use lib.Seq.{take-suc-set, take-set-le, drop-set-add, drop-set-lt, getD-set-same, getD-set-other, drop-cons, getD-take, getD-drop, length-take-le}
 use lib.Dec.{eqb}
-use borrow.Author.Tests.{eqb-true, eqb-false, eq-eqb, ne-eqb, lt-ltb, le-ltb}
+use borrow.Author.Tests.{eqb-true, eqb-false, eq-eqb, ne-eqb, lt-ltb, le-ltb, lt-leb, le-leb}
 use Rattle.basis.specs.Lists.{place, snoc}
 use Rattle.basis.specs.Members.{split}
 use Rattle.store.specs.declared.ConflictNode.{ConflictNode}
@@ -18,9 +18,11 @@ use Rattle.store.specs.declared.Edge.{Edge}
 use Rattle.store.specs.declared.Size.{Size}
 use Rattle.store.specs.declared.Put.{Put}
 use Rattle.store.specs.declared.Put.the-variants.{At, Full}
+use Rattle.store.specs.Direct.{entryAt, Direct, entered, more, withNodes, putAt}
+use Rattle.store.specs.Laws.Direct.{edge-same, under-low, under-entry, under-edge, entered-length, entered-node, entered-nodes, entered-edges, entered-low, entered-own, entered-other, direct-same}
 use Rattle.store.specs.Graph.{Graph, Added, added, full, sameNode, startGraph, withNode, withEdge, addNode, addEdge, addLink}
 use Rattle.store.specs.Words.{wordOf, nodeOf, firstOf, edgeWord, edgeOf, nodeNumber, EdgeWord, NodeWord, node-back, node-low, first-back, low-back, low-word, same-word}
-use Rattle.store.specs.Table.{nodeWords, graphIn, Growing, addedIn, sizeOf, placeOf, nodes-count, edges-count}
+use Rattle.store.specs.Table.{nodeWords, graphIn, Growing, addedIn, sizeOf, placeOf, taken-growing, nodes-count, edges-count}
 
 -- ---- finding a word among the nodes' words
 
@@ -78,6 +80,51 @@ module _ (g : List ℕ) (s : Size) (w n : ℕ) (P : Growing g s) (h : n < s .nod
 
   pub find-near : n ≡ findOf g (s .nodes) w
   find-near = find-hit g (s .nodes) w n (findOf g (s .nodes) w) (near-left n (omega arith)) h (P .stored .nodes-most) (P .stored .long) e
+
+-- a word that stands nowhere is not found
+module _ (g : List ℕ) (k w : ℕ) (m : k ≤ 128) (l : length g ≡ 1152) (none-is : (i : ℕ) → i < k → getD g (1024 + i) 0 % 262144 ≡ w → ⊥) where
+  none-left : (i : ℕ) → i ≤ k → findLeft g k w i ≡ findOf g k w
+  none-left zero h = find-start g k w
+  none-left (suc i) h =
+      let z : findLeft g k w (i + 1) ≡ findOf g k w = find-next g k w i (findOf g k w) (none-left i (omega arith)) (omega arith) m l (none-is i (omega arith)) in
+      rw add-one at z
+
+  find-none : k ≡ findOf g k w
+  find-none = find-end g k w k (findOf g k w) (none-left k (omega arith)) (omega arith) m l
+
+-- ---- what the direct table answers; e is the entry read
+
+module _ (g : List ℕ) (s : Size) (w e : ℕ) (P : Growing g s) (q : e ≡ getD g (w / 2) 0 / 72057594037927936) (o : w % 2 ≡ 1) (h : w < 2048) where
+  pub direct-found : (e ≡ 0 → ⊥) → (e - 1) ≡ findOf g (s .nodes) w
+  direct-found d =
+      let a : entryAt g (w / 2) ≡ (e - 1) + 1 = sym q ∙ back e d in
+      let z : ((e - 1) < s .nodes) × (getD g (1024 + (e - 1)) 0 % 262144 ≡ 1 + 2 * (w / 2)) = P .stored .direct .stands (e - 1) (w / 2) (omega arith) a in
+      find-near g s w (e - 1) P (z .0) (z .1 ∙ omega arith)
+    where
+      back : (e : ℕ) → (e ≡ 0 → ⊥) → e ≡ (e - 1) + 1
+      back e d = omega (arith, d)
+
+  pub direct-none : e ≡ 0 → s .nodes ≡ findOf g (s .nodes) w
+  direct-none z =
+      find-none g (s .nodes) w (P .stored .nodes-most) (P .stored .long)
+      (λ i l y. let a : entryAt g (w / 2) ≡ i + 1 = P .stored .direct .told i (w / 2) l (omega arith) (y ∙ omega arith) in
+      let b : _≡_ {A = ℕ} 0 (i + 1) = sym z ∙ q ∙ a in omega arith)
+
+-- root and unresolved
+pub direct-few : (g : List ℕ) (s : Size) (w : ℕ) → Growing g s → w ≤ 2 → (w % 2 ≡ 1 → ⊥) → w / 2 ≡ findOf g (s .nodes) w
+direct-few g s w P h d =
+    split (eqb w 0)
+    (λ t. let z : w ≡ 0 = eqb-true w 0 t in rw z (find-near g s 0 0 P (P .stored .some) (ap (λ (n : ℕ). n % 262144) (P .stored .root))))
+    (λ t. let f : w ≡ 0 → ⊥ = eqb-false w 0 t in
+    let z : w ≡ 2 = two-is w h d f in
+    rw z (find-near g s 2 1 P (P .two) (ap (λ (n : ℕ). n % 262144) (P .second))))
+  where
+    two-is : (w : ℕ) → w ≤ 2 → (w % 2 ≡ 1 → ⊥) → (w ≡ 0 → ⊥) → w ≡ 2
+    two-is zero h d f = absurd (f refl)
+    two-is (suc zero) h d f = absurd (d refl)
+    two-is (suc (suc w)) h d f = omega arith
+
+pub ruleset directs = (direct-found, direct-none, direct-few)
 
 -- ---- words are equal just where nodes are, so the place of the word is the place of the node
 
@@ -146,17 +193,34 @@ module _ (g : List ℕ) (s : Size) (x : ConflictNode) (w : ℕ) (P : Growing g s
         (λ j q. let b : j < 0 + length (nodeWords g (s .nodes)) = place-below (is w) (nodeWords g (s .nodes)) 0 j q in
         omega (arith, length-take-le (s .nodes) (drop 1024 g) wide))
 
-    pub add-old : i < s .nodes → added i (graphIn g s) ≡ addNode (graphIn g s) x
-    unfolding addNode
-    add-old h = rw (found h, addNode)
+    -- the number of a node that is there
+    pub add-old : i < s .nodes → addedIn g (putAt s i) ≡ addNode (graphIn g s) x
+    unfolding addNode putAt graphIn
+    add-old h =
+        let z : graphIn g s ≡ graphIn g (withNodes s (s .nodes)) = refl in
+        rw (lt-leb 128 i (omega (arith, P .stored .nodes-most)), lt-ltb i (s .nodes) h, found h, addNode)
 
-    pub add-full : s .nodes ≤ i → 128 ≤ s .nodes → full (graphIn g s) ≡ addNode (graphIn g s) x
-    unfolding addNode
+    pub held-old : i < s .nodes → Growing g (sizeOf (putAt s i))
+    unfolding putAt
+    held-old h = rw (lt-leb 128 i (omega (arith, P .stored .nodes-most)), lt-ltb i (s .nodes) h) (taken-growing g s (s .hand) P)
+
+    pub below-old : i < s .nodes → placeOf (putAt s i) < sizeOf (putAt s i) .nodes
+    unfolding putAt
+    below-old h = rw (lt-leb 128 i (omega (arith, P .stored .nodes-most)), lt-ltb i (s .nodes) h) h
+
+    pub add-full : s .nodes ≤ i → 128 ≤ s .nodes → addedIn g (putAt s 128) ≡ addNode (graphIn g s) x
+    unfolding addNode putAt
     add-full h l = rw (missed h, addNode, nodes-count g s (P .stored), le-ltb (s .nodes) 128 l)
 
-    -- the word with the clause at hand
+    -- the word with the clause at hand, and the table with it and its entry
     abbrev v : ℕ
     v = w + 262144 * s .hand
+
+    abbrev one : List ℕ
+    one = set g (1024 + s .nodes) v
+
+    abbrev both : List ℕ
+    both = entered one w (s .nodes + 1)
 
     v-node : s .hand < 65536 → nodeOf v ≡ x
     v-node b = node-low w (s .hand) ∙ rw (e .is) (node-back x (e .fits))
@@ -164,18 +228,19 @@ module _ (g : List ℕ) (s : Size) (x : ConflictNode) (w : ℕ) (P : Growing g s
     v-first : s .hand < 65536 → firstOf v ≡ s .hand
     v-first b = first-back w (s .hand) (e .small) b
 
-    more : s .nodes < 128 → s .hand < 65536 → graphIn (set g (1024 + s .nodes) v) (oneNode s) ≡ withNode (graphIn g s) x
+    wider : s .nodes < 128 → s .hand < 65536 → graphIn both (oneNode s) ≡ withNode (graphIn g s) x
     unfolding graphIn
-    more l f =
+    wider l f =
         let a : s .nodes < length (drop 1024 g) = rw length-drop (omega (arith, P .stored .long)) in
         let b : s .edges ≤ 1024 + s .nodes = omega (arith, P .stored .edges-most) in
         let c : nodeOf v ≡ x = v-node f in
         let d : firstOf v ≡ s .hand = v-first f in
-        rw (add-one (s .nodes), drop-set-add 1024 g (s .nodes) v, take-suc-set (drop 1024 g) (s .nodes) v a, map-append nodeOf, map-append firstOf, take-set-le (s .edges) g (1024 + s .nodes) v b, c, d)
+        rw (entered-nodes one w (s .nodes + 1), entered-edges one w (s .nodes + 1) (s .edges))
+        (rw (add-one (s .nodes), drop-set-add 1024 g (s .nodes) v, take-suc-set (drop 1024 g) (s .nodes) v a, map-append nodeOf, map-append firstOf, take-set-le (s .edges) g (1024 + s .nodes) v b, c, d))
 
-    pub add-new : s .nodes ≤ i → s .nodes < 128 → s .hand < 65536 → added (s .nodes) (graphIn (set g (1024 + s .nodes) (w + 262144 * s .hand)) (oneNode s)) ≡ addNode (graphIn g s) x
-    unfolding addNode
-    add-new h l f = rw (missed h, addNode, nodes-count g s (P .stored), lt-ltb (s .nodes) 128 l) (ap (added (s .nodes)) (more l f))
+    put-new : s .nodes < 128 → putAt s (s .nodes) ≡ At (s .nodes) (oneNode s)
+    unfolding putAt
+    put-new l = rw (lt-leb 128 (s .nodes) l, le-ltb (s .nodes) (s .nodes) (omega arith))
 
     -- no node has the word that was not found
     fresh : s .nodes ≤ i → (j : ℕ) → j < s .nodes → getD g (1024 + j) 0 % 262144 ≡ w → ⊥
@@ -185,43 +250,109 @@ module _ (g : List ℕ) (s : Size) (x : ConflictNode) (w : ℕ) (P : Growing g s
         let y : eqb w (getD g (1024 + j) 0 % 262144) ≡ false = rw (getD-take (s .nodes) (drop 1024 g) j 0 b, getD-drop 1024 g j 0) at z in
         eqb-false w (getD g (1024 + j) 0 % 262144) y (sym q)
 
-    pub grow-node : s .nodes ≤ i → s .nodes < 128 → s .hand < 65536 → Growing (set g (1024 + s .nodes) (w + 262144 * s .hand)) (oneNode s)
+    grow-node : s .nodes ≤ i → s .nodes < 128 → s .hand < 65536 → Growing both (oneNode s)
     grow-node h l f =
-        record { stored = record { long = rw length-set (P .stored .long); some = omega arith; nodes-most = omega arith; edges-most = P .stored .edges-most; root = rw (getD-set-other g (1024 + s .nodes) 1024 v 0 (λ q. omega (arith, P .two))) (P .stored .root); word = words; no-node = no-node; packed = λ k h. rw (apart k (omega (arith, P .stored .edges-most))) (P .stored .packed k h); no-edge = λ k h l. rw (apart k l) (P .stored .no-edge k h l); source = sources; target = targets }; two = omega (arith, P .two); unlike = unlike }
+        record { stored = record { long = entered-length one w (s .nodes + 1) ∙ one-long; some = omega arith; nodes-most = omega arith; edges-most = P .stored .edges-most; root = old 0 (omega (arith, P .two)) ∙ P .stored .root; word = words; no-node = no-node; packed = packed; no-edge = λ k h l. under k l ∙ P .stored .no-edge k h l; source = sources; target = targets; direct = record { told = told; stands = stands } }; two = omega (arith, P .two); second = old 1 (P .two) ∙ P .second; unlike = unlike }
       where
         low : ℕ → ℕ
         low n = n % 262144
 
-        words : (j : ℕ) → j < s .nodes + 1 → wordOf (nodeOf (getD (set g (1024 + s .nodes) v) (1024 + j) 0)) + 262144 * firstOf (getD (set g (1024 + s .nodes) v) (1024 + j) 0) ≡ getD (set g (1024 + s .nodes) v) (1024 + j) 0
+        one-long : length one ≡ 1152
+        one-long = length-set g (1024 + s .nodes) v ∙ P .stored .long
+
+        here : getD both (1024 + s .nodes) 0 ≡ v
+        here = entered-node one w (s .nodes + 1) (s .nodes) ∙ getD-set-same g (1024 + s .nodes) v 0 (omega (arith, P .stored .long))
+
+        there : (j : ℕ) → (j ≡ s .nodes → ⊥) → getD both (1024 + j) 0 ≡ getD g (1024 + j) 0
+        there j d = entered-node one w (s .nodes + 1) j ∙ getD-set-other g (1024 + s .nodes) (1024 + j) v 0 (λ q. d (omega arith))
+
+        old : (j : ℕ) → j < s .nodes → getD both (1024 + j) 0 ≡ getD g (1024 + j) 0
+        old j b = there j (λ q. omega arith)
+
+        words : (j : ℕ) → j < s .nodes + 1 → wordOf (nodeOf (getD both (1024 + j) 0)) + 262144 * firstOf (getD both (1024 + j) 0) ≡ getD both (1024 + j) 0
         words j h =
             split (eqb j (s .nodes))
-            (λ t. rw (eqb-true j (s .nodes) t, getD-set-same g (1024 + s .nodes) v 0 (omega (arith, P .stored .long)), v-node f, v-first f) (ap (λ (n : ℕ). n + 262144 * s .hand) (sym (e .is))))
+            (λ t. rw (eqb-true j (s .nodes) t, here, v-node f, v-first f) (ap (λ (n : ℕ). n + 262144 * s .hand) (sym (e .is))))
             (λ t. let d : j ≡ s .nodes → ⊥ = eqb-false j (s .nodes) t in
-            rw (getD-set-other g (1024 + s .nodes) (1024 + j) v 0 (λ q. d (omega arith))) (P .stored .word j (omega (arith, d))))
+            rw (there j d) (P .stored .word j (omega (arith, d))))
 
-        apart : (k : ℕ) → k < 1024 → getD (set g (1024 + s .nodes) v) k 0 ≡ getD g k 0
+        apart : (k : ℕ) → k < 1024 → getD one k 0 ≡ getD g k 0
         apart k h = getD-set-other g (1024 + s .nodes) k v 0 (λ q. omega arith)
 
-        no-node : (i : ℕ) → s .nodes + 1 ≤ i → i < 128 → getD (set g (1024 + s .nodes) v) (1024 + i) 0 ≡ 0
-        no-node i h m = getD-set-other g (1024 + s .nodes) (1024 + i) v 0 (λ q. omega arith) ∙ P .stored .no-node i (omega arith) m
+        under : (k : ℕ) → k < 1024 → getD both k 0 % 72057594037927936 ≡ getD g k 0 % 72057594037927936
+        under k h = entered-low one w (s .nodes + 1) one-long k ∙ ap (λ (n : ℕ). n % 72057594037927936) (apart k h)
 
-        sources : (k : ℕ) → k < s .edges → getD (set g (1024 + s .nodes) v) k 0 % 256 < 128
-        sources k h = rw (apart k (omega (arith, P .stored .edges-most))) (P .stored .source k h)
+        edge : (k : ℕ) → k < s .edges → edgeOf (getD both k 0) ≡ edgeOf (getD g k 0)
+        edge k h = edge-same (getD both k 0) (getD g k 0) (under k (omega (arith, P .stored .edges-most)))
 
-        targets : (k : ℕ) → k < s .edges → getD (set g (1024 + s .nodes) v) k 0 / 256 % 256 < s .nodes + 1
-        targets k h = rw (apart k (omega (arith, P .stored .edges-most))) (omega (arith, P .stored .target k h))
+        no-node : (i : ℕ) → s .nodes + 1 ≤ i → i < 128 → getD both (1024 + i) 0 ≡ 0
+        no-node i h m = there i (λ q. omega arith) ∙ P .stored .no-node i (omega arith) m
 
-        old : (j : ℕ) → j < s .nodes → getD (set g (1024 + s .nodes) v) (1024 + j) 0 ≡ getD g (1024 + j) 0
-        old j b = getD-set-other g (1024 + s .nodes) (1024 + j) v 0 (λ q. omega arith)
+        packed : (k : ℕ) → k < s .edges → edgeWord (edgeOf (getD both k 0)) ≡ getD both k 0 % 72057594037927936
+        packed k h = ap edgeWord (edge k h) ∙ P .stored .packed k h ∙ sym (under k (omega (arith, P .stored .edges-most)))
 
-        unlike : (j k : ℕ) → j < k → k < s .nodes + 1 → getD (set g (1024 + s .nodes) v) (1024 + j) 0 % 262144 ≡ getD (set g (1024 + s .nodes) v) (1024 + k) 0 % 262144 → ⊥
+        sources : (k : ℕ) → k < s .edges → getD both k 0 % 256 < 128
+        sources k h = let z : getD both k 0 % 256 ≡ getD g k 0 % 256 = ap (λ (r : Edge). r .source) (edge k h) in rw z (P .stored .source k h)
+
+        targets : (k : ℕ) → k < s .edges → getD both k 0 / 256 % 256 < s .nodes + 1
+        targets k h = let z : getD both k 0 / 256 % 256 ≡ getD g k 0 / 256 % 256 = ap (λ (r : Edge). r .target) (edge k h) in rw z (omega (arith, P .stored .target k h))
+
+        new : getD both (1024 + s .nodes) 0 % 262144 ≡ w
+        new = ap low here ∙ low-back w (s .hand) (e .small) f
+
+        unlike : (j k : ℕ) → j < k → k < s .nodes + 1 → getD both (1024 + j) 0 % 262144 ≡ getD both (1024 + k) 0 % 262144 → ⊥
         unlike j k b c q =
-            let u : getD g (1024 + j) 0 % 262144 ≡ getD (set g (1024 + s .nodes) v) (1024 + k) 0 % 262144 = ap low (sym (old j (omega arith))) ∙ q in
+            let u : getD g (1024 + j) 0 % 262144 ≡ getD both (1024 + k) 0 % 262144 = ap low (sym (old j (omega arith))) ∙ q in
             split (eqb k (s .nodes))
-            (λ t. let y : getD (set g (1024 + s .nodes) v) (1024 + k) 0 % 262144 ≡ w = rw (eqb-true k (s .nodes) t, getD-set-same g (1024 + s .nodes) v 0 (omega (arith, P .stored .long))) (low-back w (s .hand) (e .small) f) in fresh h j (omega arith) (u ∙ y))
+            (λ t. let y : getD both (1024 + k) 0 % 262144 ≡ w = rw (eqb-true k (s .nodes) t) new in fresh h j (omega arith) (u ∙ y))
             (λ t. let d : k ≡ s .nodes → ⊥ = eqb-false k (s .nodes) t in P .unlike j k b (omega (arith, d)) (u ∙ ap low (old k (omega (arith, d)))))
 
-pub ruleset adds-node = (add-old, add-new, add-full, grow-node)
+        entry : (k : ℕ) → k < 1024 → (w ≡ 1 + 2 * k → ⊥) → entryAt both k ≡ entryAt g k
+        entry k m d = entered-other one w (s .nodes + 1) k d ∙ ap (λ (n : ℕ). n / 72057594037927936) (apart k m)
+
+        told : (i k : ℕ) → i < s .nodes + 1 → k < 1024 → getD both (1024 + i) 0 % 262144 ≡ 1 + 2 * k → entryAt both k ≡ i + 1
+        told i k b m q =
+            split (eqb i (s .nodes))
+            (λ t. let z : i ≡ s .nodes = eqb-true i (s .nodes) t in
+            let y : w ≡ 1 + 2 * k = sym new ∙ ap (λ (n : ℕ). getD both (1024 + n) 0 % 262144) (sym z) ∙ q in
+            entered-own one w (s .nodes + 1) one-long k m y ∙ ap (λ (n : ℕ). n + 1) (sym z))
+            (λ t. let d : i ≡ s .nodes → ⊥ = eqb-false i (s .nodes) t in
+            let c : i < s .nodes = omega (arith, d) in
+            let z : getD g (1024 + i) 0 % 262144 ≡ 1 + 2 * k = ap low (sym (old i c)) ∙ q in
+            entry k m (λ y. fresh h i c (z ∙ sym y)) ∙ P .stored .direct .told i k c m z)
+
+        stands : (i k : ℕ) → k < 1024 → entryAt both k ≡ i + 1 → (i < s .nodes + 1) × (getD both (1024 + i) 0 % 262144 ≡ 1 + 2 * k)
+        stands i k m q =
+            split (eqb w (1 + 2 * k))
+            (λ t. let y : w ≡ 1 + 2 * k = eqb-true w (1 + 2 * k) t in
+            let z : s .nodes + 1 ≡ i + 1 = sym (entered-own one w (s .nodes + 1) one-long k m y) ∙ q in
+            let u : i ≡ s .nodes = omega arith in
+            (omega arith, rw u (new ∙ y)))
+            (λ t. let d : w ≡ 1 + 2 * k → ⊥ = eqb-false w (1 + 2 * k) t in
+            let z : (i < s .nodes) × (getD g (1024 + i) 0 % 262144 ≡ 1 + 2 * k) = P .stored .direct .stands i k m (sym (entry k m d) ∙ q) in
+            (omega (arith, z .0), ap low (old i (z .0)) ∙ z .1))
+
+    -- h is the table that the entry left
+    module _ (h : List ℕ) (q : h ≡ entered (set g (1024 + s .nodes) (w + 262144 * s .hand)) w (s .nodes + 1)) where
+      pub add-new : s .nodes ≤ i → s .nodes < 128 → s .hand < 65536 → addedIn h (putAt s (s .nodes)) ≡ addNode (graphIn g s) x
+      unfolding addNode
+      add-new a l f = rw (put-new l, missed a, addNode, nodes-count g s (P .stored), lt-ltb (s .nodes) 128 l, q) (ap (added (s .nodes)) (wider l f))
+
+      pub held-new : s .nodes ≤ i → s .nodes < 128 → s .hand < 65536 → Growing h (sizeOf (putAt s (s .nodes)))
+      held-new a l f = rw (put-new l, q) (grow-node a l f)
+
+      pub below-new : s .nodes < 128 → placeOf (putAt s (s .nodes)) < sizeOf (putAt s (s .nodes)) .nodes
+      below-new l = rw (put-new l) (omega arith)
+
+pub held-none : (g : List ℕ) (s : Size) → Growing g s → Growing g (sizeOf (putAt s 128))
+unfolding putAt
+held-none g s P = P
+
+pub below-none : (g : List ℕ) (s : Size) → Growing g s → placeOf (putAt s 128) < sizeOf (putAt s 128) .nodes
+unfolding putAt
+below-none g s P = P .stored .some
+
+pub ruleset adds-node = (add-old, held-old, below-old, add-full, held-none, below-none, add-new, held-new, below-new)
 
 -- ---- an edge behind the others
 
@@ -230,54 +361,72 @@ unfolding addEdge
 edge-full g s e P l = rw (edges-count g s (P .stored), le-ltb (s .edges) 1024 l)
 
 module _ (g : List ℕ) (s : Size) (e : Edge) (w : ℕ) (P : Growing g s) (E : EdgeWord e w) where
-  q : edgeOf w ≡ e
-  q = E .back
+  -- the word below the entry that stands at its place
+  abbrev u : ℕ
+  u = w + 72057594037927936 * (getD g (s .edges) 0 / 72057594037927936)
 
-  more-edges : s .edges < 1024 → graphIn (set g (s .edges) w) (oneEdge s) ≡ withEdge (graphIn g s) e
+  q : edgeOf u ≡ e
+  q = under-edge w (getD g (s .edges) 0 / 72057594037927936) ∙ E .back
+
+  more-edges : s .edges < 1024 → graphIn (set g (s .edges) u) (oneEdge s) ≡ withEdge (graphIn g s) e
   unfolding graphIn
   more-edges l =
-      rw (add-one (s .edges), take-suc-set g (s .edges) w (omega (arith, P .stored .long)), map-append, drop-set-lt 1024 g (s .edges) w l, q)
+      rw (add-one (s .edges), take-suc-set g (s .edges) u (omega (arith, P .stored .long)), map-append, drop-set-lt 1024 g (s .edges) u l, q)
 
-  pub edge-new : s .edges < 1024 → added (s .edges) (graphIn (set g (s .edges) w) (oneEdge s)) ≡ addEdge (graphIn g s) e
+  edge-more : s .edges < 1024 → added (s .edges) (graphIn (set g (s .edges) (w + 72057594037927936 * (getD g (s .edges) 0 / 72057594037927936))) (oneEdge s)) ≡ addEdge (graphIn g s) e
   unfolding addEdge
-  edge-new l = rw (edges-count g s (P .stored), lt-ltb (s .edges) 1024 l) (ap (added (s .edges)) (more-edges l))
+  edge-more l = rw (edges-count g s (P .stored), lt-ltb (s .edges) 1024 l) (ap (added (s .edges)) (more-edges l))
 
-  pub grow-edge : s .edges < 1024 → e .source < 128 → e .target < s .nodes → Growing (set g (s .edges) w) (oneEdge s)
-  grow-edge l hs ht =
-      record { stored = record { long = rw length-set (P .stored .long); some = P .stored .some; nodes-most = P .stored .nodes-most; edges-most = omega arith; root = rw (apart 0) (P .stored .root); word = words; no-node = λ i h m. apart i ∙ P .stored .no-node i h m; packed = packed; no-edge = λ k h m. there k (λ z. omega arith) ∙ P .stored .no-edge k (omega arith) m; source = sources; target = targets }; two = P .two; unlike = λ i j b c z. P .unlike i j b c (ap low (sym (apart i)) ∙ z ∙ ap low (apart j)) }
+  edge-grows : s .edges < 1024 → e .source < 128 → e .target < s .nodes → Growing (set g (s .edges) (w + 72057594037927936 * (getD g (s .edges) 0 / 72057594037927936))) (oneEdge s)
+  edge-grows l hs ht =
+      record { stored = record { long = rw length-set (P .stored .long); some = P .stored .some; nodes-most = P .stored .nodes-most; edges-most = omega arith; root = rw (apart 0) (P .stored .root); word = words; no-node = λ i h m. apart i ∙ P .stored .no-node i h m; packed = packed; no-edge = λ k h m. ap (λ (n : ℕ). n % 72057594037927936) (there k (λ z. omega arith)) ∙ P .stored .no-edge k (omega arith) m; source = sources; target = targets; direct = direct-same g (set g (s .edges) u) (s .nodes) (P .stored .direct) entry apart }; two = P .two; second = apart 1 ∙ P .second; unlike = λ i j b c z. P .unlike i j b c (ap low (sym (apart i)) ∙ z ∙ ap low (apart j)) }
     where
       low : ℕ → ℕ
       low n = n % 262144
 
-      apart : (j : ℕ) → getD (set g (s .edges) w) (1024 + j) 0 ≡ getD g (1024 + j) 0
-      apart j = getD-set-other g (s .edges) (1024 + j) w 0 (λ z. omega arith)
+      apart : (j : ℕ) → getD (set g (s .edges) u) (1024 + j) 0 ≡ getD g (1024 + j) 0
+      apart j = getD-set-other g (s .edges) (1024 + j) u 0 (λ z. omega arith)
 
-      words : (j : ℕ) → j < s .nodes → wordOf (nodeOf (getD (set g (s .edges) w) (1024 + j) 0)) + 262144 * firstOf (getD (set g (s .edges) w) (1024 + j) 0) ≡ getD (set g (s .edges) w) (1024 + j) 0
+      words : (j : ℕ) → j < s .nodes → wordOf (nodeOf (getD (set g (s .edges) u) (1024 + j) 0)) + 262144 * firstOf (getD (set g (s .edges) u) (1024 + j) 0) ≡ getD (set g (s .edges) u) (1024 + j) 0
       words j h = rw (apart j) (P .stored .word j h)
 
-      here : getD (set g (s .edges) w) (s .edges) 0 ≡ w
-      here = getD-set-same g (s .edges) w 0 (omega (arith, P .stored .long))
+      here : getD (set g (s .edges) u) (s .edges) 0 ≡ u
+      here = getD-set-same g (s .edges) u 0 (omega (arith, P .stored .long))
 
-      there : (k : ℕ) → (k ≡ s .edges → ⊥) → getD (set g (s .edges) w) k 0 ≡ getD g k 0
-      there k d = getD-set-other g (s .edges) k w 0 d
+      there : (k : ℕ) → (k ≡ s .edges → ⊥) → getD (set g (s .edges) u) k 0 ≡ getD g k 0
+      there k d = getD-set-other g (s .edges) k u 0 d
 
-      packed : (k : ℕ) → k < s .edges + 1 → edgeWord (edgeOf (getD (set g (s .edges) w) k 0)) ≡ getD (set g (s .edges) w) k 0
+      packed : (k : ℕ) → k < s .edges + 1 → edgeWord (edgeOf (getD (set g (s .edges) u) k 0)) ≡ getD (set g (s .edges) u) k 0 % 72057594037927936
       packed k h =
           split (eqb k (s .edges))
-          (λ t. rw (eqb-true k (s .edges) t, here) (ap edgeWord q ∙ sym (E .is)))
+          (λ t. rw (eqb-true k (s .edges) t, here) (ap edgeWord q ∙ sym (E .is) ∙ sym (under-low w (getD g (s .edges) 0 / 72057594037927936) (E .small))))
           (λ t. let d : k ≡ s .edges → ⊥ = eqb-false k (s .edges) t in rw (there k d) (P .stored .packed k (omega (arith, d))))
 
-      sources : (k : ℕ) → k < s .edges + 1 → getD (set g (s .edges) w) k 0 % 256 < 128
+      entry : (k : ℕ) → k < 1024 → entryAt (set g (s .edges) u) k ≡ entryAt g k
+      entry k h =
+          split (eqb k (s .edges))
+          (λ t. rw (eqb-true k (s .edges) t, here) (under-entry w (getD g (s .edges) 0 / 72057594037927936) (E .small)))
+          (λ t. ap (λ (n : ℕ). n / 72057594037927936) (there k (eqb-false k (s .edges) t)))
+
+      sources : (k : ℕ) → k < s .edges + 1 → getD (set g (s .edges) u) k 0 % 256 < 128
       sources k h =
           split (eqb k (s .edges))
-          (λ t. let z : w % 256 ≡ e .source = ap (λ (f : Edge). f .source) q in rw (eqb-true k (s .edges) t, here, z) hs)
+          (λ t. let z : u % 256 ≡ e .source = ap (λ (f : Edge). f .source) q in rw (eqb-true k (s .edges) t, here, z) hs)
           (λ t. let d : k ≡ s .edges → ⊥ = eqb-false k (s .edges) t in rw (there k d) (P .stored .source k (omega (arith, d))))
 
-      targets : (k : ℕ) → k < s .edges + 1 → getD (set g (s .edges) w) k 0 / 256 % 256 < s .nodes
+      targets : (k : ℕ) → k < s .edges + 1 → getD (set g (s .edges) u) k 0 / 256 % 256 < s .nodes
       targets k h =
           split (eqb k (s .edges))
-          (λ t. let z : w / 256 % 256 ≡ e .target = ap (λ (f : Edge). f .target) q in rw (eqb-true k (s .edges) t, here, z) ht)
+          (λ t. let z : u / 256 % 256 ≡ e .target = ap (λ (f : Edge). f .target) q in rw (eqb-true k (s .edges) t, here, z) ht)
           (λ t. let d : k ≡ s .edges → ⊥ = eqb-false k (s .edges) t in rw (there k d) (P .stored .target k (omega (arith, d))))
+
+-- n, the entry that stands at the new edge's place
+module _ (g : List ℕ) (s : Size) (e : Edge) (w n : ℕ) (E : EdgeWord e w) (P : Growing g s) (b : n ≡ getD g (s .edges) 0 / 72057594037927936) where
+  pub edge-new : s .edges < 1024 → added (s .edges) (graphIn (set g (s .edges) (w + 72057594037927936 * n)) (oneEdge s)) ≡ addEdge (graphIn g s) e
+  edge-new l = rw b (edge-more g s e w P E l)
+
+  pub grow-edge : s .edges < 1024 → e .source < 128 → e .target < s .nodes → Growing (set g (s .edges) (w + 72057594037927936 * n)) (oneEdge s)
+  grow-edge l hs ht = rw b (edge-grows g s e w P E l hs ht)
 
 pub ruleset adds-edge = (edge-new, edge-full, grow-edge)
 
@@ -306,7 +455,7 @@ start-graph g z =
 
 pub start-growing : (g : List ℕ) → g ≡ replicate 1152 0 → Growing (set (set g 1024 17179607040) 1025 17179607042) two
 start-growing g z =
-    record { stored = record { long = rw (length-set, length-set) (blank-long g z); some = omega arith; nodes-most = omega arith; edges-most = omega arith; root = first; word = words; no-node = λ i h m. other (1024 + i) (λ q. omega arith) (λ q. omega arith); packed = λ e h. absurd (none e h); no-edge = λ e h m. other e (λ q. omega arith) (λ q. omega arith); source = λ e h. absurd (none e h); target = λ e h. absurd (none e h) }; two = omega arith; unlike = unlike }
+    record { stored = record { long = rw (length-set, length-set) (blank-long g z); some = omega arith; nodes-most = omega arith; edges-most = omega arith; root = first; word = words; no-node = λ i h m. other (1024 + i) (λ q. omega arith) (λ q. omega arith); packed = λ e h. absurd (none e h); no-edge = λ e h m. ap (λ (n : ℕ). n % 72057594037927936) (other e (λ q. omega arith) (λ q. omega arith)); source = λ e h. absurd (none e h); target = λ e h. absurd (none e h); direct = record { told = told; stands = stands } }; two = omega arith; second = second; unlike = unlike }
   where
     none : (e : ℕ) → e < 0 → ⊥
     none e h = omega arith
@@ -331,6 +480,16 @@ start-growing g z =
     unlike zero (suc (suc j)) b c q = omega arith
     unlike (suc i) j b c q = omega arith
 
+    told : (i k : ℕ) → i < 2 → k < 1024 → getD (set (set g 1024 17179607040) 1025 17179607042) (1024 + i) 0 % 262144 ≡ 1 + 2 * k → entryAt (set (set g 1024 17179607040) 1025 17179607042) k ≡ i + 1
+    told zero k h m q = let z : _≡_ {A = ℕ} 0 (1 + 2 * k) = ap (λ (n : ℕ). n % 262144) (sym first) ∙ q in let f : ⊥ = omega arith in absurd f
+    told (suc zero) k h m q = let z : _≡_ {A = ℕ} 2 (1 + 2 * k) = ap (λ (n : ℕ). n % 262144) (sym second) ∙ q in let f : ⊥ = omega arith in absurd f
+    told (suc (suc i)) k h m q = let f : ⊥ = omega arith in absurd f
+
+    stands : (i k : ℕ) → k < 1024 → entryAt (set (set g 1024 17179607040) 1025 17179607042) k ≡ i + 1 → (i < 2) × (getD (set (set g 1024 17179607040) 1025 17179607042) (1024 + i) 0 % 262144 ≡ 1 + 2 * k)
+    stands i k m q =
+        let z : _≡_ {A = ℕ} 0 (i + 1) = ap (λ (n : ℕ). n / 72057594037927936) (sym (other k (λ y. omega arith) (λ y. omega arith))) ∙ q in
+        let f : ⊥ = omega arith in absurd f
+
 pub ruleset starts = (start-graph, start-growing)
 
 -- ---- both ends, then the edge: a is what adding an end gave
@@ -339,37 +498,60 @@ pub ruleset starts = (start-graph, start-growing)
 unfoldable pub addTarget : Graph → ℕ → ConflictNode → ConflictEdge → Added
 addTarget h i y w = elim (addNode h y) [ full k ↦ full k | added j k ↦ addEdge k (record { source = i; target = j; weight = w; clause = k .hand }) ]
 
-module _ (g h : List ℕ) (s t : Size) (x y : ConflictNode) (w : ConflictEdge) (a : Put) where
-  pub target-full : (i : ℕ) → a ≡ Full t → addedIn h a ≡ addNode (graphIn g s) y → full (graphIn h t) ≡ addTarget (graphIn g s) i y w
-  unfolding addTarget
-  target-full i q p = let z : addNode (graphIn g s) y ≡ full (graphIn h t) = sym p ∙ ap (addedIn h) q in rw (z, addTarget)
+-- what the number of a node says of the answer
+put-full : (s : Size) (i : ℕ) → 128 ≤ i → putAt s i ≡ Full s
+unfolding putAt
+put-full s i h = rw (le-leb 128 i h)
 
-  -- j′ is the number as a byte
-  pub target-edge : (m : List ℕ) (c : Put) (i j j′ : ℕ) → a ≡ At j t → addedIn h a ≡ addNode (graphIn g s) y → addedIn m c ≡ addEdge (graphIn h t) (record { source = i; target = j′; weight = w; clause = t .hand }) → j′ ≡ j → addedIn m c ≡ addTarget (graphIn g s) i y w
-  unfolding addTarget graphIn
-  target-edge m c i j j′ q p o e =
-      let z : addNode (graphIn g s) y ≡ added j (graphIn h t) = sym p ∙ ap (addedIn h) q in rw (z, addTarget) (rw e at o)
+put-at : (s : Size) (i n : ℕ) → i < 128 → n ≡ more (s .nodes) i → putAt s i ≡ At i (withNodes s n)
+unfolding putAt
+put-at s i n h q = rw (lt-leb 128 i h, q)
 
-  pub link-full : a ≡ Full t → addedIn h a ≡ addNode (graphIn g s) x → full (graphIn h t) ≡ addLink (graphIn g s) x y w
-  unfolding addLink
-  link-full q p = let z : addNode (graphIn g s) x ≡ full (graphIn h t) = sym p ∙ ap (addedIn h) q in rw (z, addLink)
+-- i is the number that adding an end gave, n how many nodes there are then
+module _ (g h : List ℕ) (s : Size) (x : ConflictNode) (i : ℕ) (p : addedIn h (putAt s i) ≡ addNode (graphIn g s) x) where
+  full-is : 128 ≤ i → addNode (graphIn g s) x ≡ full (graphIn h s)
+  full-is b = sym p ∙ ap (addedIn h) (put-full s i b)
 
-  pub link-edge : (m : List ℕ) (c : Put) (i i′ : ℕ) → a ≡ At i t → addedIn h a ≡ addNode (graphIn g s) x → addedIn m c ≡ addTarget (graphIn h t) i′ y w → i′ ≡ i → addedIn m c ≡ addLink (graphIn g s) x y w
-  unfolding addLink addTarget
-  link-edge m c i i′ q p o e =
-      let z : addNode (graphIn g s) x ≡ added i (graphIn h t) = sym p ∙ ap (addedIn h) q in rw (z, addLink) (rw e at o)
+  at-is : (n : ℕ) → i < 128 → n ≡ more (s .nodes) i → addNode (graphIn g s) x ≡ added i (graphIn h (withNodes s n))
+  at-is n b q = sym p ∙ ap (addedIn h) (put-at s i n b q)
 
-pub ruleset links = (target-full, target-edge, link-full, link-edge)
+  pub node-full : 128 ≤ i → full (graphIn h s) ≡ addNode (graphIn g s) x
+  node-full b = sym (full-is b)
+
+  pub node-at : (n : ℕ) → i < 128 → n ≡ more (s .nodes) i → added i (graphIn h (withNodes s n)) ≡ addNode (graphIn g s) x
+  node-at n b q = sym (at-is n b q)
+
+  module _ (y : ConflictNode) (w : ConflictEdge) where
+    pub target-full : (j : ℕ) → 128 ≤ i → full (graphIn h s) ≡ addTarget (graphIn g s) j x w
+    unfolding addTarget
+    target-full j b = rw (full-is b, addTarget)
+
+    -- i′ is the number as a byte
+    pub target-edge : (m : List ℕ) (c : Put) (n j i′ : ℕ) → i < 128 → n ≡ more (s .nodes) i → addedIn m c ≡ addEdge (graphIn h (withNodes s n)) (record { source = j; target = i′; weight = w; clause = s .hand }) → i′ ≡ i → addedIn m c ≡ addTarget (graphIn g s) j x w
+    unfolding addTarget graphIn
+    target-edge m c n j i′ b q o e = rw (at-is n b q, addTarget) (rw e at o)
+
+    pub link-full : 128 ≤ i → full (graphIn h s) ≡ addLink (graphIn g s) x y w
+    unfolding addLink
+    link-full b = rw (full-is b, addLink)
+
+    pub link-edge : (m : List ℕ) (c : Put) (n i′ : ℕ) → i < 128 → n ≡ more (s .nodes) i → addedIn m c ≡ addTarget (graphIn h (withNodes s n)) i′ y w → i′ ≡ i → addedIn m c ≡ addLink (graphIn g s) x y w
+    unfolding addLink addTarget
+    link-edge m c n i′ b q o e = rw (at-is n b q, addLink) (rw e at o)
+
+pub ruleset nodes = (node-full, node-at)
+
+pub ruleset links = (link-full, link-edge)
 
 -- what the promise says of an answer that was taken apart
-pub held-full : (g : List ℕ) (a : Put) (s : Size) → a ≡ Full s → Growing g (sizeOf a) → Growing g s
-held-full g a s q p = rw q at p
+pub held-full : (g : List ℕ) (s : Size) (i : ℕ) → Growing g (sizeOf (putAt s i)) → 128 ≤ i → Growing g s
+held-full g s i p h = rw (put-full s i h) at p
 
-pub held-at : (g : List ℕ) (a : Put) (i : ℕ) (s : Size) → a ≡ At i s → Growing g (sizeOf a) → Growing g s
-held-at g a i s q p = rw q at p
+pub held-at : (g : List ℕ) (s : Size) (i n : ℕ) → Growing g (sizeOf (putAt s i)) → i < 128 → n ≡ more (s .nodes) i → Growing g (withNodes s n)
+held-at g s i n p h q = rw (put-at s i n h q) at p
 
-pub at-below : (a : Put) (i j : ℕ) (s : Size) → a ≡ At i s → placeOf a < sizeOf a .nodes → j ≡ i → j < s .nodes
-at-below a i j s q p e = rw e (rw q at p)
+pub at-below : (s : Size) (i j n : ℕ) → placeOf (putAt s i) < sizeOf (putAt s i) .nodes → i < 128 → n ≡ more (s .nodes) i → j ≡ i → j < n
+at-below s i j n p h q e = rw e (rw (put-at s i n h q) at p)
 
-pub at-small : (g : List ℕ) (a : Put) (i : ℕ) (s : Size) → a ≡ At i s → placeOf a < sizeOf a .nodes → Growing g (sizeOf a) → i < 128
-at-small g a i s q p G = let h : i < s .nodes = rw q at p in let P : Growing g s = rw q at G in omega (arith, P .stored .nodes-most)
+pub at-place : (s : Size) (i n : ℕ) → placeOf (putAt s i) < sizeOf (putAt s i) .nodes → i < 128 → n ≡ more (s .nodes) i → i < n
+at-place s i n p h q = rw (put-at s i n h q) at p

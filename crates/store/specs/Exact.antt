@@ -2,7 +2,7 @@
 -- the graph and the promise determines every word that was lent.
 use mathlib.Core.Path.{_≡_, refl, sym, ap, _∙_}
 use mathlib.Core.List.{List}
-use Prim.Native.Nat.{ℕ, _+_, _*_, _-_, _<_, _≤_}
+use Prim.Native.Nat.{ℕ, _+_, _*_, _-_, _%_, _<_, _≤_}
 use native.Mathlib.Omega.{arith}
 use lib.ListN.{length, getD}
 use lib.Seq.{ext-getD}
@@ -13,6 +13,8 @@ use Rattle.store.specs.declared.ConflictNode.{ConflictNode}
 use Rattle.store.specs.declared.Size.{Size}
 use Rattle.store.specs.declared.Put.{Put}
 use Rattle.store.specs.declared.Put.the-variants.{At, Full}
+use Rattle.store.specs.Direct.{entryAt}
+use Rattle.store.specs.Laws.Direct.{both-parts, entry-one}
 use Rattle.store.specs.Graph.{Graph, nodeAt, firstAt}
 use Rattle.store.specs.Words.{wordOf, nodeOf, firstOf, edgeWord}
 use Rattle.store.specs.Table.{graphIn, edgeIn, noEdge, Stored, Growing, addedIn, sizeOf, nodes-count, edges-count, node-in, first-in, edge-in, node-read, first-read}
@@ -31,7 +33,7 @@ node-word g s S n h =
     let y : firstOf (getD g (1024 + n) 0) ≡ firstAt (graphIn g s) n = first-read g n (getD g (1024 + n) 0) refl (omega (arith, S .nodes-most)) ∙ first-in g s S n h in
     sym (S .word n h) ∙ ap (λ (x : ConflictNode). wordOf x + 262144 * firstOf (getD g (1024 + n) 0)) z ∙ ap (λ (c : ℕ). wordOf (nodeAt (graphIn g s) n) + 262144 * c) y
 
-edge-word : (g : List ℕ) (s : Size) → Stored g s → (e : ℕ) → e < s .edges → getD g e 0 ≡ edgeWord (getD (graphIn g s .edges) e noEdge)
+edge-word : (g : List ℕ) (s : Size) → Stored g s → (e : ℕ) → e < s .edges → getD g e 0 % 72057594037927936 ≡ edgeWord (getD (graphIn g s .edges) e noEdge)
 unfolding edgeIn
 edge-word g s S e h = sym (S .packed e h) ∙ ap edgeWord (edge-in g s S e h)
 
@@ -49,8 +51,8 @@ module _ (g h : List ℕ) (s t : Size) (S : Stored g s) (T : Stored h t) (q : gr
   pub table-one : g ≡ h
   table-one = ext-getD 0 g h (S .long ∙ sym (T .long)) each
     where
-      edge : (i : ℕ) → i < 1024 → getD g i 0 ≡ getD h i 0
-      edge i l =
+      under : (i : ℕ) → i < 1024 → getD g i 0 % 72057594037927936 ≡ getD h i 0 % 72057594037927936
+      under i l =
           split (ltb i (s .edges))
           (λ u. let b : i < s .edges = ltb-true i (s .edges) u in
           edge-word g s S i b ∙ ap (λ (x : Graph). edgeWord (getD (x .edges) i noEdge)) q ∙ sym (edge-word h t T i (omega (arith, edges-one))))
@@ -62,6 +64,20 @@ module _ (g h : List ℕ) (s t : Size) (S : Stored g s) (T : Stored h t) (q : gr
           (λ u. let b : i < s .nodes = ltb-true i (s .nodes) u in
           node-word g s S i b ∙ ap (λ (x : Graph). wordOf (nodeAt x i) + 262144 * firstAt x i) q ∙ sym (node-word h t T i (omega (arith, nodes-one))))
           (λ u. let b : s .nodes ≤ i = ltb-false i (s .nodes) u in S .no-node i b l ∙ sym (T .no-node i (omega (arith, nodes-one)) l))
+
+      low : ℕ → ℕ
+      low n = n % 262144
+
+      entry : (i : ℕ) → i < 1024 → entryAt g i ≡ entryAt h i
+      entry i l =
+          entry-one (entryAt g i) (entryAt h i)
+          (λ j p. let z = S .direct .stands j i l p in
+          T .direct .told j i (omega (arith, z .0, nodes-one)) l (ap low (sym (node j (omega (arith, z .0, S .nodes-most)))) ∙ z .1))
+          (λ j p. let z = T .direct .stands j i l p in
+          S .direct .told j i (omega (arith, z .0, nodes-one)) l (ap low (node j (omega (arith, z .0, T .nodes-most))) ∙ z .1))
+
+      edge : (i : ℕ) → i < 1024 → getD g i 0 ≡ getD h i 0
+      edge i l = both-parts (getD g i 0) (getD h i 0) (under i l) (entry i l)
 
       each : (i : ℕ) → i < length g → getD g i 0 ≡ getD h i 0
       each i l =

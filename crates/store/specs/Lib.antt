@@ -1,5 +1,7 @@
 pub mod Graph
 pub mod Words
+pub mod Direct
+pub mod Laws
 pub mod Table
 pub mod Adding
 pub mod Settling

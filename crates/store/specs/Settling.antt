@@ -9,8 +9,8 @@ use native.Mathlib.Numerals.{add-one}
 use native.Mathlib.Omega.{arith}
 use lib.ListN.{length, getD, take, drop, set, length-set, length-drop}
 use lib.Seq.{take-suc, take-suc-set, take-set-le, drop-set-add, drop-set-lt, getD-set-same, getD-set-other, getD-drop}
-use lib.Dec.{eqb}
-use borrow.Author.Tests.{eqb-true, eqb-false, eq-eqb, ne-eqb}
+use lib.Dec.{eqb, ltb}
+use borrow.Author.Tests.{eqb-true, eqb-false, eq-eqb, ne-eqb, ltb-true, ltb-false}
 use Rattle.basis.specs.Lists.{any}
 use Rattle.basis.specs.Members.{split}
 use Rattle.basis.specs.Below.{allBelow, below-step, below-fails, below-at}
@@ -18,6 +18,8 @@ use Rattle.store.specs.declared.ConflictNode.{ConflictNode}
 use Rattle.store.specs.declared.ConflictNode.the-variants as N
 use Rattle.store.specs.declared.Edge.{Edge}
 use Rattle.store.specs.declared.Size.{Size}
+use Rattle.store.specs.Direct.{entryAt, entered}
+use Rattle.store.specs.Laws.Direct.{edge-same, entered-length, entered-node, entered-nodes, entered-edges, entered-low, entered-own, entered-other}
 use Rattle.store.specs.Graph.{renumber, renumberEdge, lastOf, front, settle}
 use Rattle.store.specs.Words.{wordOf, nodeOf, firstOf, edgeWord, edgeOf, weightWord}
 use Rattle.store.specs.Table.{nodeWords, graphIn, edgeIn, Stored, Growing, nodes-count}
@@ -113,6 +115,17 @@ module _ (s t r : ℕ) (hs : s < 256) (ht : t < 256) where
   f4 : (w : ℕ) → r ≡ w / 65536 → (s + 256 * t + 65536 * r) / 1099511627776 ≡ w / 1099511627776
   f4 w q = omega arith
 
+  f5 : (w : ℕ) → r ≡ w / 65536 → (s + 256 * t + 65536 * r) / 72057594037927936 ≡ w / 72057594037927936
+  f5 w q = omega arith
+
+  f6 : (b : ℕ) → r < 1099511627776 → s + 256 * t + 65536 * r ≡ (s + 256 * t + 65536 * (r + 1099511627776 * b)) % 72057594037927936
+  f6 b l = omega arith
+
+-- the entry above an edge stays
+entry-renumbered : (last w : ℕ) → renumberWord last w / 72057594037927936 ≡ w / 72057594037927936
+entry-renumbered last w =
+    f5 (renumber last (w % 256)) (renumber last (w / 256 % 256)) (w / 65536) (renumber-small last (w % 256) (omega arith)) (renumber-small last (w / 256 % 256) (omega arith)) w refl
+
 edge-renumbered : (last w : ℕ) → edgeOf (renumberWord last w) ≡ renumberEdge last (edgeOf w)
 edge-renumbered last w =
     let hs : renumber last (w % 256) < 256 = renumber-small last (w % 256) (omega arith) in
@@ -185,13 +198,25 @@ words-moved f a (x ∷ y ∷ r) (suc l) z h =
     let q : l < length r = omega arith in
     rw (z, take-suc r l 0 q, map-append f (take l r) (getD r l 0 ∷ []), last-snoc (map f (take l r)) (f (getD r l 0)), front-snoc (map f (take l r)) (f (getD r l 0)))
 
--- ---- the table after it: the last node's word at place 1, its own place free, every edge renumbered
+-- ---- the table after it: the last node's word at place 1, its own place free, its entry 2, every edge renumbered
 
-abbrev pub vacated : List ℕ → ℕ → List ℕ
+abbrev vacated : List ℕ → ℕ → List ℕ
 vacated g last = set (set g 1025 (getD g (1024 + last) 0)) (1024 + last) 0
 
+abbrev named : List ℕ → ℕ → List ℕ
+named g last = entered (vacated g last) (getD g (1024 + last) 0 % 262144) 2
+
 abbrev gone : List ℕ → ℕ → ℕ → List ℕ
-gone g last m = renumberTo last (vacated g last) m
+gone g last m = renumberTo last (named g last) m
+
+-- the same, shut
+unfoldable pub removed : List ℕ → ℕ → ℕ → List ℕ
+removed g last m = gone g last m
+
+-- h is the table with the moved node's new entry, k what the renumbering left
+pub removed-is : (g h k : List ℕ) (last m : ℕ) → k ≡ renumberTo last h m → h ≡ entered (set (set g 1025 (getD g (1024 + last) 0)) (1024 + last) 0) (getD g (1024 + last) 0 % 262144) 2 → k ≡ removed g last m
+unfolding removed
+removed-is g h k last m e d = rw (e, d)
 
 abbrev pub goneSize : Size → Size
 goneSize s = record { nodes = s .nodes - 1; edges = s .edges; hand = s .hand }
@@ -199,13 +224,17 @@ goneSize s = record { nodes = s .nodes - 1; edges = s .edges; hand = s .hand }
 upper : (s t r w : ℕ) → s < 256 → t < 256 → s + 256 * t + 65536 * r ≡ w → r ≡ w / 65536
 upper s t r w hs ht q = omega arith
 
--- a word that is its edge's own stays so
-packed-renumbered : (last w : ℕ) → edgeWord (edgeOf w) ≡ w → edgeWord (edgeOf (renumberWord last w)) ≡ renumberWord last w
+-- a word that is its edge's own, below the entry, stays so
+packed-renumbered : (last w : ℕ) → edgeWord (edgeOf w) ≡ w % 72057594037927936 → edgeWord (edgeOf (renumberWord last w)) ≡ renumberWord last w % 72057594037927936
 packed-renumbered last w q =
-    let a : w % 256 + 256 * (w / 256 % 256) + 65536 * (weightWord (edgeOf w .weight) + 16777216 * edgeOf w .clause) ≡ w = q in
-    let z : weightWord (edgeOf w .weight) + 16777216 * edgeOf w .clause ≡ w / 65536 = upper (w % 256) (w / 256 % 256) (weightWord (edgeOf w .weight) + 16777216 * edgeOf w .clause) w (omega arith) (omega arith) a in
+    let a : w % 256 + 256 * (w / 256 % 256) + 65536 * (weightWord (edgeOf w .weight) + 16777216 * edgeOf w .clause) ≡ w % 72057594037927936 = q in
+    let z : weightWord (edgeOf w .weight) + 16777216 * edgeOf w .clause ≡ w % 72057594037927936 / 65536 = upper (w % 256) (w / 256 % 256) (weightWord (edgeOf w .weight) + 16777216 * edgeOf w .clause) (w % 72057594037927936) (omega arith) (omega arith) a in
+    let p : w % 72057594037927936 / 65536 + 1099511627776 * (w / 72057594037927936) ≡ w / 65536 = omega arith in
+    let l : w % 72057594037927936 / 65536 < 1099511627776 = omega arith in
     ap edgeWord (edge-renumbered last w)
     ∙ ap (λ (n : ℕ). renumber last (w % 256) + 256 * renumber last (w / 256 % 256) + 65536 * n) z
+    ∙ f6 (renumber last (w % 256)) (renumber last (w / 256 % 256)) (w % 72057594037927936 / 65536) (renumber-small last (w % 256) (omega arith)) (renumber-small last (w / 256 % 256) (omega arith)) (w / 72057594037927936) l
+    ∙ ap (λ (n : ℕ). (renumber last (w % 256) + 256 * renumber last (w / 256 % 256) + 65536 * n) % 72057594037927936) p
 
 module _ (g : List ℕ) (s : Size) (P : Growing g s) where
   pub settle-kept : (b : Bool) → b ≡ allBelow (spares g) (s .edges) → not b ≡ true → graphIn g s ≡ settle (graphIn g s)
@@ -236,25 +265,33 @@ module _ (g : List ℕ) (s : Size) (P : Growing g s) where
         is true e = refl
         is false e = sym e
 
+    abbrev u : ℕ
+    u = getD g (1024 + last) 0 % 262144
+
     abbrev h : List ℕ
-    h = vacated g last
+    h = named g last
 
     abbrev k : List ℕ
     k = set g 1025 (getD g (1024 + last) 0)
 
-    h-edges : take (s .edges) h ≡ take (s .edges) g
+    h-edges : map edgeOf (take (s .edges) h) ≡ map edgeOf (take (s .edges) g)
     h-edges =
-        take-set-le (s .edges) k (1024 + last) 0 (omega (arith, P .stored .edges-most))
-        ∙ take-set-le (s .edges) g 1025 (getD g (1024 + last) 0) (omega (arith, P .stored .edges-most))
+        entered-edges (vacated g last) u 2 (s .edges)
+        ∙ ap (map edgeOf) (take-set-le (s .edges) k (1024 + last) 0 (omega (arith, P .stored .edges-most))
+        ∙ take-set-le (s .edges) g 1025 (getD g (1024 + last) 0) (omega (arith, P .stored .edges-most)))
 
     h-nodes : take last (drop 1024 h) ≡ take last (set (drop 1024 g) 1 (getD (drop 1024 g) last 0))
     h-nodes =
-        ap (take last) (drop-set-add 1024 k last 0)
+        ap (take last) (entered-nodes (vacated g last) u 2)
+        ∙ ap (take last) (drop-set-add 1024 k last 0)
         ∙ take-set-le last (drop 1024 k) last 0 (omega arith)
         ∙ ap (take last) (drop-set-add 1024 g 1 (getD g (1024 + last) 0) ∙ ap (set (drop 1024 g) 1) (sym (getD-drop 1024 g last 0)))
 
+    bare-length : length (vacated g last) ≡ 1152
+    bare-length = length-set k (1024 + last) 0 ∙ length-set g 1025 (getD g (1024 + last) 0) ∙ P .stored .long
+
     h-length : length h ≡ 1152
-    h-length = length-set k (1024 + last) 0 ∙ length-set g 1025 (getD g (1024 + last) 0) ∙ P .stored .long
+    h-length = entered-length (vacated g last) u 2 ∙ bare-length
 
     gone-words : {A : Type 0} (f : ℕ → A) (y : A) → f 17179607040 ≡ y → map f (take last (drop 1024 (gone g last (s .edges)))) ≡ moved y (map f (take (s .nodes) (drop 1024 g)))
     gone-words f y o =
@@ -270,8 +307,9 @@ module _ (g : List ℕ) (s : Size) (P : Growing g s) where
 
     gone-edges : map edgeOf (take (s .edges) (gone g last (s .edges))) ≡ map (renumberEdge last) (map edgeOf (take (s .edges) g))
     gone-edges =
-        ap (map edgeOf) (to-edges last h (s .edges) (omega (arith, h-length, P .stored .edges-most)) ∙ ap (map (renumberWord last)) h-edges)
-        ∙ edges-renumbered last (take (s .edges) g)
+        ap (map edgeOf) (to-edges last h (s .edges) (omega (arith, h-length, P .stored .edges-most)))
+        ∙ edges-renumbered last (take (s .edges) h)
+        ∙ ap (map (renumberEdge last)) h-edges
 
     settle-gone : graphIn (gone g last (s .edges)) (goneSize s) ≡ settle (graphIn g s)
     unfolding settle graphIn
@@ -281,10 +319,10 @@ module _ (g : List ℕ) (s : Size) (P : Growing g s) where
 
     settle-stored : Stored (gone g last (s .edges)) (goneSize s)
     settle-stored =
-        record { long = to-length last h (s .edges) ∙ h-length; some = omega (arith, P .two); nodes-most = omega (arith, P .stored .nodes-most); edges-most = P .stored .edges-most; root = first; word = words; no-node = no-node; packed = packed; no-edge = no-edge; source = sources; target = targets }
+        record { long = to-length last h (s .edges) ∙ h-length; some = omega (arith, P .two); nodes-most = omega (arith, P .stored .nodes-most); edges-most = P .stored .edges-most; root = first; word = words; no-node = no-node; packed = packed; no-edge = no-edge; source = sources; target = targets; direct = record { told = told; stands = stands } }
       where
-        past : (j : ℕ) → getD (gone g last (s .edges)) (1024 + j) 0 ≡ getD h (1024 + j) 0
-        past j = to-past last h (s .edges) (1024 + j) (omega (arith, P .stored .edges-most))
+        past : (j : ℕ) → getD (gone g last (s .edges)) (1024 + j) 0 ≡ getD (vacated g last) (1024 + j) 0
+        past j = to-past last h (s .edges) (1024 + j) (omega (arith, P .stored .edges-most)) ∙ entered-node (vacated g last) u 2 j
 
         place : (j : ℕ) → (j ≡ last → ⊥) → (j ≡ 1 → ⊥) → getD (gone g last (s .edges)) (1024 + j) 0 ≡ getD g (1024 + j) 0
         place j d o =
@@ -312,21 +350,74 @@ module _ (g : List ℕ) (s : Size) (P : Growing g s) where
             (λ t. rw (eqb-true j last t) free)
             (λ t. let d : j ≡ last → ⊥ = eqb-false j last t in place j d (λ z. omega (arith, d, P .two)) ∙ P .stored .no-node j (omega (arith, d)) m)
 
-        apart : (e : ℕ) → e < 1024 → getD h e 0 ≡ getD g e 0
+        apart : (e : ℕ) → e < 1024 → getD (vacated g last) e 0 ≡ getD g e 0
         apart e l = getD-set-other k (1024 + last) e 0 0 (λ z. omega arith) ∙ getD-set-other g 1025 e (getD g (1024 + last) 0) 0 (λ z. omega arith)
 
-        renumbered : (e : ℕ) → e < s .edges → getD (gone g last (s .edges)) e 0 ≡ renumberWord last (getD g e 0)
-        renumbered e l =
-            to-done last h (s .edges) e l (omega (arith, h-length, P .stored .edges-most)) ∙ ap (renumberWord last) (apart e (omega (arith, P .stored .edges-most)))
+        under : (e : ℕ) → e < 1024 → getD h e 0 % 72057594037927936 ≡ getD g e 0 % 72057594037927936
+        under e l = entered-low (vacated g last) u 2 bare-length e ∙ ap (λ (n : ℕ). n % 72057594037927936) (apart e l)
 
-        packed : (e : ℕ) → e < s .edges → edgeWord (edgeOf (getD (gone g last (s .edges)) e 0)) ≡ getD (gone g last (s .edges)) e 0
-        packed e l = rw (renumbered e l) (packed-renumbered last (getD g e 0) (P .stored .packed e l))
+        edge : (e : ℕ) → e < s .edges → edgeOf (getD h e 0) ≡ edgeOf (getD g e 0)
+        edge e l = edge-same (getD h e 0) (getD g e 0) (under e (omega (arith, P .stored .edges-most)))
 
-        no-edge : (e : ℕ) → s .edges ≤ e → e < 1024 → getD (gone g last (s .edges)) e 0 ≡ 0
-        no-edge e l m = to-past last h (s .edges) e l ∙ apart e m ∙ P .stored .no-edge e l m
+        renumbered : (e : ℕ) → e < s .edges → getD (gone g last (s .edges)) e 0 ≡ renumberWord last (getD h e 0)
+        renumbered e l = to-done last h (s .edges) e l (omega (arith, h-length, P .stored .edges-most))
+
+        packed : (e : ℕ) → e < s .edges → edgeWord (edgeOf (getD (gone g last (s .edges)) e 0)) ≡ getD (gone g last (s .edges)) e 0 % 72057594037927936
+        packed e l =
+            rw (renumbered e l)
+            (packed-renumbered last (getD h e 0) (ap edgeWord (edge e l) ∙ P .stored .packed e l ∙ sym (under e (omega (arith, P .stored .edges-most)))))
+
+        no-edge : (e : ℕ) → s .edges ≤ e → e < 1024 → getD (gone g last (s .edges)) e 0 % 72057594037927936 ≡ 0
+        no-edge e l m = ap (λ (n : ℕ). n % 72057594037927936) (to-past last h (s .edges) e l) ∙ under e m ∙ P .stored .no-edge e l m
 
         word : (e : ℕ) → e < s .edges → edgeOf (getD (gone g last (s .edges)) e 0) ≡ renumberEdge last (edgeOf (getD g e 0))
-        word e l = ap edgeOf (renumbered e l) ∙ edge-renumbered last (getD g e 0)
+        word e l = ap edgeOf (renumbered e l) ∙ edge-renumbered last (getD h e 0) ∙ ap (renumberEdge last) (edge e l)
+
+        low : ℕ → ℕ
+        low n = n % 262144
+
+        high : ℕ → ℕ
+        high n = n / 72057594037927936
+
+        entry : (j : ℕ) → entryAt (gone g last (s .edges)) j ≡ entryAt h j
+        entry j =
+            split (ltb j (s .edges))
+            (λ t. ap high (renumbered j (ltb-true j (s .edges) t)) ∙ entry-renumbered last (getD h j 0))
+            (λ t. ap high (to-past last h (s .edges) j (ltb-false j (s .edges) t)))
+
+        own : (j : ℕ) → j < 1024 → u ≡ 1 + 2 * j → entryAt (gone g last (s .edges)) j ≡ 2
+        own j m z = entry j ∙ entered-own (vacated g last) u 2 bare-length j m z
+
+        other : (j : ℕ) → j < 1024 → (u ≡ 1 + 2 * j → ⊥) → entryAt (gone g last (s .edges)) j ≡ entryAt g j
+        other j m d = entry j ∙ entered-other (vacated g last) u 2 j d ∙ ap high (apart j m)
+
+        told : (i j : ℕ) → i < s .nodes - 1 → j < 1024 → getD (gone g last (s .edges)) (1024 + i) 0 % 262144 ≡ 1 + 2 * j → entryAt (gone g last (s .edges)) j ≡ i + 1
+        told i j l m z =
+            split (eqb i 1)
+            (λ t. let y : i ≡ 1 = eqb-true i 1 t in
+            let x : u ≡ 1 + 2 * j = ap low (sym (one (omega arith))) ∙ ap (λ (n : ℕ). getD (gone g last (s .edges)) (1024 + n) 0 % 262144) (sym y) ∙ z in
+            own j m x ∙ ap (λ (n : ℕ). n + 1) (sym y))
+            (λ t. let x : getD g (1024 + i) 0 % 262144 ≡ 1 + 2 * j = ap low (sym (place i (λ y. omega arith) (eqb-false i 1 t))) ∙ z in
+            other j m (λ y. P .unlike i last l (omega (arith, P .two)) (x ∙ sym y))
+            ∙ P .stored .direct .told i j (omega arith) m x)
+
+        second : getD g 1025 0 % 262144 ≡ 2
+        second = ap low (P .second)
+
+        stands : (i j : ℕ) → j < 1024 → entryAt (gone g last (s .edges)) j ≡ i + 1 → (i < s .nodes - 1) × (getD (gone g last (s .edges)) (1024 + i) 0 % 262144 ≡ 1 + 2 * j)
+        stands i j m z =
+            split (eqb u (1 + 2 * j))
+            (λ t. let y : u ≡ 1 + 2 * j = eqb-true u (1 + 2 * j) t in
+            let x : _≡_ {A = ℕ} 2 (i + 1) = sym (own j m y) ∙ z in
+            let w : i ≡ 1 = omega arith in
+            let n : last ≡ 1 → ⊥ = λ a. (let b : _≡_ {A = ℕ} 2 (1 + 2 * j) = sym second ∙ ap (λ (n : ℕ). getD g (1024 + n) 0 % 262144) (sym a) ∙ y in omega arith) in
+            let l : 1 < last = omega (arith, n, P .two) in
+            (rw w l, rw w (ap low (one l) ∙ y)))
+            (λ t. let d : u ≡ 1 + 2 * j → ⊥ = eqb-false u (1 + 2 * j) t in
+            let x : (i < s .nodes) × (getD g (1024 + i) 0 % 262144 ≡ 1 + 2 * j) = P .stored .direct .stands i j m (sym (other j m d) ∙ z) in
+            let a : i ≡ last → ⊥ = λ b. d (ap (λ (n : ℕ). getD g (1024 + n) 0 % 262144) (sym b) ∙ x .1) in
+            let o : i ≡ 1 → ⊥ = λ b. (let c : _≡_ {A = ℕ} 2 (1 + 2 * j) = sym second ∙ ap (λ (n : ℕ). getD g (1024 + n) 0 % 262144) (sym b) ∙ x .1 in omega arith) in
+            (omega (arith, a, x .0), ap low (place i a o) ∙ x .1))
 
         sources : (e : ℕ) → e < s .edges → getD (gone g last (s .edges)) e 0 % 256 < 128
         sources e l =
@@ -342,12 +433,13 @@ module _ (g : List ℕ) (s : Size) (P : Growing g s) where
             (λ t. rw t (omega (arith, P .two, d, eqb-true (getD g e 0 / 256 % 256) last t)))
             (λ t. rw t (omega (arith, P .stored .target e l, eqb-false (getD g e 0 / 256 % 256) last t))))
 
--- k is the table that the renumbering left
-module _ (g k : List ℕ) (s : Size) (b : Bool) (e : k ≡ renumberTo (s .nodes - 1) (set (set g 1025 (getD g (1024 + (s .nodes - 1)) 0)) (1024 + (s .nodes - 1)) 0) (s .edges)) (P : Growing g s) (q : b ≡ allBelow (spares g) (s .edges)) (f : not b ≡ false) where
+module _ (g k : List ℕ) (s : Size) (b : Bool) (e : k ≡ removed g (s .nodes - 1) (s .edges)) (P : Growing g s) (q : b ≡ allBelow (spares g) (s .edges)) (f : not b ≡ false) where
   pub gone-graph : graphIn k (goneSize s) ≡ settle (graphIn g s)
+  unfolding removed
   gone-graph = rw e (settle-gone g s P b q f)
 
   pub gone-stored : Stored k (goneSize s)
+  unfolding removed
   gone-stored = rw e (settle-stored g s P b q f)
 
 pub ruleset settles = (settle-kept, gone-graph, gone-stored)

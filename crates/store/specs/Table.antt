@@ -1,4 +1,5 @@
--- What the table of words holds: edges from place 0 on, nodes from place 1024 on. This is the one file that says where they stand.
+-- What the table of words holds: edges from place 0 on, nodes from place 1024 on, above the edges the direct table of `Direct`. These two
+-- files say where they stand.
 use mathlib.Core.Path.{_≡_, refl, sym, ap, _∙_}
 use mathlib.Core.Bool.{true, false}
 use mathlib.Core.List.{List, [], _∷_, map}
@@ -17,6 +18,7 @@ use Rattle.store.specs.declared.Edge.{Edge}
 use Rattle.store.specs.declared.Size.{Size}
 use Rattle.store.specs.declared.Put.{Put}
 use Rattle.store.specs.declared.Put.the-variants.{At, Full}
+use Rattle.store.specs.Direct.{Direct}
 use Rattle.store.specs.Graph.{Graph, handing, Added, added, full, nodeAt, firstAt, tryRequires, isConflict, isExcluded}
 use Rattle.store.specs.Words.{wordOf, nodeOf, firstOf, nodeNumber, edgeWord, edgeOf, weightOf, byKind, requires-is, requires-none, conflict-is, conflict-not, excluded-is, excluded-not}
 
@@ -46,8 +48,8 @@ abbrev pub noEdge : Edge
 noEdge = record { source = 0; target = 0; weight = W.Requires 0; clause = 0 }
 
 -- the promise: within the limits, node 0 the root (its word 0 with clause 65,535 at 2^18), each word the one that its node and clause,
--- or its edge, has, and 0 where there is none, so that the table is known from its graph; each edge's ends numbers of nodes (a source
--- is compared and chained, never looked up: it is below the limit)
+-- or its edge below 2^56, has, and 0 where there is none, and the direct table, so that the table is known from its graph; each edge's ends
+-- numbers of nodes (a source is compared and chained, never looked up: it is below the limit)
 pub record Stored (g : List ℕ) (s : Size) : Type 0 where
   pub long : length g ≡ 1152
   pub some : 1 ≤ s .nodes
@@ -56,15 +58,17 @@ pub record Stored (g : List ℕ) (s : Size) : Type 0 where
   pub root : getD g 1024 0 ≡ 17179607040
   pub word : (i : ℕ) → i < s .nodes → wordOf (nodeOf (getD g (1024 + i) 0)) + 262144 * firstOf (getD g (1024 + i) 0) ≡ getD g (1024 + i) 0
   pub no-node : (i : ℕ) → s .nodes ≤ i → i < 128 → getD g (1024 + i) 0 ≡ 0
-  pub packed : (e : ℕ) → e < s .edges → edgeWord (edgeOf (getD g e 0)) ≡ getD g e 0
-  pub no-edge : (e : ℕ) → s .edges ≤ e → e < 1024 → getD g e 0 ≡ 0
+  pub packed : (e : ℕ) → e < s .edges → edgeWord (edgeOf (getD g e 0)) ≡ getD g e 0 % 72057594037927936
+  pub no-edge : (e : ℕ) → s .edges ≤ e → e < 1024 → getD g e 0 % 72057594037927936 ≡ 0
   pub source : (e : ℕ) → e < s .edges → getD g e 0 % 256 < 128
   pub target : (e : ℕ) → e < s .edges → getD g e 0 / 256 % 256 < s .nodes
+  pub direct : Direct g (s .nodes)
 
--- while the graph grows, node 1 is kept for `unresolved`, and no two nodes have the same word, their clauses left out
+-- while the graph grows, node 1 is `unresolved` (its word 2 with clause 65,535), and no two nodes have the same word, their clauses left out
 pub record Growing (g : List ℕ) (s : Size) : Type 0 where
   pub stored : Stored g s
   pub two : 2 ≤ s .nodes
+  pub second : getD g 1025 0 ≡ 17179607042
   pub unlike : (i j : ℕ) → i < j → j < s .nodes → getD g (1024 + i) 0 % 262144 ≡ getD g (1024 + j) 0 % 262144 → ⊥
 
 -- ---- the table with clause i at hand: no word changes
@@ -75,7 +79,7 @@ taken s i = record { nodes = s .nodes; edges = s .edges; hand = i }
 pub taken-growing : (g : List ℕ) (s : Size) (i : ℕ) → Growing g s → Growing g (taken s i)
 taken-growing g s i P =
     let S = P .stored in
-    record { stored = record { long = S .long; some = S .some; nodes-most = S .nodes-most; edges-most = S .edges-most; root = S .root; word = S .word; no-node = S .no-node; packed = S .packed; no-edge = S .no-edge; source = S .source; target = S .target }; two = P .two; unlike = P .unlike }
+    record { stored = record { long = S .long; some = S .some; nodes-most = S .nodes-most; edges-most = S .edges-most; root = S .root; word = S .word; no-node = S .no-node; packed = S .packed; no-edge = S .no-edge; source = S .source; target = S .target; direct = S .direct }; two = P .two; second = P .second; unlike = P .unlike }
 
 pub taken-graph : (g : List ℕ) (s : Size) (i : ℕ) → graphIn g (taken s i) ≡ handing i (graphIn g s)
 unfolding graphIn

@@ -315,10 +315,11 @@ word-excluded x s e h = rw e (record { is = refl; fits = h; small = omega arith 
 pub record EdgeWord (e : Edge) (r : ℕ) : Type 0 where
   pub is : r ≡ edgeWord e
   pub back : edgeOf r ≡ e
+  pub small : r < 72057594037927936
 
 -- v, what a call gave for the weight
 pub edge-packed : (e : Edge) (v : ℕ) → WeightWord (e .weight) v → e .source < 256 → e .target < 256 → e .clause < 65536 → EdgeWord e (e .source + 256 * e .target + 65536 * (v + 16777216 * e .clause))
-edge-packed e v q hs ht hc = record { is = ap (λ (n : ℕ). e .source + 256 * e .target + 65536 * (n + 16777216 * e .clause)) (q .is); back = edge-back e v (q .is) hs ht (q .fits) hc }
+edge-packed e v q hs ht hc = record { is = ap (λ (n : ℕ). e .source + 256 * e .target + 65536 * (n + 16777216 * e .clause)) (q .is); back = edge-back e v (q .is) hs ht (q .fits) hc; small = omega (arith, q .small) }
 
 pub ruleset packs = (cause-locked, cause-constrains, cause-forbid, cause-excluded, weight-requires, weight-conflict, word-root, word-solvable, word-unresolved, word-excluded, edge-packed)
 

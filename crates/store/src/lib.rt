@@ -2,12 +2,13 @@
 // of `unresolved`. It knows nothing of records, and it alone knows the packing.
 ghost use mathlib.Core.Path.{_≡_};
 ghost use Prim.Native.Nat.{_+_, _*_, _-_, _<_, _≤_, _/_, _%_};
-ghost use lib.ListN.{length, replicate, getD};
+ghost use lib.ListN.{length, replicate};
 ghost use Rattle.store.specs.Graph.{startGraph, addNode, addEdge, addLink, renumber, settle, tryRequires, isConflict, isExcluded};
 ghost use Rattle.store.specs.Words.{weightOf, byKind, EdgeWord, CauseWord, WeightWord, NodeWord};
 ghost use Rattle.basis.specs.Below.{allBelow};
-ghost use Rattle.store.specs.Settling.{spares, renumberWord, renumberTo};
+ghost use Rattle.store.specs.Settling.{spares, renumberWord, renumberTo, removed};
 ghost use Rattle.store.specs.Adding.{findOf, addTarget};
+ghost use Rattle.store.specs.Direct.{entryAt, entered, more, putAt};
 ghost use Rattle.store.specs.Table.{graphIn, edgeIn, nodeIn, firstIn, Stored, Growing, addedIn, sizeOf, placeOf};
 
 // A node (conflict.rs: `ConflictNode`), with the number of the solvable or reason.
@@ -222,57 +223,78 @@ fn find_node(g: &[u64; 1152], k: usize, w: u64) -> usize
     k
 }
 
-// Where word w stands if nodes and their words go up together from node n on.
-fn guess(g: &[u64; 1152], w: u64, n: usize) -> usize
-    requires { ⌜ (w < 262144) × (n < 256) ⌝ }
-    ensures { λ r. ⌜ r ≡ (4 * n + w - getD (now (g .entry)) (1024 + n) 0 % 262144) / 4 ⌝ }
+// Entry k of the direct table.
+fn entry_at(g: &[u64; 1152], k: usize) -> u64
+    ensures { λ r. ⌜ (r ≡ entryAt (now (g .entry)) k) × (r < 256) ⌝ }
 {
-    let v = basis::get64(g, 1024 + n) % 262144;
-    let up = 4 * (n as u64) + w;
-    if v <= up { ((up - v) / 4) as usize } else { 0 }
+    basis::get64(g, k) / 72057594037927936
 }
 
-// The place of word w among the nodes, or their count: looked for at place `near` first.
-fn find_near(g: &[u64; 1152], s: Size, w: u64, near: usize) -> usize
+// The place of word w among the nodes, or their count. Root is node 0 and unresolved node 1 while the graph grows; solvables and reasons
+// below 512, which are all that a file can name, have an entry in the direct table.
+fn find(g: &[u64; 1152], s: Size, w: u64) -> usize
     requires { ⌜ Growing (now g) s ⌝ }
     ensures { λ r. ⌜ r ≡ findOf (now (g .entry)) (s .nodes) w ⌝ }
 {
     let k = s.nodes;
-    if near < k {
-        if g[1024 + near] % 262144 == w {
-            return near;
+    if w < 2048 {
+        if w % 2 == 1 {
+            let e = entry_at(g, (w / 2) as usize);
+            if e == 0 {
+                return k;
+            }
+            return (e - 1) as usize;
+        }
+        if w <= 2 {
+            return (w / 2) as usize;
         }
     }
     find_node(g, k, w)
 }
 
-// The node's number, a new one where it is not there yet; a node n that stands near it saves the search.
-fn add_near(g: &mut [u64; 1152], s: Size, x: ConflictNode, n: usize) -> Put
-    requires { ⌜ Growing (now g) s ⌝ }
+// The entry of word w in the direct table becomes n, where it has one.
+fn enter(g: &mut [u64; 1152], w: u64, n: u64)
     requires { ⌜ n < 256 ⌝ }
-    ensures { λ r. ⌜ addedIn (now (g .exit)) r ≡ addNode (graphIn (now (g .entry)) s) x ⌝ }
-    ensures { λ r. ⌜ Growing (now (g .exit)) (sizeOf r) × (placeOf r < sizeOf r .nodes) ⌝ }
+    ensures { λ _. ⌜ now (g .exit) ≡ entered (now (g .entry)) w n ⌝ }
+{
+    if 2048 <= w {
+        return;
+    }
+    if w % 2 == 0 {
+        return;
+    }
+    let k = (w / 2) as usize;
+    let v = g[k] % 72057594037927936;
+    g[k] = v + 72057594037927936 * n;
+}
+
+// The node's number, a new one where it is not there yet; 128 where there is no room.
+fn put_node(g: &mut [u64; 1152], s: Size, x: ConflictNode) -> usize
+    requires { ⌜ Growing (now g) s ⌝ }
+    ensures { λ r. ⌜ addedIn (now (g .exit)) (putAt s r) ≡ addNode (graphIn (now (g .entry)) s) x ⌝ }
+    ensures { λ r. ⌜ Growing (now (g .exit)) (sizeOf (putAt s r)) × (placeOf (putAt s r) < sizeOf (putAt s r) .nodes) ⌝ }
 {
     let w = node_word(x);
     let k = s.nodes;
-    let near = guess(g, w, n);
-    let i = find_near(g, s, w, near);
+    let i = find(g, s, w);
     if i < k {
-        return Put::At(i, s);
+        return i;
     }
     if 128 <= k {
-        return Put::Full(s);
+        return 128;
     }
     let c = s.hand as u64;
     g[1024 + k] = w + 262144 * c;
-    Put::At(
-        k,
-        Size {
-            nodes: k + 1,
-            edges: s.edges,
-            hand: s.hand,
-        },
-    )
+    enter(g, w, (k + 1) as u64);
+    k
+}
+
+// How many nodes there are once node i is in.
+fn more(k: usize, i: usize) -> usize
+    requires { ⌜ k ≤ 128 ⌝ }
+    ensures { λ r. ⌜ r ≡ more k i ⌝ }
+{
+    if i < k { k } else { k + 1 }
 }
 
 // The node's number, a new one where it is not there yet (conflict.rs: `add_node`).
@@ -281,7 +303,19 @@ pub fn add_node(g: &mut [u64; 1152], s: Size, x: ConflictNode) -> Put
     ensures { λ r. ⌜ addedIn (now (g .exit)) r ≡ addNode (graphIn (now (g .entry)) s) x ⌝ }
     ensures { λ r. ⌜ Growing (now (g .exit)) (sizeOf r) × (placeOf r < sizeOf r .nodes) ⌝ }
 {
-    add_near(g, s, x, 0)
+    let i = put_node(g, s, x);
+    if 128 <= i {
+        return Put::Full(s);
+    }
+    let n = more(s.nodes, i);
+    Put::At(
+        i,
+        Size {
+            nodes: n,
+            edges: s.edges,
+            hand: s.hand,
+        },
+    )
 }
 
 fn add_edge(g: &mut [u64; 1152], s: Size, e: Edge) -> Put
@@ -294,7 +328,9 @@ fn add_edge(g: &mut [u64; 1152], s: Size, e: Edge) -> Put
     if 1024 <= m {
         return Put::Full(s);
     }
-    g[m] = edge_word(e);
+    let w = edge_word(e);
+    let k = entry_at(g, m);
+    g[m] = w + 72057594037927936 * k;
     Put::At(
         m,
         Size {
@@ -312,55 +348,51 @@ fn small(i: usize) -> u8
     i as u8
 }
 
-// The edge added last, 0 where there is none.
-fn last_edge(s: Size) -> usize
-    ensures { λ r. ⌜ r ≡ s .edges - 1 ⌝ }
-{
-    let m = s.edges;
-    if 0 < m { m - 1 } else { 0 }
-}
-
-// The target, then the edge from node `source`. Candidates of a requirement often stand in the order of their numbers.
+// The target, then the edge from node `source`.
 fn link_to(g: &mut [u64; 1152], s: Size, source: u8, y: ConflictNode, w: ConflictEdge) -> Put
     requires { ⌜ Growing (now g) s ⌝ }
     requires { ⌜ source < 128 ⌝ }
     ensures { λ r. ⌜ addedIn (now (g .exit)) r ≡ addTarget (graphIn (now (g .entry)) s) source y w ⌝ }
     ensures { λ r. ⌜ Growing (now (g .exit)) (sizeOf r) ⌝ }
 {
-    let last = last_edge(s);
-    let n = target_at(g, last);
-    let a = add_near(g, s, y, n);
-    match a {
-        Put::Full(t) => Put::Full(t),
-        Put::At(j, t) => {
-            let target = small(j);
-            let e = Edge {
-                source,
-                target,
-                weight: w,
-                clause: t.hand,
-            };
-            add_edge(g, t, e)
-        }
+    let j = put_node(g, s, y);
+    if 128 <= j {
+        return Put::Full(s);
     }
+    let n = more(s.nodes, j);
+    let t = Size {
+        nodes: n,
+        edges: s.edges,
+        hand: s.hand,
+    };
+    let target = small(j);
+    let e = Edge {
+        source,
+        target,
+        weight: w,
+        clause: s.hand,
+    };
+    add_edge(g, t, e)
 }
 
-// Both ends, the source first, then the edge. Edges of one source often come one after another.
+// Both ends, the source first, then the edge.
 pub fn link(g: &mut [u64; 1152], s: Size, x: ConflictNode, y: ConflictNode, w: ConflictEdge) -> Put
     requires { ⌜ Growing (now g) s ⌝ }
     ensures { λ r. ⌜ addedIn (now (g .exit)) r ≡ addLink (graphIn (now (g .entry)) s) x y w ⌝ }
     ensures { λ r. ⌜ Growing (now (g .exit)) (sizeOf r) ⌝ }
 {
-    let last = last_edge(s);
-    let n = source_at(g, last);
-    let a = add_near(g, s, x, n);
-    match a {
-        Put::Full(t) => Put::Full(t),
-        Put::At(i, t) => {
-            let source = small(i);
-            link_to(g, t, source, y, w)
-        }
+    let i = put_node(g, s, x);
+    if 128 <= i {
+        return Put::Full(s);
     }
+    let n = more(s.nodes, i);
+    let t = Size {
+        nodes: n,
+        edges: s.edges,
+        hand: s.hand,
+    };
+    let source = small(i);
+    link_to(g, t, source, y, w)
 }
 
 // No edge leads to node 1.
@@ -407,7 +439,19 @@ fn renumber_all(g: &mut [u64; 1152], m: usize, last: u64)
     }
 }
 
-// Unresolved goes if no edge leads to it, and the last node takes number 1 (petgraph: `remove_node`).
+// Node 1 goes, and node `last` takes its number, in the direct table and at the ends of the m edges too (petgraph: `remove_node`).
+fn remove(g: &mut [u64; 1152], last: usize, m: usize)
+    requires { ⌜ (last < 128) × (m ≤ 1024) ⌝ }
+    ensures { λ _. ⌜ now (g .exit) ≡ removed (now (g .entry)) last m ⌝ }
+{
+    let w = g[1024 + last];
+    g[1025] = w;
+    g[1024 + last] = 0;
+    enter(g, w % 262144, 2);
+    renumber_all(g, m, last as u64);
+}
+
+// Unresolved goes if no edge leads to it, and the last node takes number 1.
 pub fn settle(g: &mut [u64; 1152], s: Size) -> Size
     requires { ⌜ Growing (now g) s ⌝ }
     ensures { λ r. ⌜ (graphIn (now (g .exit)) r ≡ settle (graphIn (now (g .entry)) s)) × Stored (now (g .exit)) r ⌝ }
@@ -418,10 +462,7 @@ pub fn settle(g: &mut [u64; 1152], s: Size) -> Size
         return s;
     }
     let last = s.nodes - 1;
-    let w = g[1024 + last];
-    g[1025] = w;
-    g[1024 + last] = 0;
-    renumber_all(g, m, last as u64);
+    remove(g, last, m);
     Size {
         nodes: last,
         edges: m,
