@@ -33,6 +33,12 @@ typedef struct {
     uint16_t clause;
 } urzulempa_node;
 
+/* bytes: the length of the repaired file; replaced: how many numbers the list got; dropped: how many bytes behind the last whole
+ * record were left out. All three are 0 on a refusal. */
+typedef struct {
+    uint64_t number, place, bytes, replaced, dropped;
+} urzulempa_salvaged;
+
 /* The explanation; option 1 indents the top level. */
 urzulempa_answer urzulempa_explain(const uint8_t *file, size_t file_len, uint64_t option, uint8_t *room, size_t room_len);
 /* The same with option 0. */
@@ -52,6 +58,13 @@ urzulempa_answer urzulempa_nodes(const uint8_t *file, size_t file_len, urzulempa
  * list_len counts numbers: 5 * 1,024 are enough. Numbers past the last edge stay; `bytes` is 10 times the edges.
  * 10 with place 0 and nothing written if the list is shorter than that. */
 urzulempa_answer urzulempa_edges(const uint8_t *file, size_t file_len, uint16_t *list, size_t list_len);
+/* Repairs a file that was cut or damaged into the room. Bytes behind the last whole record are dropped; each clause that would get 3, 4
+ * or 5, and each Learnt in the core, is replaced by kind 16 with flag 0 and all else zero, so that clause numbers hold. The list gets the
+ * numbers of the replaced records, in order. What is repaired never gets 1 to 7. file_len bytes of room and 1,024 numbers are enough;
+ * what lies behind those written stays.
+ * 1 only for more than 65,536 bytes; 2, 6 (a clause past 1,024 first of all), and 3, 4 and 5 of kinds 1 to 8, stop the repair; then 10
+ * with place 0 if the room or the list is too short. Any refusal leaves both as they were. */
+urzulempa_salvaged urzulempa_salvage(const uint8_t *file, size_t file_len, uint8_t *room, size_t room_len, uint16_t *list, size_t list_len);
 
 #ifdef __cplusplus
 }

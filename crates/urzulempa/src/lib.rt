@@ -16,8 +16,10 @@ pub struct Answer {
     pub depth: u64,
 }
 
+use salvage::Salvaged;
 ghost use mathlib.Core.Path.{_≡_};
 ghost use lib.ListN.{length};
+ghost use Rattle.salvage.specs.Lent.{salvageAnswer, salvageRoom, salvageList};
 ghost use Rattle.texts.specs.Wrote.{over};
 ghost use Rattle.urzulempa.specs.Answers.{checkOf};
 ghost use Rattle.urzulempa.specs.Draws.{resultAnswer, drawFile};
@@ -116,4 +118,15 @@ pub extern "C" fn urzulempa_edges(file: &[u8], list: &mut [u16]) -> Answer
     let mut tr = [0u64; 1280];
     let mut ls = [0u16; 3456];
     edges::edges_in(file, &mut ix, &mut g, &mut tr, &mut ls, list)
+}
+
+// Repairs a damaged file into the room and lists the numbers of the replaced records (order 7). 1 for above 65,536 bytes, a record's
+// refusal, 10 where room or list is short: both are as before then. Bytes and numbers past those written stay.
+#[no_mangle]
+pub extern "C" fn urzulempa_salvage(file: &[u8], room: &mut [u8], list: &mut [u16]) -> Salvaged
+    ensures { λ r. ⌜ r ≡ salvageAnswer (now (file .entry)) (length (now (room .entry))) (length (now (list .entry))) ⌝ }
+    ensures { λ _. ⌜ now (room .exit) ≡ salvageRoom (now (file .entry)) (now (room .entry)) (length (now (list .entry))) ⌝ }
+    ensures { λ _. ⌜ now (list .exit) ≡ salvageList (now (file .entry)) (length (now (room .entry))) (now (list .entry)) ⌝ }
+{
+    salvage::salvage(file, room, list)
 }

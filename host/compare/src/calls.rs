@@ -27,7 +27,7 @@ pub struct Trial {
 const ALL_EDGES: usize = 5 * urzulempa::MOST_EDGES;
 
 /// Rooms up to this size are ample for most files; larger texts are cut by 10 on both sides.
-const AMPLE: usize = 16 << 10;
+pub const AMPLE: usize = 16 << 10;
 
 impl Trial {
     /// The answer's number, or what differs.
@@ -95,7 +95,7 @@ fn our_node(b: &[u8]) -> urzulempa::Node {
 }
 
 /// Bytes of every value, so that an untouched one is seen.
-fn filled(len: usize, seed: u64) -> Vec<u8> {
+pub fn filled(len: usize, seed: u64) -> Vec<u8> {
     let mut rng = Rng::new(seed);
     (0..len).map(|_| (rng.next() >> 32) as u8).collect()
 }

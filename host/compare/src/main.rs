@@ -1,12 +1,14 @@
 //! The port against the oracle: every call, on generated files, with rooms of every kind. Answers, whole rooms and whole lists of
-//! nodes and edges have to be equal, untouched bytes among them.
+//! nodes, edges and replaced records have to be equal, untouched bytes among them.
 
 mod calls;
+mod salvage;
 mod shrink;
 
 use calls::{Call, Trial};
 use oracle::generate;
 use oracle::rng::Rng;
+use std::fmt::Debug;
 use std::process::ExitCode;
 
 const USAGE: &str = "usage: compare files N SEED   the hand-made files, then N generated ones over all shapes; all calls, all rooms
@@ -14,6 +16,8 @@ const USAGE: &str = "usage: compare files N SEED   the hand-made files, then N g
        compare nodes N SEED   the same with the node list alone
        compare edges N SEED   the same with the edge list alone
        compare editions N SEED the same with the explanation by edition alone, in rooms around the ends of more lines
+       compare salvage N SEED the repair alone: a small file with every kind of record damaged in full, files around 1,024 clauses,
+                              then N generated files, damaged; what is repaired is explained on both sides
        compare bytes          a small file with every kind of record, each byte set to each value
 Status: 0 no difference, 1 a difference, 64 wrong usage, 77 without conflict.rs.";
 
@@ -21,7 +25,7 @@ fn main() -> ExitCode {
     let words: Vec<String> = std::env::args().skip(1).collect();
     let words: Vec<&str> = words.iter().map(String::as_str).collect();
     let job = match words[..] {
-        ["files" | "check" | "nodes" | "edges" | "editions", n, seed] => match (n.parse(), seed.parse()) {
+        ["files" | "check" | "nodes" | "edges" | "editions" | "salvage", n, seed] => match (n.parse(), seed.parse()) {
             (Ok(n), Ok(seed)) => Some((n, seed)),
             _ => None,
         },
@@ -36,7 +40,11 @@ fn main() -> ExitCode {
         println!("compare: skipped: conflict.rs was not there when this was built");
         return ExitCode::from(77);
     }
-    let found = if words[0] == "bytes" { bytes() } else { files(n, seed, words[0]) };
+    let found = match words[0] {
+        "bytes" => bytes(),
+        "salvage" => salvages(n, seed),
+        only => files(n, seed, only),
+    };
     if found { ExitCode::from(1) } else { ExitCode::SUCCESS }
 }
 
@@ -67,8 +75,28 @@ fn files(n: u64, seed: u64, only: &str) -> bool {
             return true;
         }
     }
-    let seen: Vec<String> = tally.numbers.iter().enumerate().filter(|(_, c)| **c > 0).map(|(k, c)| format!("{k}: {c}")).collect();
-    println!("compare: {n} generated files and {} made by hand, {} answers compared, 0 differences; answers by number: {}", hand_made().len(), tally.answers, seen.join(", "));
+    println!("compare: {n} generated files and {} made by hand, {} answers compared, 0 differences; answers by number: {}", hand_made().len(), tally.answers, tally.seen());
+    false
+}
+
+/// The repair alone; true if a difference was found.
+fn salvages(n: u64, seed: u64) -> bool {
+    let mut tally = Tally::default();
+    let mut rng = Rng::new(seed);
+    let made = hand_made().into_iter().chain(salvage::exhaustive(&calls::every_kind(), &mut rng));
+    let generated = (0..n).filter_map(|index| {
+        let (shape, shape_seed) = generate::pick(index, seed);
+        let mut rng = Rng::new(shape_seed ^ index.rotate_left(24));
+        let file = salvage::damaged(generate::file(shape, shape_seed)?, &mut rng);
+        Some((format!("shape {shape} seed {shape_seed}, damaged"), file))
+    });
+    for (whence, file) in made.chain(generated) {
+        if tally.repairs_differ(&whence, &file, &mut rng, usize::MAX) {
+            return true;
+        }
+    }
+    let Tally { answers, tried, repaired, mended, .. } = tally;
+    println!("compare: {tried} damaged files, {answers} answers compared, 0 differences; {repaired} were repaired, {mended} of them with replaced records; answers by number: {}", tally.seen());
     false
 }
 
@@ -76,9 +104,54 @@ fn files(n: u64, seed: u64, only: &str) -> bool {
 struct Tally {
     answers: u64,
     numbers: [u64; 13],
+    /// Files that were to be repaired, those that were, and those among them with a replaced record.
+    tried: u64,
+    repaired: u64,
+    mended: u64,
 }
 
 impl Tally {
+    /// How many answers had each number.
+    fn seen(&self) -> String {
+        let seen = self.numbers.iter().enumerate().filter(|(_, count)| **count > 0);
+        seen.map(|(number, count)| format!("{number}: {count}")).collect::<Vec<_>>().join(", ")
+    }
+
+    fn count(&mut self, number: u64) {
+        self.answers += 1;
+        self.numbers[usize::try_from(number).unwrap_or(12).min(12)] += 1;
+    }
+
+    /// The repair of a file into at most so many of the lent places, and what becomes of it; a difference is reported.
+    fn repairs_differ(&mut self, whence: &str, file: &[u8], rng: &mut Rng, most: usize) -> bool {
+        let mut lents = salvage::lents(file, rng);
+        while lents.len() > most {
+            lents.swap_remove(rng.below(lents.len()));
+        }
+        for lent in lents {
+            match lent.run(file) {
+                Ok(number) => self.count(number),
+                Err(_) => {
+                    report(whence, file, &lent, |f| lent.run(f).err());
+                    return true;
+                }
+            }
+        }
+        self.tried += 1;
+        match salvage::outcome(file) {
+            Ok(outcome) => {
+                self.answers += outcome.answers;
+                self.repaired += u64::from(outcome.repaired.is_some());
+                self.mended += u64::from(outcome.repaired.is_some_and(|r| !r.replaced.is_empty()));
+                false
+            }
+            Err(_) => {
+                report(whence, file, &"the repaired file", |f| salvage::outcome(f).err());
+                true
+            }
+        }
+    }
+
     /// All trials of a file, or those of one call; a difference is reported.
     fn differs(&mut self, only: &str, whence: &str, file: &[u8], rng: &mut Rng) -> bool {
         let mut trials = if only == "editions" { calls::editions(file, rng, LINE_ENDS) } else { calls::trials(file, rng) };
@@ -89,16 +162,19 @@ impl Tally {
             _ => {}
         }
         for trial in trials {
-            self.answers += 1;
             match trial.run(file) {
-                Ok(number) => self.numbers[usize::try_from(number).unwrap_or(12).min(12)] += 1,
+                Ok(number) => self.count(number),
                 Err(_) => {
-                    report(whence, file, &trial);
+                    report(whence, file, &trial, |f| trial.run(f).err());
                     return true;
                 }
             }
         }
-        false
+        // Three of the lent places for the file and three for a damaged one; `compare salvage` takes all.
+        only == "files" && {
+            let damaged = salvage::damaged(file.to_vec(), rng);
+            self.repairs_differ(whence, file, rng, 3) || self.repairs_differ(&format!("{whence}, damaged"), &damaged, rng, 3)
+        }
     }
 }
 
@@ -112,7 +188,7 @@ fn bytes() -> bool {
             damaged[at] = value;
             tried += 1;
             if CHECK.run(&damaged).is_err() {
-                report(&format!("byte {at} set to {value}"), &damaged, &CHECK);
+                report(&format!("byte {at} set to {value}"), &damaged, &CHECK, |f| CHECK.run(f).err());
                 return true;
             }
         }
@@ -122,14 +198,15 @@ fn bytes() -> bool {
     false
 }
 
-fn report(whence: &str, file: &[u8], trial: &Trial) {
-    let smallest = shrink::smallest(file, |f| trial.run(f).is_err());
-    println!("compare: 1 difference: {whence}, {trial:?}");
+/// Prints the smallest file found that shows a difference, and what it is.
+fn report(whence: &str, file: &[u8], tried: &dyn Debug, differs: impl Fn(&[u8]) -> Option<String>) {
+    let smallest = shrink::smallest(file, |f| differs(f).is_some());
+    println!("compare: 1 difference: {whence}, {tried:?}");
     println!("the smallest file found has {} bytes:", smallest.len());
     for record in smallest.chunks(32) {
         println!("  {}", record.iter().map(|b| format!("{b:02x}")).collect::<Vec<_>>().join(" "));
     }
-    if let Err(said) = trial.run(&smallest) {
+    if let Some(said) = differs(&smallest) {
         println!("{said}");
     }
 }

@@ -17,20 +17,53 @@ fn run(words: &[&str], file: &[u8]) -> Output {
 #[test]
 fn ten_thousand_damaged_files_get_an_answer() {
     let shapes = ["double-faults", "wrong-origins", "bits-flipped", "fields-changed", "cut", "records-swapped", "unused-bytes", "random-records", "random-bytes", "bytes-65568"];
-    let calls = [&["check", "-"][..], &["explain", "-", "--room", "3000"], &["explain", "-", "--edition", "2"], &["graph", "-", "--simplify", "--room", "3000"], &["nodes", "-"], &["edges", "-"]];
-    let mut refused = 0;
+    let out = format!("{}/mended-{}.rec", env!("CARGO_TARGET_TMPDIR"), std::process::id());
+    let calls = [
+        &["check", "-"][..],
+        &["explain", "-", "--room", "3000"],
+        &["explain", "-", "--edition", "2"],
+        &["graph", "-", "--simplify", "--room", "3000"],
+        &["nodes", "-"],
+        &["edges", "-"],
+        &["salvage", "-", "-o", &out],
+    ];
+    let (mut refused, mut mended) = (0, 0);
     for index in 0..10_000 {
         let shape = shapes[index % shapes.len()];
         let file = oracle::generate::file(shape, index as u64).expect("a shape of the generator");
         let words = calls[index / shapes.len() % calls.len()];
-        let out = run(words, &file);
-        let err = String::from_utf8_lossy(&out.stderr).into_owned();
-        match out.status.code() {
+        let ran = run(words, &file);
+        let err = String::from_utf8_lossy(&ran.stderr).into_owned();
+        match ran.status.code() {
             Some(0) => assert!(err.is_empty(), "{shape} {index} {words:?}: {err}"),
             Some(2) => assert!(err.starts_with("refused ") && !err.contains("panicked"), "{shape} {index} {words:?}: {err}"),
             other => panic!("{shape} {index} {words:?}: status {other:?}, {err}"),
         }
-        refused += usize::from(out.status.code() == Some(2));
+        refused += usize::from(ran.status.code() == Some(2));
+        if words[0] == "salvage" {
+            mended += usize::from(told_right(&file, &out, &ran));
+        }
     }
     assert!(refused > 5_000, "{refused} were refused");
+    assert!(mended > 100, "{mended} were mended");
+}
+
+/// Whether a file was mended: then OUT is what the model gives, and each replaced record is told with the refusal that it would get.
+fn told_right(file: &[u8], out: &str, ran: &Output) -> bool {
+    let written = std::fs::read(out).ok();
+    let _ = std::fs::remove_file(out);
+    let Ok(model) = oracle::salvage::repair(file) else {
+        assert_eq!((ran.status.code(), written), (Some(2), None));
+        return false;
+    };
+    assert_eq!((ran.status.code(), written), (Some(0), Some(model.file)));
+    let said = String::from_utf8_lossy(&ran.stdout).into_owned();
+    let told = said.lines().filter(|line| line.contains(" is replaced: "));
+    let wanted: Vec<String> = model.replaced.iter().map(|(record, number)| format!("record {record}, it would get {number}, ")).collect();
+    let short = |line: &str| {
+        let (_, why) = line.rsplit_once(": it would get ").expect("what was wrong");
+        format!("{}, it would get {}, ", line.split(',').next().unwrap_or_default(), why.split(',').next().unwrap_or_default())
+    };
+    assert_eq!(told.map(short).collect::<Vec<_>>(), wanted, "{said}");
+    !wanted.is_empty()
 }

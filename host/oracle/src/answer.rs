@@ -81,6 +81,28 @@ impl Edition {
     }
 }
 
+/// What a repair answers (document 02, order 7): `bytes` of the repaired file, how many records were `replaced`, how many bytes
+/// `dropped`. "On a refusal these are 0."
+#[repr(C)]
+#[derive(Clone, Copy, Debug, Default, PartialEq, Eq)]
+pub struct Salvaged {
+    pub number: u64,
+    pub place: u64,
+    pub bytes: u64,
+    pub replaced: u64,
+    pub dropped: u64,
+}
+
+impl From<Refusal> for Salvaged {
+    fn from(refusal: Refusal) -> Salvaged {
+        Salvaged {
+            number: refusal.number,
+            place: refusal.place,
+            ..Salvaged::default()
+        }
+    }
+}
+
 /// How the rules of `fmt_graph` went without refusal 11.
 #[derive(Clone, Copy, Debug, PartialEq, Eq)]
 pub struct Rules {

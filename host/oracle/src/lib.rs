@@ -4,7 +4,8 @@
 //! [`explain`], [`explain_edition`], [`graphviz`], [`check`], [`nodes`] and [`edges`] take any
 //! bytes. [`Problem`] and its [`Model`] are the same in steps, for many calls on one file. Where
 //! conflict.rs could not be had at build time, [`AVAILABLE`] is false and these must not be called;
-//! the reader, the generator and the samples are there all the same.
+//! the reader, the generator, the samples and [`salvage`], which the Rust does not have, are there
+//! all the same.
 
 mod answer;
 pub mod cases;
@@ -13,6 +14,7 @@ pub mod generate;
 pub mod reader;
 pub mod record;
 pub mod rng;
+pub mod salvage;
 pub mod samples;
 pub mod survey;
 
@@ -37,11 +39,13 @@ mod writer;
 #[path = "absent.rs"]
 mod calls;
 
-pub use answer::{Answer, Edge, Edition, Node, Refusal, Rules};
+pub use answer::{Answer, Edge, Edition, Node, Refusal, Rules, Salvaged};
 pub use calls::{
     check, edges, explain, explain_edition, graphviz, nodes, rewritten, rules, written, Model,
     Problem,
 };
+
+pub use salvage::salvage;
 
 /// Whether conflict.rs was there when this crate was built.
 pub const AVAILABLE: bool = cfg!(has_conflict_rs);

@@ -102,23 +102,10 @@ pub fn read(file: &[u8]) -> Result<Tables<'_>, Refusal> {
     }
     let mut tables = Tables::default();
     for (place, bytes) in file.chunks_exact(RECORD).enumerate() {
-        let refuse = |number| Refusal {
+        tables.take(bytes).map_err(|number| Refusal {
             number,
             place: place as u64,
-        };
-        let record = Record::cut(bytes);
-        let form = Form::of(record.kind).ok_or(refuse(2))?;
-        let text = record.text(form).ok_or(refuse(3))?;
-        if tables.is_full(record.kind) {
-            return Err(refuse(6));
-        }
-        if !tables.numbers_fit(&record) {
-            return Err(refuse(4));
-        }
-        if !tables.origins_fit(&record) {
-            return Err(refuse(5));
-        }
-        tables.add(&record, text);
+        })?;
     }
     Ok(tables)
 }
@@ -210,6 +197,25 @@ impl<'a> Record<'a> {
 }
 
 impl<'a> Tables<'a> {
+    /// Adds one record, or gives the first of 2, 3, 6, 4 and 5 that it gets behind these tables,
+    /// which then stay.
+    pub fn take(&mut self, bytes: &'a [u8]) -> Result<(), u64> {
+        let record = Record::cut(bytes);
+        let form = Form::of(record.kind).ok_or(2u64)?;
+        let text = record.text(form).ok_or(3u64)?;
+        if self.is_full(record.kind) {
+            return Err(6);
+        }
+        if !self.numbers_fit(&record) {
+            return Err(4);
+        }
+        if !self.origins_fit(&record) {
+            return Err(5);
+        }
+        self.add(&record, text);
+        Ok(())
+    }
+
     fn is_full(&self, kind: u8) -> bool {
         let (held, limit) = match kind {
             kind::NAME => (self.names.len(), NAMES),

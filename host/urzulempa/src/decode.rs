@@ -304,6 +304,16 @@ fn origin_fault(file: &[u8], r: &Record<'_>) -> Option<String> {
     None
 }
 
+/// Whether a kind is a clause's.
+pub fn is_clause(kind: u8) -> bool {
+    (16..=25).contains(&kind)
+}
+
+/// How many clauses stand before a record: its own number, if it is one.
+pub fn clauses_before(file: &[u8], record: u64) -> usize {
+    counts(file, record)[8]
+}
+
 /// The number of the record that holds a clause, counted among all clauses.
 pub fn clause_record(file: &[u8], clause: u64) -> Option<u64> {
     let n = usize::try_from(clause).ok()?;

@@ -1,6 +1,6 @@
-//! The seven exported functions of the library (include/urzulempa.h). None of them has a precondition: a slice is all they ask.
+//! The eight exported functions of the library (include/urzulempa.h). None of them has a precondition: a slice is all they ask.
 
-use crate::{Answer, Node};
+use crate::{Answer, Node, Salvaged};
 use std::mem::{align_of, size_of};
 
 extern "C" {
@@ -11,13 +11,15 @@ extern "C" {
     fn urzulempa_check(file: *const u8, file_len: usize) -> Answer;
     fn urzulempa_nodes(file: *const u8, file_len: usize, list: *mut Node, list_len: usize) -> Answer;
     fn urzulempa_edges(file: *const u8, file_len: usize, list: *mut u16, list_len: usize) -> Answer;
+    fn urzulempa_salvage(file: *const u8, file_len: usize, room: *mut u8, room_len: usize, list: *mut u16, list_len: usize) -> Salvaged;
 }
 
 // What the library reads and writes lies as the header lays it out: no field has a gap before it.
 const _: () = assert!(size_of::<Answer>() == 40 && align_of::<Answer>() == 8);
 const _: () = assert!(size_of::<Node>() == 10 && align_of::<Node>() == 2);
+const _: () = assert!(size_of::<Salvaged>() == 40 && align_of::<Salvaged>() == 8);
 
-// SAFETY, for all seven: pointer and length are those of one slice, and the library reads and writes inside it only (proved).
+// SAFETY, for all eight: pointer and length are those of one slice, and the library reads and writes inside it only (proved).
 
 pub fn explain(file: &[u8], option: u64, room: &mut [u8]) -> Answer {
     unsafe { urzulempa_explain(file.as_ptr(), file.len(), option, room.as_mut_ptr(), room.len()) }
@@ -45,4 +47,8 @@ pub fn nodes(file: &[u8], list: &mut [Node]) -> Answer {
 
 pub fn edges(file: &[u8], list: &mut [u16]) -> Answer {
     unsafe { urzulempa_edges(file.as_ptr(), file.len(), list.as_mut_ptr(), list.len()) }
+}
+
+pub fn salvage(file: &[u8], room: &mut [u8], list: &mut [u16]) -> Salvaged {
+    unsafe { urzulempa_salvage(file.as_ptr(), file.len(), room.as_mut_ptr(), room.len(), list.as_mut_ptr(), list.len()) }
 }

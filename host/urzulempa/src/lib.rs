@@ -1,7 +1,7 @@
 //! Why a load of packages has no solution: safe functions over the proved library.
 //!
-//! Every call takes any bytes and any room and gives an [`Answer`]; none of them panics or keeps anything, and none allocates but
-//! [`edges`], which makes its list. [`grown`] makes the room for one.
+//! Every call takes any bytes and any room and gives an [`Answer`], or [`salvage`] its [`Salvaged`]; none of them panics or keeps
+//! anything, and none allocates but [`edges`] and [`repaired`], which make what they fill. [`grown`] makes the room for one.
 //!
 //! ```
 //! use urzulempa::{explain, Refusal};
@@ -31,10 +31,12 @@ mod edge;
 mod edition;
 mod ffi;
 mod refusal;
+mod salvaged;
 
 pub use edge::{Edge, EdgeKind};
 pub use edition::Edition;
 pub use refusal::Refusal;
+pub use salvaged::{repaired, salvage, Repaired, Salvaged, MOST_REPLACED};
 
 /// What a call says: the text is whole, or a numbered refusal with its place; and what was written.
 #[repr(C)]
@@ -60,7 +62,7 @@ impl Answer {
 
     /// The refusal, unless the answer is done.
     pub fn refusal(&self) -> Option<Refusal> {
-        Refusal::of(self)
+        Refusal::of(self.number, self.place)
     }
 }
 

@@ -1,12 +1,14 @@
-//! The command: explain, graph, nodes, edges, check.
+//! The command: explain, graph, nodes, edges, check, salvage.
 
 mod decode;
+mod keep;
 mod lists;
+mod mended;
 
-use std::fs;
-use std::io::{self, Read, Write};
+use std::ffi::OsString;
+use std::io::{self, Write};
 use std::process::ExitCode;
-use urzulempa::{check, edges, graphviz, grown, Answer, Edition, Refusal};
+use urzulempa::{check, edges, graphviz, grown, repaired, Answer, Edition, Refusal};
 
 const HELP: &str = "\
 urzulempa: why a load of packages has no solution, from a file of clause records
@@ -20,6 +22,10 @@ urzulempa: why a load of packages has no solution, from a file of clause records
   urzulempa edges FILE [PACKAGE]                 the edges, oldest first, each with the clause that added it and that clause's
                                                  record; with PACKAGE (a name, or name and version) those that touch it
   urzulempa check FILE                           looks for refusals 1 to 9; says nothing if there are none
+  urzulempa salvage FILE -o OUT [--force]        repairs a file that was cut or damaged: drops the bytes behind the last whole
+                                                 record and puts an InstallRoot outside the core in the place of each damaged
+                                                 clause and each Learnt in the core; says what it replaced and what was wrong.
+                                                 OUT is written whole or not at all; it may be FILE itself only with --force
 
 FILE may be - for standard input. N is the most bytes of text (default 67108864).
 Text goes to standard output, everything else to standard error.
@@ -31,15 +37,18 @@ Examples:
   urzulempa graph samples/replay.rec --simplify | dot -Tsvg > replay.svg
   urzulempa edges samples/rack.rec deck 3.1
   urzulempa check - < samples/rack.rec
+  urzulempa salvage cut.rec -o mended.rec
 ";
 
 const DEFAULT_ROOM: usize = 64 << 20;
 
 fn main() -> ExitCode {
-    let words: Vec<String> = std::env::args_os().skip(1).map(|w| w.to_string_lossy().into_owned()).collect();
-    match run(&words) {
-        Ok(code) => code,
-        Err(why) => {
+    // A file is not written by a name that was not given.
+    let words: Result<Vec<String>, OsString> = std::env::args_os().skip(1).map(OsString::into_string).collect();
+    match words.map(|words| run(&words)) {
+        Err(word) => usage(&format!("{} is no UTF-8", word.to_string_lossy())),
+        Ok(Ok(code)) => code,
+        Ok(Err(why)) => {
             say(&format!("urzulempa: {why}"));
             ExitCode::from(1)
         }
@@ -51,6 +60,7 @@ fn run(words: &[String]) -> Result<ExitCode, String> {
         return if words.is_empty() { Ok(usage("no command")) } else { print(HELP.as_bytes()).map(|()| ExitCode::SUCCESS) };
     }
     let (mut file, mut package) = (None, None);
+    let (mut out, mut force) = (None, false);
     let (mut option, mut room) = (0, DEFAULT_ROOM);
     let mut edition = Edition::One;
     let mut rest = words[1..].iter();
@@ -65,6 +75,11 @@ fn run(words: &[String]) -> Result<ExitCode, String> {
                 Some(e) => edition = e,
                 None => return Ok(usage("--edition wants 1 or 2")),
             },
+            ("salvage", "--force") => force = true,
+            ("salvage", "-o") => match rest.next() {
+                Some(name) if name != "-" && out.is_none() => out = Some(name.as_str()),
+                _ => return Ok(usage("-o wants the name of one file")),
+            },
             // A version behind a name needs no quotes, and a name may begin with a hyphen.
             ("edges", w) if file.is_some() => {
                 package = Some(package.map_or_else(|| w.to_owned(), |before: String| format!("{before} {w}")));
@@ -77,11 +92,14 @@ fn run(words: &[String]) -> Result<ExitCode, String> {
             (_, w) => return Ok(usage(&format!("{w} is no option of {}", words[0]))),
         }
     }
-    if !["explain", "graph", "nodes", "edges", "check"].contains(&words[0].as_str()) {
+    if !["explain", "graph", "nodes", "edges", "check", "salvage"].contains(&words[0].as_str()) {
         return Ok(usage(&format!("{} is no command", words[0])));
     }
     let Some(name) = file else { return Ok(usage("FILE is missing")) };
-    let bytes = read(&name)?;
+    if words[0] == "salvage" {
+        return out.map_or_else(|| Ok(usage("salvage wants -o OUT")), |out| salvage(&name, out, force));
+    }
+    let (bytes, _) = keep::read(&name)?;
     match words[0].as_str() {
         "explain" => text(&bytes, grown(room, |r| edition.explain(&bytes, option, r))),
         "graph" => text(&bytes, grown(room, |r| graphviz(&bytes, option, r))),
@@ -94,12 +112,6 @@ fn run(words: &[String]) -> Result<ExitCode, String> {
 fn usage(why: &str) -> ExitCode {
     say(&format!("urzulempa: {why}; `urzulempa --help` shows the commands"));
     ExitCode::from(64)
-}
-
-fn read(name: &str) -> Result<Vec<u8>, String> {
-    let mut bytes = Vec::new();
-    let read = if name == "-" { io::stdin().lock().read_to_end(&mut bytes).map(|_| ()) } else { fs::read(name).map(|b| bytes = b) };
-    read.map(|()| bytes).map_err(|e| format!("{name}: {e}"))
 }
 
 fn text(file: &[u8], (answer, text): (Answer, Vec<u8>)) -> Result<ExitCode, String> {
@@ -129,15 +141,45 @@ fn edge_list(file: &[u8], package: Option<&str>) -> Result<ExitCode, String> {
     Ok(told(file, &answer))
 }
 
-/// Says a refusal in a sentence, with the record that it points at, decoded.
+/// Repairs a file and puts the outcome in its place; a file that can't be repaired leaves that as it was.
+fn salvage(name: &str, out: &str, force: bool) -> Result<ExitCode, String> {
+    let (bytes, source) = keep::read(name)?;
+    let place = keep::Place::of(out)?;
+    if place.is(&source) && !force {
+        let read = if name == "-" { "standard input" } else { name };
+        return Err(format!("{out} is {read} itself, which would be gone: name another file behind -o, or say --force"));
+    }
+    match repaired(&bytes) {
+        Ok(mended) => {
+            place.put(&mended.file)?;
+            print(mended::told(&bytes, &mended, out).as_bytes())?;
+            Ok(ExitCode::SUCCESS)
+        }
+        Err(refusal) => {
+            let code = refused(&bytes, refusal);
+            say(&format!("{out} is not written: {}", mended::why_not(refusal)));
+            Ok(code)
+        }
+    }
+}
+
 fn told(file: &[u8], answer: &Answer) -> ExitCode {
     let Some(refusal) = answer.refusal() else { return ExitCode::SUCCESS };
+    let code = refused(file, refusal);
+    if refusal.number() <= 7 && repaired(file).is_ok() {
+        say("`urzulempa salvage FILE -o OUT` can repair it");
+    }
+    code
+}
+
+/// Says a refusal in a sentence, with the record that it points at, decoded.
+fn refused(file: &[u8], refusal: Refusal) -> ExitCode {
     let record = refusal.record().or_else(|| match refusal {
         Refusal::Learnt(c) | Refusal::GraphFull(c) => decode::clause_record(file, c),
         Refusal::Endless(s) => decode::solvable_record(file, s),
         _ => None,
     });
-    say(&format!("refused {} at {}: {refusal}", answer.number, place(&refusal, answer.place, record)));
+    say(&format!("refused {} at {}: {refusal}", refusal.number(), place(&refusal, record)));
     match refusal {
         Refusal::Length => say(&format!("it has {} bytes", file.len())),
         Refusal::Endless(s) => {
@@ -149,7 +191,7 @@ fn told(file: &[u8], answer: &Answer) -> ExitCode {
         _ => {}
     }
     if let Some((record, said)) = record.and_then(|r| decode::describe(file, r).map(|said| (r, said))) {
-        let fault = decode::fault(file, answer.number, record).map(|f| format!("{f}; ")).unwrap_or_default();
+        let fault = decode::fault(file, refusal.number(), record).map(|f| format!("{f}; ")).unwrap_or_default();
         say(&format!("record {record}: {said}; {fault}{}", decode::defined(file, record)));
     }
     if let Refusal::Endless(_) = refusal {
@@ -158,15 +200,14 @@ fn told(file: &[u8], answer: &Answer) -> ExitCode {
     ExitCode::from(2)
 }
 
-fn place(refusal: &Refusal, place: u64, record: Option<u64>) -> String {
+fn place(refusal: &Refusal, record: Option<u64>) -> String {
     let byte = record.map(|r| format!(", byte {}", r * 32)).unwrap_or_default();
-    match refusal {
-        Refusal::Learnt(_) | Refusal::GraphFull(_) => format!("clause {place}{byte}"),
-        Refusal::Unreached(_) => format!("node {place}"),
-        Refusal::Room(_) => format!("unit {place}"),
-        Refusal::Endless(_) => format!("solvable {place}{byte}"),
-        Refusal::Length | Refusal::Option => "the whole file".into(),
-        _ => format!("record {place}{byte}"),
+    match *refusal {
+        Refusal::Learnt(clause) | Refusal::GraphFull(clause) => format!("clause {clause}{byte}"),
+        Refusal::Unreached(node) => format!("node {node}"),
+        Refusal::Room(unit) => format!("unit {unit}"),
+        Refusal::Endless(solvable) => format!("solvable {solvable}{byte}"),
+        _ => record.map_or_else(|| "the whole file".into(), |r| format!("record {r}{byte}")),
     }
 }
 

@@ -1,6 +1,5 @@
 //! The refusals, each with one sentence that says what to do.
 
-use crate::Answer;
 use std::fmt;
 
 /// Why there is no whole text (document 01, "Refusal numbers"), with its place.
@@ -35,9 +34,9 @@ pub enum Refusal {
 }
 
 impl Refusal {
-    pub(crate) fn of(answer: &Answer) -> Option<Self> {
-        let place = answer.place;
-        Some(match answer.number {
+    /// Of an answer's number and place.
+    pub(crate) fn of(number: u64, place: u64) -> Option<Self> {
+        Some(match number {
             0 => return None,
             1 => Self::Length,
             2 => Self::Kind(place),
@@ -53,6 +52,25 @@ impl Refusal {
             12 => Self::Option,
             other => Self::Unknown(other),
         })
+    }
+
+    /// Its number.
+    pub fn number(&self) -> u64 {
+        match *self {
+            Self::Length => 1,
+            Self::Kind(_) => 2,
+            Self::Shape(_) => 3,
+            Self::Number(_) => 4,
+            Self::Origin(_) => 5,
+            Self::TableFull(_) => 6,
+            Self::Learnt(_) => 7,
+            Self::GraphFull(_) => 8,
+            Self::Unreached(_) => 9,
+            Self::Room(_) => 10,
+            Self::Endless(_) => 11,
+            Self::Option => 12,
+            Self::Unknown(number) => number,
+        }
     }
 
     /// The record that the refusal points at, if it points at one.

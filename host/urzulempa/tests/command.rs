@@ -1,8 +1,13 @@
 //! The command as a person runs it: what the README shows.
 
+use std::ffi::OsStr;
+use std::fs;
 use std::io::Write;
+use std::os::unix::ffi::OsStrExt;
+use std::os::unix::fs::{symlink, PermissionsExt};
+use std::path::{Path, PathBuf};
 use std::process::{Command, Output, Stdio};
-use urzulempa::{nodes, Node, MOST_NODES};
+use urzulempa::{nodes, repaired, Node, MOST_NODES};
 
 fn run(words: &[&str], file: &[u8]) -> Output {
     let mut child = Command::new(env!("CARGO_BIN_EXE_urzulempa"))
@@ -220,6 +225,157 @@ fn edition_2_shows_each_package_once_and_ends() {
     assert!(said(&out.stderr).starts_with("refused 10 at unit 2"));
 }
 
+/// A folder of its own, empty.
+fn folder(name: &str) -> PathBuf {
+    let folder = Path::new(env!("CARGO_TARGET_TMPDIR")).join(format!("{name}-{}", std::process::id()));
+    let _ = fs::remove_dir_all(&folder);
+    fs::create_dir_all(&folder).expect("a folder");
+    folder
+}
+
+/// replay.rec with some bytes set.
+fn replay(changes: &[(usize, u8)]) -> Vec<u8> {
+    let mut file = REPLAY.to_vec();
+    changes.iter().for_each(|&(at, to)| file[at] = to);
+    file
+}
+
+#[test]
+fn salvage_says_what_it_replaced_and_dropped_and_writes_the_rest() {
+    let folder = folder("says");
+    let out = folder.join("out.rec");
+    let name = out.to_str().expect("a name");
+    let salvaged = |file: &[u8]| {
+        let ran = run(&["salvage", "-", "-o", name], file);
+        assert_eq!((ran.status.code(), said(&ran.stderr)), (Some(0), String::new()));
+        (said(&ran.stdout).lines().map(str::to_string).collect::<Vec<_>>(), fs::read(&out).expect("OUT"))
+    };
+    let (lines, written) = salvaged(REPLAY);
+    assert_eq!((lines, written.as_slice()), (vec![format!("{name} is written: 13 records, nothing was to be repaired")], REPLAY));
+    let (lines, written) = salvaged(&REPLAY[..12 * 32 + 5]);
+    assert_eq!(lines, ["from byte 384 on, 5 bytes of a record that was cut are dropped".into(), format!("{name} is written: 12 records, 0 replaced, 5 bytes dropped")]);
+    assert_eq!(written, REPLAY[..12 * 32]);
+    // What each refusal that is mended means, with its field where it has one.
+    for (changes, wanted) in [
+        (&[(1, 7)][..], "Requires(variable 1, requirement 1), with a bad core flag: it would get 3, byte 1, the core flag, is 7 and not 0 or 1"),
+        (&[(9, 1)], "Requires(variable 1, requirement 1), in the core: it would get 3, byte 9, beyond the text, is 1 and must be 0"),
+        (&[(4, 9)], "Requires(variable 1, requirement 9), in the core: it would get 4, requirement 9 is not defined yet; 2 requirements are"),
+        (&[(0, 20), (4, 0)], "Lock(variable 1, variable 0), in the core: it would get 5, field b: variable 0 is the root, and a solvable is wanted there"),
+        (&[(0, 18), (2, 0), (4, 0)], "Learnt, in the core: it would get 7, a learnt clause in the core"),
+    ] {
+        let changes: Vec<(usize, u8)> = changes.iter().map(|&(at, to)| (11 * 32 + at, to)).collect();
+        let (lines, written) = salvaged(&replay(&changes));
+        let wanted = [format!("record 11, byte 352, clause 1, is replaced: {wanted}"), format!("{name} is written: 13 records, 1 replaced, 0 bytes dropped")];
+        assert_eq!(lines, wanted);
+        let mended = [&REPLAY[..11 * 32], &[16], &[0; 31], &REPLAY[12 * 32..]].concat();
+        assert_eq!(written, mended);
+    }
+    // A clause behind replaced ones is judged by them, and what is refused still is said: nothing leads to replay 2 and 1.
+    let (lines, _) = salvaged(&replay(&[(10 * 32 + 4, 9), (12 * 32 + 31, 1)]));
+    assert_eq!(lines.len(), 4);
+    assert!(lines[1].starts_with("record 12, byte 384, clause 2, is replaced: Requires(variable 2, requirement 1), in the core: it would get 3"), "{lines:?}");
+    assert!(lines[3].starts_with("it still gets 9: node 1 is not reached from the root"), "{lines:?}");
+    fs::remove_dir_all(folder).expect("the folder");
+}
+
+#[test]
+fn salvage_writes_nothing_where_it_can_not_repair() {
+    let folder = folder("nothing");
+    let out = folder.join("out.rec");
+    let name = out.to_str().expect("a name");
+    for (file, wanted) in [
+        (replay(&[(8, 0), (11 * 32 + 1, 7)]), "refused 3 at record 0, byte 0: "),
+        (replay(&[(12 * 32, 0)]), "refused 2 at record 12, byte 384: "),
+        (replay(&[(5 * 32 + 4, 9)]), "refused 4 at record 5, byte 160: "),
+        ([&[16], &[0; 31][..]].concat().repeat(1_025), "refused 6 at record 1024, byte 32768: "),
+        (vec![0; 65_537], "refused 1 at the whole file: "),
+    ] {
+        for old in [None, Some(&b"old"[..])] {
+            let _ = fs::remove_file(&out);
+            old.into_iter().for_each(|bytes| fs::write(&out, bytes).expect("a file"));
+            let ran = run(&["salvage", "-", "-o", name], &file);
+            let err = said(&ran.stderr);
+            assert_eq!((ran.status.code(), ran.stdout.len()), (Some(2), 0));
+            assert!(err.starts_with(wanted) && err.contains(&format!("{name} is not written: ")), "{err}");
+            assert_eq!(fs::read(&out).ok().as_deref(), old);
+        }
+        assert_eq!(fs::read_dir(&folder).expect("the folder").count(), 1);
+    }
+    // The record that stops it is decoded, as elsewhere.
+    let err = said(&run(&["salvage", "-", "-o", name], &replay(&[(5 * 32 + 4, 9)])).stderr);
+    assert!(err.contains("record 5: candidate: requirement 0, solvable 9; solvable 9 is not defined yet; 2 solvables are"), "{err}");
+    fs::remove_dir_all(folder).expect("the folder");
+}
+
+#[test]
+fn salvage_does_not_write_over_its_input_by_any_name_without_force() {
+    let folder = folder("over");
+    let at = |name: &str| folder.join(name).to_str().expect("a name").to_owned();
+    let damaged = replay(&[(11 * 32 + 1, 7)]);
+    let lay = || {
+        for name in ["in.rec", "hard.rec", "soft.rec", "far.rec"] {
+            let _ = fs::remove_file(at(name));
+        }
+        fs::write(at("in.rec"), &damaged).expect("a file");
+        fs::hard_link(at("in.rec"), at("hard.rec")).expect("a link");
+        symlink("in.rec", at("soft.rec")).expect("a link");
+        symlink(at("soft.rec"), at("far.rec")).expect("a link");
+    };
+    for (from, to) in [("in.rec", "in.rec"), ("in.rec", "hard.rec"), ("in.rec", "soft.rec"), ("in.rec", "far.rec"), ("soft.rec", "in.rec"), ("hard.rec", "far.rec"), ("in.rec", "../over/in.rec")] {
+        let to = to.replace("../over", &format!("../{}", folder.file_name().and_then(|n| n.to_str()).expect("a name")));
+        lay();
+        let ran = run(&["salvage", &at(from), "-o", &at(&to)], &[]);
+        assert_eq!((ran.status.code(), ran.stdout.len()), (Some(1), 0), "{from} {to}");
+        assert!(said(&ran.stderr).contains("itself, which would be gone"), "{}", said(&ran.stderr));
+        assert_eq!(fs::read(at("in.rec")).expect("a file"), damaged);
+        let ran = run(&["salvage", "--force", &at(from), "-o", &at(&to)], &[]);
+        assert_eq!(ran.status.code(), Some(0), "{}", said(&ran.stderr));
+        assert_eq!(Some(fs::read(at(&to)).expect("a file")), repaired(&damaged).ok().map(|r| r.file));
+        // A link stays a link, and another name of the old file keeps it.
+        assert!(fs::symlink_metadata(at("soft.rec")).expect("a link").is_symlink() && fs::symlink_metadata(at("far.rec")).expect("a link").is_symlink());
+        assert_eq!(fs::read(at(if to == "hard.rec" { "in.rec" } else { "hard.rec" })).expect("a file"), damaged);
+    }
+    lay();
+    let stdin = fs::File::open(at("in.rec")).expect("a file");
+    let ran = Command::new(env!("CARGO_BIN_EXE_urzulempa")).args(["salvage", "-", "-o", &at("soft.rec")]).stdin(stdin).output().expect("it runs");
+    assert_eq!((ran.status.code(), fs::read(at("in.rec")).expect("a file")), (Some(1), damaged.clone()));
+    assert!(said(&ran.stderr).contains("is standard input itself"));
+    assert_eq!(fs::read_dir(&folder).expect("the folder").count(), 4);
+    fs::remove_dir_all(folder).expect("the folder");
+}
+
+#[test]
+fn salvage_replaces_files_only_and_keeps_their_permissions() {
+    let folder = folder("kept");
+    let at = |name: &str| folder.join(name).to_str().expect("a name").to_owned();
+    fs::write(at("out.rec"), "old").expect("a file");
+    for mode in [0o600, 0o644, 0o660] {
+        fs::set_permissions(at("out.rec"), fs::Permissions::from_mode(mode)).expect("permissions");
+        assert_eq!(run(&["salvage", "-", "-o", &at("out.rec")], REPLAY).status.code(), Some(0));
+        assert_eq!(fs::metadata(at("out.rec")).expect("a file").permissions().mode() & 0o777, mode);
+    }
+    symlink("nowhere", at("loose.rec")).expect("a link");
+    for name in [at(""), at("loose.rec"), at("no/such/folder.rec"), "/dev/null".into(), String::new()] {
+        let ran = run(&["salvage", "-", "-o", &name], REPLAY);
+        assert_eq!((ran.status.code(), ran.stdout.len()), (Some(1), 0), "{name}");
+    }
+    assert_eq!(fs::read_dir(&folder).expect("the folder").count(), 2);
+    // A name without a folder means the one where the command runs.
+    let ran = Command::new(env!("CARGO_BIN_EXE_urzulempa")).args(["salvage", "out.rec", "-o", "new.rec"]).current_dir(&folder).output().expect("it runs");
+    assert_eq!((ran.status.code(), fs::read(at("new.rec")).expect("a file").as_slice()), (Some(0), REPLAY));
+    fs::remove_dir_all(folder).expect("the folder");
+}
+
+#[test]
+fn a_refusal_that_salvage_can_mend_says_so() {
+    let hint = "`urzulempa salvage FILE -o OUT` can repair it";
+    for (file, wanted) in [(&REPLAY[..33], true), (&replay(&[(11 * 32 + 1, 7)]), true), (&replay(&[(8, 0)]), false), (&vec![0; 65_537], false)] {
+        let err = said(&run(&["explain", "-"], file).stderr);
+        assert_eq!(err.lines().last() == Some(hint), wanted, "{err}");
+    }
+    assert!(!said(&run(&["explain", "-"], DECK_PANEL).stderr).contains("salvage"));
+}
+
 #[test]
 fn wrong_usage_is_status_64_and_a_file_that_is_not_there_1() {
     for words in [&[][..], &["explain"], &["draw", "-"], &["edges"], &["edges", "--all"], &["check", "-", "--indent"], &["explain", "-", "--room", "many"], &["check", "a", "b"]] {
@@ -229,6 +385,13 @@ fn wrong_usage_is_status_64_and_a_file_that_is_not_there_1() {
         let out = run(words, REPLAY);
         assert_eq!((out.status.code(), out.stdout.len()), (Some(64), 0), "{words:?}");
     }
+    for words in [&["salvage", "-"][..], &["salvage", "-o", "x"], &["salvage", "-", "-o"], &["salvage", "-", "-o", "-"], &["salvage", "-", "-o", "x", "-o", "y"], &["salvage", "-", "--indent", "-o", "x"], &["check", "-", "--force"], &["check", "-", "-o", "x"]] {
+        let out = run(words, REPLAY);
+        assert_eq!((out.status.code(), out.stdout.len()), (Some(64), 0), "{words:?}");
+    }
+    let odd = OsStr::from_bytes(b"\xff.rec");
+    assert_eq!(Command::new(env!("CARGO_BIN_EXE_urzulempa")).args([OsStr::new("check"), odd]).output().expect("it runs").status.code(), Some(64));
     assert_eq!(run(&["check", "there/is/no/such.rec"], &[]).status.code(), Some(1));
+    assert_eq!(run(&["salvage", "there/is/no/such.rec", "-o", "x"], &[]).status.code(), Some(1));
     assert_eq!(run(&["--help"], &[]).status.code(), Some(0));
 }

@@ -1,7 +1,7 @@
 //! Every call runs on a thread with 128 KiB of stack and a guard page behind it.
 
 use std::thread::Builder;
-use urzulempa::{check, edge_numbers, edges, explain, explain_edition, explain_plain, graphviz, nodes, Node, MOST_EDGES, MOST_NODES};
+use urzulempa::{check, edge_numbers, edges, explain, explain_edition, explain_plain, graphviz, nodes, salvage, Node, MOST_EDGES, MOST_NODES, MOST_REPLACED};
 
 const SAMPLES: [&[u8]; 5] = [
     include_bytes!("../../../samples/replay.rec"),
@@ -49,6 +49,20 @@ fn check_nodes_and_edges_fit() {
             assert!(nodes(file, &mut list).is_done());
             assert!(edge_numbers(file, &mut numbers).is_done());
         }
+    });
+}
+
+#[test]
+fn salvage_fits() {
+    let (mut room, mut list) = (vec![0; 1 << 16], vec![0; MOST_REPLACED]);
+    // As many damaged clauses as there can be.
+    let damaged = [&[16, 9], &[0; 30][..]].concat().repeat(MOST_REPLACED);
+    on_small_stack(move || {
+        for file in SAMPLES {
+            assert!(salvage(file, &mut room, &mut list).is_done());
+        }
+        assert_eq!(salvage(&damaged, &mut room, &mut list).replaced, 1_024);
+        assert_eq!(salvage(&[7; 65_537], &mut room, &mut list).number, 1);
     });
 }
 

@@ -4,6 +4,7 @@
 //! limits, and [`pick`] takes one of them every sixteenth time.
 
 mod auxiliaries;
+pub mod damage;
 mod faults;
 mod gates;
 mod kinds;

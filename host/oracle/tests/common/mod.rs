@@ -3,7 +3,7 @@
 
 #![allow(dead_code)]
 
-use oracle::{Answer, Edge, Node, Problem};
+use oracle::{Answer, Edge, Node, Problem, Salvaged};
 
 fn same(theirs: Answer, ours: urzulempa::Answer) -> Answer {
     let port = Answer {
@@ -77,6 +77,39 @@ pub fn edge_numbers(file: &[u8], list: &mut [u16]) -> Answer {
     let answer = same(oracle::edges(file, list), port);
     assert!(ours == list, "the port leaves other numbers");
     answer
+}
+
+pub fn salvage(file: &[u8], room: &mut [u8], list: &mut [u16]) -> Salvaged {
+    let (mut our_room, mut our_list) = (room.to_vec(), list.to_vec());
+    let ours = urzulempa::salvage(file, &mut our_room, &mut our_list);
+    let port = Salvaged {
+        number: ours.number,
+        place: ours.place,
+        bytes: ours.bytes,
+        replaced: ours.replaced,
+        dropped: ours.dropped,
+    };
+    let model = oracle::salvage(file, room, list);
+    assert_eq!(port, model, "the port's answer and the model's");
+    assert!(our_room == room, "the port leaves another room");
+    assert!(our_list == list, "the port leaves another list");
+    model
+}
+
+/// The repaired file, the replaced records and how many bytes were dropped; or a refusal's number and place.
+pub fn mended(file: &[u8]) -> Result<(Vec<u8>, Vec<u16>, u64), (u64, u64)> {
+    let (mut room, mut list) = (vec![7; file.len() + 32], vec![7; 1_030]);
+    let answer = salvage(file, &mut room, &mut list);
+    if answer.number != 0 {
+        let Salvaged { number, place, .. } = answer;
+        assert_eq!((answer.bytes, answer.replaced, answer.dropped), (0, 0, 0));
+        assert!(room.iter().all(|&byte| byte == 7) && list.iter().all(|&n| n == 7));
+        return Err((number, place));
+    }
+    assert_eq!(answer.place, 0);
+    assert!(room.split_off(answer.bytes as usize).iter().all(|&byte| byte == 7));
+    assert!(list.split_off(answer.replaced as usize).iter().all(|&n| n == 7));
+    Ok((room, list, answer.dropped))
 }
 
 /// The explanation with room to spare.

@@ -1,0 +1,6 @@
+pub mod Salvage
+pub mod Lent
+pub mod Pass
+pub mod Writing
+pub mod Laws
+pub mod Cases
