@@ -7,7 +7,11 @@
  *  10 the next unit does not fit the room, or the list is too short                       (place: units written)
  *  11 an unmerged package comes to be opened below itself: the Rust would never end       (place: the solvable)
  *  12 option not 0 or 1, or edition not 1 or 2: tested before all others
- * Refusals 1 to 9 and 12 leave the room and the list as they were; 10 and 11 leave the whole units written before the stop.
+ * Of urzulempa_explain_air alone, tested in this order after 9:
+ *  15 a Lock in the core                                                                 (place: the first one's clause)
+ *  16 more than 64 nodes                                                                 (place: 0)
+ *  17 a cycle: a node leads back to itself, by whatever edges                            (place: the lowest node on one)
+ * Refusals 1 to 9, 12 and 15 to 17 leave the room and the list as they were; 10 and 11 leave the whole units written before the stop.
  * `bytes` and `units` say what was written, `depth` how many packages are opened on the deepest branch of it.
  */
 #ifndef URZULEMPA_H
@@ -46,6 +50,9 @@ urzulempa_answer urzulempa_explain_plain(const uint8_t *file, size_t file_len, u
 /* The explanation by the rules of an edition. In edition 1 it is that of urzulempa_explain. In edition 2 every package, merged or
  * not, is reported when first shown and skipped afterwards: 11 is never given, and with room the text is whole. */
 urzulempa_answer urzulempa_explain_edition(const uint8_t *file, size_t file_len, uint64_t edition, uint64_t option, uint8_t *room, size_t room_len);
+/* The explanation of a small load, for a server that is on air: that of urzulempa_explain where the core has no Lock and the graph has
+ * at most 64 nodes, as urzulempa_nodes lists them, and no cycle; else 15, 16 or 17. 11 is never given: with room the text is whole. */
+urzulempa_answer urzulempa_explain_air(const uint8_t *file, size_t file_len, uint64_t option, uint8_t *room, size_t room_len);
 /* The graph in the DOT language; option 1 draws each merge group once. */
 urzulempa_answer urzulempa_graphviz(const uint8_t *file, size_t file_len, uint64_t option, uint8_t *room, size_t room_len);
 /* Refusals 1 to 9, and no text. */

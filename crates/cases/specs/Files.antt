@@ -54,6 +54,10 @@ requires variable requirement = bytes 19 1 variable requirement 0 []
 abbrev forbids : ℕ → ℕ → List ℕ
 forbids variable forbidden = bytes 21 1 variable forbidden 0 []
 
+-- the locked solvable's variable and the forbidden one's
+abbrev locks : ℕ → ℕ → ℕ → List ℕ
+locks core locked forbidden = bytes 20 core locked forbidden 0 []
+
 -- ---- files
 
 -- "33 bytes"
@@ -132,3 +136,28 @@ shared =
     name 0 "a" ++ name 1 "b" ++ name 2 "d" ++ solvable 0 0 "1" ++ solvable 1 1 "1" ++ solvable 2 2 "1"
     ++ requirement 0 "a *" ++ requirement 1 "b *" ++ requirement 2 "d *" ++ candidate 0 0 ++ candidate 1 1 ++ candidate 2 2
     ++ rootVariable 0 ++ variableOf 1 0 ++ variableOf 2 1 ++ variableOf 3 2 ++ requires 0 0 ++ requires 0 1 ++ requires 1 2 ++ requires 2 2
+
+-- ---- order 9
+
+-- P11's file and a Lock, which is clause 1
+abbrev pub withLock : ℕ → List ℕ
+withLock core = lone ++ variableOf 1 0 ++ locks core 1 1
+
+-- P11's file, and x needs x
+abbrev pub selfish : List ℕ
+selfish = lone ++ variableOf 1 0 ++ requires 1 0
+
+-- the root needs x, of which there are two: no two of them may be installed, an edge from the first to the second, and the second needs the
+-- first
+abbrev pub twined : List ℕ
+twined =
+    name 0 "x" ++ solvable 0 0 "1" ++ solvable 1 0 "2" ++ requirement 0 "x *" ++ requirement 1 "x 1" ++ candidate 0 0 ++ candidate 0 1 ++ candidate 1 0
+    ++ rootVariable 0 ++ variableOf 1 0 ++ variableOf 2 1 ++ forbidVariable 3 0 ++ requires 0 0 ++ forbids 1 3 ++ forbids 2 3 ++ requires 2 1
+
+-- 64 candidates, which are 65 nodes with the root, and the first needs itself and all others
+abbrev pub crowdedLoop : List ℕ
+crowdedLoop = wide 64 ++ variableOf 1 0 ++ requires 1 0
+
+-- P9's file and a Lock, which is clause 3
+abbrev pub lockedLoop : List ℕ
+lockedLoop = deckPanel ++ locks 1 1 2

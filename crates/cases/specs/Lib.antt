@@ -7,4 +7,5 @@ pub mod Room
 pub mod Right
 pub mod Wrong
 pub mod Editions
+pub mod Air
 pub mod Drawing

@@ -99,7 +99,7 @@ module _ (file ix g w : List ℕ) (m : Made) (R : Makes file ix g w m) (opt room
   bytes-whole-room l b s e h = rw (whole s e) h
 
 -- the option
-option-is : (opt : ℕ) → opt ≤ 1 → optionOf (eqb opt 1) ≡ opt
+pub option-is : (opt : ℕ) → opt ≤ 1 → optionOf (eqb opt 1) ≡ opt
 option-is zero h = refl
 option-is (suc zero) h = refl
 option-is (suc (suc n)) h = let f : ⊥ = omega arith in absurd f

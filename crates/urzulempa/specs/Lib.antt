@@ -3,4 +3,5 @@ pub mod Nodes
 pub mod Draws
 pub mod Says
 pub mod Edges
+pub mod Air
 pub mod Laws

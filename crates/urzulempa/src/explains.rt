@@ -76,7 +76,7 @@ fn told(t: Told) -> Answer
 }
 
 // A graph that is drawn whole. The table that held the triples is cleared and holds the plan.
-fn explain_whole(
+pub fn explain_whole(
     file: &[u8],
     ix: &[u16; 10432],
     g: &[u64; 1152],

@@ -1,5 +1,6 @@
 // The public calls (include/urzulempa.h). Each owns its working arrays, takes any bytes, any room and any option, and has no
 // `requires`.
+mod airs;
 mod checks;
 mod edges;
 mod explains;
@@ -21,6 +22,7 @@ ghost use mathlib.Core.Path.{_≡_};
 ghost use lib.ListN.{length};
 ghost use Rattle.salvage.specs.Lent.{salvageAnswer, salvageRoom, salvageList};
 ghost use Rattle.texts.specs.Wrote.{over};
+ghost use Rattle.urzulempa.specs.Air.{SaysAir};
 ghost use Rattle.urzulempa.specs.Answers.{checkOf};
 ghost use Rattle.urzulempa.specs.Draws.{resultAnswer, drawFile};
 ghost use Rattle.urzulempa.specs.Edges.{edgesAnswer, edgesLeft};
@@ -104,6 +106,22 @@ pub extern "C" fn urzulempa_explain_plain(file: &[u8], room: &mut [u8]) -> Answe
     ensures { λ r. ⌜ Says 1 (now (file .entry)) 0 (now (room .entry)) (now (room .exit)) r ⌝ }
 {
     urzulempa_explain(file, 0, room)
+}
+
+// The explanation by edition 1 of a file that the air profile takes (order 9): 15 for a Lock in the core, 16 for more than 64 nodes,
+// 17 for a cycle, after 9. Option 1 indents the top level.
+#[no_mangle]
+pub extern "C" fn urzulempa_explain_air(file: &[u8], option: u64, room: &mut [u8]) -> Answer
+    ensures { λ r. ⌜ SaysAir (now (file .entry)) option (now (room .entry)) (now (room .exit)) r ⌝ }
+{
+    if 1 < option {
+        return checks::refusal(12, 0);
+    }
+    let mut ix = [0u16; 10432];
+    let mut g = [0u64; 1152];
+    let mut tr = [0u64; 1280];
+    let mut ls = [0u16; 3456];
+    airs::air_in(file, option == 1, &mut ix, &mut g, &mut tr, &mut ls, room)
 }
 
 // Five numbers an edge, oldest first: source, target, kind, the number that it names, clause. Refusals 1 to 9, 10 where the list is

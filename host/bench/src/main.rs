@@ -20,6 +20,7 @@ fn main() -> ExitCode {
     texts();
     merging::table();
     editions();
+    air();
     growth();
     ExitCode::SUCCESS
 }
@@ -159,6 +160,22 @@ fn editions() {
             println!("| {name} | {edition} | {}{said} | {lines} | {bytes} | {depth} | {} | {} | {:.2} |", answer.number, time(times.0), time(times.1), times.0 / times.1);
         }
     }
+}
+
+/// The largest load that fits the air profile, 64 nodes and 993 edges without a cycle: the profile's tests beside the explanation.
+fn air() {
+    println!();
+    println!("| the largest load on air | answer | lines | bytes | conflict.rs | port | ratio |");
+    println!("|---|---|---|---|---|---|---|");
+    let file = made("air-largest", 1);
+    let (mut a, mut b) = (vec![0; 1 << 20], vec![0; 1 << 20]);
+    let show = |what: &str, answer: urzulempa::Answer, times: (f64, f64)| {
+        println!("| {what} | {} | {} | {} | {} | {} | {:.2} |", answer.number, answer.units, answer.bytes, time(times.0), time(times.1), times.0 / times.1);
+    };
+    let times = both(|| keep(black_box(oracle::explain(black_box(&file), 0, &mut a))), || keep(black_box(urzulempa::explain(black_box(&file), 0, &mut b))));
+    show("explain", urzulempa::explain(&file, 0, &mut b), times);
+    let times = both(|| keep(black_box(oracle::explain_air(black_box(&file), 0, &mut a))), || keep(black_box(urzulempa::explain_air(black_box(&file), 0, &mut b))));
+    show("explain_air", urzulempa::explain_air(&file, 0, &mut b), times);
 }
 
 /// How the time grows with the size of the load, in one thing at a time: what one more of it costs must not grow.

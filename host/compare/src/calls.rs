@@ -9,6 +9,8 @@ pub enum Call {
     Plain,
     /// The explanation by the rules of this edition.
     Edition(u64),
+    /// The explanation in the air profile.
+    Air,
     Graph,
     Nodes,
     Edges,
@@ -45,6 +47,7 @@ impl Trial {
         let mut ours = theirs.clone();
         let (a, b) = match self.call {
             Call::Graph => (oracle::graphviz(file, self.option, &mut theirs), urzulempa::graphviz(file, self.option, &mut ours)),
+            Call::Air => (oracle::explain_air(file, self.option, &mut theirs), urzulempa::explain_air(file, self.option, &mut ours)),
             Call::Plain => (oracle::explain(file, 0, &mut theirs), urzulempa::explain_plain(file, &mut ours)),
             // "Edition 1 stays for the archive and remains the Rust's."
             Call::Edition(1) => (oracle::explain(file, self.option, &mut theirs), urzulempa::explain_edition(file, 1, self.option, &mut ours)),
@@ -53,6 +56,9 @@ impl Trial {
         };
         if self.call == Call::Edition(2) && a.number == 11 {
             return Err("edition 2 gives 11".into());
+        }
+        if self.call == Call::Air && a.number == 11 {
+            return Err("11 inside the air profile".into());
         }
         same(self, a, b, &theirs, &ours)
     }
@@ -120,7 +126,7 @@ fn same(trial: &Trial, theirs: oracle::Answer, ours: urzulempa::Answer, their_ro
 }
 
 /// Every call on a file: options 0, 1 and bad ones; rooms 0, exact, one short, random and ample; lists of edges with one number
-/// more as well; both editions and bad ones.
+/// more as well; both editions and bad ones; the air profile.
 pub fn trials(file: &[u8], rng: &mut Rng) -> Vec<Trial> {
     let mut trials = vec![Trial { call: Call::Check, option: 0, room: 0, fill: 0 }];
     let whole = oracle::check(file).number == 0;
@@ -149,7 +155,35 @@ pub fn trials(file: &[u8], rng: &mut Rng) -> Vec<Trial> {
     // One in three, since each has its like among the calls above; `compare editions` makes them all.
     let editions = editions(file, rng, 1);
     trials.extend(editions.into_iter().filter(|_| rng.next() % 3 == 0));
+    trials.extend(air(file, rng, 1));
     trials
+}
+
+/// The explanation in the air profile: options 0 and 1, in rooms 0, exact, one short, one more, random and ample, and around the ends
+/// of at most so many lines; bad options. Where nothing is written the rooms are 0, a small one, and one that a text would fit into.
+pub fn air(file: &[u8], rng: &mut Rng, lines: usize) -> Vec<Trial> {
+    let mut trials = Vec::new();
+    for option in [0, 1] {
+        let mut room = vec![0; AMPLE];
+        let exact = measure(Call::Air, file, option, &mut room);
+        let some = (rng.next() % (exact as u64 + 40)) as usize;
+        let mut rooms = if exact == 0 { vec![0, some, 400 + (rng.next() % 2000) as usize] } else { vec![0, exact, exact - 1, exact + 1, some, AMPLE] };
+        rooms.extend(line_ends(&room[..exact], rng, lines));
+        trials.extend(rooms.into_iter().map(|room| Trial { call: Call::Air, option, room, fill: rng.next() }));
+    }
+    let bad = [2, 3, 255, 256, 1 << 32, (1 << 32) | 1, u64::MAX, rng.next() | 2][(rng.next() % 8) as usize];
+    trials.push(Trial { call: Call::Air, option: bad, room: (rng.next() % 300) as usize, fill: rng.next() });
+    trials
+}
+
+/// The places around the ends of at most so many lines of a text, chosen at random, but for the last, whose end is the text's.
+fn line_ends(text: &[u8], rng: &mut Rng, lines: usize) -> Vec<usize> {
+    let mut ends: Vec<usize> = text.iter().enumerate().filter(|(_, byte)| **byte == b'\n').map(|(at, _)| at + 1).collect();
+    ends.pop();
+    while ends.len() > lines {
+        ends.swap_remove((rng.next() % ends.len() as u64) as usize);
+    }
+    ends.into_iter().flat_map(|end| [end - 1, end, end + 1]).collect()
 }
 
 /// The explanation by edition: both with options 0 and 1, in rooms 0, exact, one short, one more, random and ample, and around the
@@ -163,13 +197,7 @@ pub fn editions(file: &[u8], rng: &mut Rng, lines: usize) -> Vec<Trial> {
             let mut room = vec![0; AMPLE];
             let exact = if whole { measure(call, file, option, &mut room) } else { 0 };
             let mut rooms = vec![0, exact, exact.saturating_sub(1), exact + 1, (rng.next() % (exact as u64 + 40)) as usize, AMPLE];
-            let mut ends: Vec<usize> = room[..exact].iter().enumerate().filter(|(_, byte)| **byte == b'\n').map(|(at, _)| at + 1).collect();
-            // The end of the last line is the exact room.
-            ends.pop();
-            while ends.len() > lines {
-                ends.swap_remove((rng.next() % ends.len() as u64) as usize);
-            }
-            rooms.extend(ends.into_iter().flat_map(|end| [end - 1, end, end + 1]));
+            rooms.extend(line_ends(&room[..exact], rng, lines));
             trials.extend(rooms.into_iter().map(|room| Trial { call, option, room, fill: rng.next() }));
         }
     }
@@ -191,6 +219,7 @@ fn measure(call: Call, file: &[u8], option: u64, room: &mut [u8]) -> usize {
     let answer = match call {
         Call::Graph => oracle::graphviz(file, option, room),
         Call::Edition(edition) => oracle::explain_edition(file, edition, option, room),
+        Call::Air => oracle::explain_air(file, option, room),
         _ => oracle::explain(file, option, room),
     };
     usize::try_from(answer.bytes).unwrap_or(0)

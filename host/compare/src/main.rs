@@ -18,6 +18,7 @@ const USAGE: &str = "usage: compare files N SEED   the hand-made files, then N g
        compare editions N SEED the same with the explanation by edition alone, in rooms around the ends of more lines
        compare salvage N SEED the repair alone: a small file with every kind of record damaged in full, files around 1,024 clauses,
                               then N generated files, damaged; what is repaired is explained on both sides
+       compare air N SEED     the same with the air profile alone, half of the files near it, in rooms around the ends of more lines
        compare bytes          a small file with every kind of record, each byte set to each value
 Status: 0 no difference, 1 a difference, 64 wrong usage, 77 without conflict.rs.";
 
@@ -25,7 +26,7 @@ fn main() -> ExitCode {
     let words: Vec<String> = std::env::args().skip(1).collect();
     let words: Vec<&str> = words.iter().map(String::as_str).collect();
     let job = match words[..] {
-        ["files" | "check" | "nodes" | "edges" | "editions" | "salvage", n, seed] => match (n.parse(), seed.parse()) {
+        ["files" | "check" | "nodes" | "edges" | "editions" | "air" | "salvage", n, seed] => match (n.parse(), seed.parse()) {
             (Ok(n), Ok(seed)) => Some((n, seed)),
             _ => None,
         },
@@ -48,7 +49,7 @@ fn main() -> ExitCode {
     if found { ExitCode::from(1) } else { ExitCode::SUCCESS }
 }
 
-/// Around the ends of so many lines of a text rooms are lent by `compare editions`.
+/// Around the ends of so many lines of a text rooms are lent by `compare editions` and `compare air`.
 const LINE_ENDS: usize = 8;
 
 const CHECK: Trial = Trial { call: Call::Check, option: 0, room: 0, fill: 0 };
@@ -68,7 +69,8 @@ fn files(n: u64, seed: u64, only: &str) -> bool {
         }
     }
     for index in 0..n {
-        let (shape, shape_seed) = generate::pick(index, seed);
+        let near = only == "air" && index % 2 == 0;
+        let (shape, shape_seed) = if near { generate::pick_air(index / 2, seed) } else { generate::pick(index, seed) };
         let Some(file) = generate::file(shape, shape_seed) else { continue };
         let mut rng = Rng::new(shape_seed ^ index.rotate_left(32));
         if tally.differs(only, &format!("shape {shape} seed {shape_seed}"), &file, &mut rng) {
@@ -103,7 +105,7 @@ fn salvages(n: u64, seed: u64) -> bool {
 #[derive(Default)]
 struct Tally {
     answers: u64,
-    numbers: [u64; 13],
+    numbers: [u64; 19],
     /// Files that were to be repaired, those that were, and those among them with a replaced record.
     tried: u64,
     repaired: u64,
@@ -119,7 +121,8 @@ impl Tally {
 
     fn count(&mut self, number: u64) {
         self.answers += 1;
-        self.numbers[usize::try_from(number).unwrap_or(12).min(12)] += 1;
+        // 18 and above are counted together
+        self.numbers[usize::try_from(number).unwrap_or(18).min(18)] += 1;
     }
 
     /// The repair of a file into at most so many of the lent places, and what becomes of it; a difference is reported.
@@ -154,7 +157,11 @@ impl Tally {
 
     /// All trials of a file, or those of one call; a difference is reported.
     fn differs(&mut self, only: &str, whence: &str, file: &[u8], rng: &mut Rng) -> bool {
-        let mut trials = if only == "editions" { calls::editions(file, rng, LINE_ENDS) } else { calls::trials(file, rng) };
+        let mut trials = match only {
+            "editions" => calls::editions(file, rng, LINE_ENDS),
+            "air" => calls::air(file, rng, LINE_ENDS),
+            _ => calls::trials(file, rng),
+        };
         match only {
             "check" => trials.retain(|t| t.call == Call::Check),
             "nodes" => trials.retain(|t| t.call == Call::Nodes),

@@ -22,6 +22,7 @@ fn ten_thousand_damaged_files_get_an_answer() {
         &["check", "-"][..],
         &["explain", "-", "--room", "3000"],
         &["explain", "-", "--edition", "2"],
+        &["explain", "-", "--air"],
         &["graph", "-", "--simplify", "--room", "3000"],
         &["nodes", "-"],
         &["edges", "-"],

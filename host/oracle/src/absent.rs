@@ -48,6 +48,14 @@ impl Model<'_, '_> {
         absent()
     }
 
+    pub fn air(&self) -> Result<(), Refusal> {
+        absent()
+    }
+
+    pub fn lowest_on_cycle(&self) -> Option<usize> {
+        absent()
+    }
+
     pub fn rules(&self, _: bool, _: &mut [u8], _: u64) -> Rules {
         absent()
     }
@@ -82,6 +90,10 @@ pub fn explain(_: &[u8], _: u64, _: &mut [u8]) -> Answer {
 }
 
 pub fn explain_edition(_: &[u8], _: u64, _: u64, _: &mut [u8]) -> Answer {
+    absent()
+}
+
+pub fn explain_air(_: &[u8], _: u64, _: &mut [u8]) -> Answer {
     absent()
 }
 

@@ -2,7 +2,7 @@
 
 use crate::conflict::view::{self, View};
 use crate::provider::{solver_of, FileSolver};
-use crate::reader;
+use crate::reader::{self, kind};
 use crate::rooms::Room;
 use crate::standins::internal::id::ClauseId;
 use crate::{Answer, Edge, Edition, Node, Refusal, Rules};
@@ -11,22 +11,32 @@ use crate::{Answer, Edge, Edition, Node, Refusal, Rules};
 pub struct Problem<'a> {
     solver: FileSolver<'a>,
     core: Vec<ClauseId>,
+    /// The first Lock in the core, by its number among all clauses.
+    lock: Option<u64>,
 }
 
 /// A file that refusals 1 to 9 let through, as its labelled graph.
 pub struct Model<'p, 'a> {
     view: View<'p, 'a>,
+    lock: Option<u64>,
 }
+
+/// "The profile takes files with at most 64 nodes" (document 02, order 9).
+const AIR_NODES: usize = 64;
 
 impl<'a> Problem<'a> {
     pub fn read(file: &'a [u8]) -> Result<Problem<'a>, Refusal> {
-        let (solver, core) = solver_of(reader::read(file)?);
-        Ok(Problem { solver, core })
+        let tables = reader::read(file)?;
+        let locks = |clause: &reader::ClauseRecord| clause.core && clause.kind == kind::LOCK;
+        let lock = tables.clauses.iter().position(locks).map(|at| at as u64);
+        let (solver, core) = solver_of(tables);
+        Ok(Problem { solver, core, lock })
     }
 
     pub fn model(&self) -> Result<Model<'_, 'a>, Refusal> {
         let view = View::build(&self.solver, &self.core)?;
-        Ok(Model { view })
+        let lock = self.lock;
+        Ok(Model { view, lock })
     }
 
     /// Refusals 7 to 9, without groups and labels.
@@ -57,6 +67,31 @@ impl Model<'_, '_> {
 
     pub fn graphviz(&self, simplify: bool, room: &mut [u8]) -> Answer {
         self.view.graphviz(simplify, Room::new(room, u64::MAX))
+    }
+
+    /// "Refusals: 15 for a Lock, place the first; 16 for too many nodes, place 0; 17 for a cycle, place the lowest node on one;
+    /// tested in that order after 9."
+    pub fn air(&self) -> Result<(), Refusal> {
+        if let Some(place) = self.lock {
+            return Err(Refusal { number: 15, place });
+        }
+        if self.view.node_count() > AIR_NODES {
+            return Err(Refusal {
+                number: 16,
+                place: 0,
+            });
+        }
+        match self.lowest_on_cycle() {
+            Some(node) => Err(Refusal {
+                number: 17,
+                place: node as u64,
+            }),
+            None => Ok(()),
+        }
+    }
+
+    pub fn lowest_on_cycle(&self) -> Option<usize> {
+        self.view.lowest_on_cycle()
     }
 
     /// The rules alone, without refusal 11, for at most `lines` lines.
@@ -153,6 +188,17 @@ pub fn explain_edition(file: &[u8], edition: u64, option: u64, room: &mut [u8]) 
         let indent = flag(option)?;
         let problem = Problem::read(file)?;
         Ok(problem.model()?.explain_edition(edition, indent, room))
+    })
+}
+
+/// The explanation in the air profile: "Everything else answers as in document 01."
+pub fn explain_air(file: &[u8], option: u64, room: &mut [u8]) -> Answer {
+    answered(|| {
+        let indent = flag(option)?;
+        let problem = Problem::read(file)?;
+        let model = problem.model()?;
+        model.air()?;
+        Ok(model.explain(indent, room))
     })
 }
 

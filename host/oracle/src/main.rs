@@ -9,6 +9,7 @@ usage: oracle cases                        P1 to P11 of document 01 on the real 
        oracle shapes                       the names of the shapes
        oracle explain FILE [OPTION] [ROOM] the explanation
        oracle edition FILE N [OPTION] [ROOM] the explanation by the rules of edition N
+       oracle air FILE [OPTION] [ROOM]     the explanation in the air profile
        oracle graph FILE [OPTION] [ROOM]   the graph text
        oracle nodes FILE                   the node list
        oracle edges FILE                   the edge list
@@ -78,8 +79,8 @@ fn usage() -> Result<u8, String> {
 /// What needs conflict.rs.
 fn run(args: &[&str]) -> Result<u8, String> {
     match *args {
-        ["cases" | "explain" | "edition" | "graph" | "nodes" | "edges" | "check" | "survey"
-        | "record" | "written", ..]
+        ["cases" | "explain" | "edition" | "air" | "graph" | "nodes" | "edges" | "check"
+        | "survey" | "record" | "written", ..]
             if !oracle::AVAILABLE =>
         {
             let step = args[0];
@@ -95,6 +96,7 @@ fn run(args: &[&str]) -> Result<u8, String> {
             };
             with_conflict::text(call, file, rest)
         }
+        ["air", file, ref rest @ ..] => with_conflict::text(oracle::explain_air, file, rest),
         ["graph", file, ref rest @ ..] => with_conflict::text(oracle::graphviz, file, rest),
         ["nodes", file] => with_conflict::nodes(file),
         ["edges", file] => with_conflict::edges(file),

@@ -77,7 +77,7 @@ pub fn list() -> Result<Vec<u8>, String> {
     let mut out = Vec::new();
     let (mut files, mut answers) = (0, 0);
     let mut numbers = BTreeSet::new();
-    for shape in generate::shapes() {
+    for shape in generate::recorded() {
         for (seed, file) in chosen(shape) {
             let heads = calls(&file, files);
             put(&mut out, &file_head(shape, seed, &file, heads.len()));

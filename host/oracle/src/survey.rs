@@ -5,15 +5,18 @@ use std::collections::BTreeMap;
 
 use crate::rng::Rng;
 use crate::{
-    check, edges, explain, explain_edition, generate, graphviz, nodes, Answer, Edge, Edition,
-    Model, Node, Problem,
+    check, edges, explain, explain_air, explain_edition, generate, graphviz, nodes, Answer, Edge,
+    Edition, Model, Node, Problem,
 };
 
 /// How the calls of one kind were answered.
 type Counts = BTreeMap<u64, u64>;
 
-/// Prints the distribution of answers over `files` files; status 1 where a number from 0 to 12
-/// did not occur.
+/// The numbers of all refusals that these calls give, and 0.
+const NUMBERS: [u64; 16] = [0, 1, 2, 3, 4, 5, 6, 7, 8, 9, 10, 11, 12, 15, 16, 17];
+
+/// Prints the distribution of answers over `files` files; status 1 where one of [`NUMBERS`] did
+/// not occur.
 pub fn run(files: u64, seed: u64) -> Result<u8, String> {
     let mut all: BTreeMap<&str, Counts> = BTreeMap::new();
     let mut accepted: BTreeMap<&str, (u64, u64)> = BTreeMap::new();
@@ -37,7 +40,8 @@ pub fn run(files: u64, seed: u64) -> Result<u8, String> {
         }
     }
     print(&all, &accepted, deepest);
-    let missing: Vec<u64> = (0..=12)
+    let missing: Vec<u64> = NUMBERS
+        .into_iter()
         .filter(|number| !all.values().any(|counts| counts.contains_key(number)))
         .collect();
     println!("{files} files, numbers that did not occur: {missing:?}");
@@ -72,6 +76,7 @@ fn one<'a>(file: &[u8], rng: &mut Rng, room: &mut [u8]) -> Result<Vec<(&'a str, 
     let checked = check(file);
     let explained = explain(file, option, &mut room[..length]);
     let second = explain_edition(file, 2, option, &mut room[..length]);
+    let aired = explain_air(file, option, &mut room[..length]);
     let drawn = graphviz(file, option, &mut room[..length]);
     let mut list = [Node::default(); 128];
     let listed = nodes(file, &mut list[..if rng.chance(5) { 3 } else { 128 }]);
@@ -82,9 +87,10 @@ fn one<'a>(file: &[u8], rng: &mut Rng, room: &mut [u8]) -> Result<Vec<(&'a str, 
     );
     if checked.number == 0 {
         promises(file, &[explained, second, drawn], second)?;
+        profile(explained, aired)?;
     } else {
         let same = |answers: &[Answer]| answers.iter().all(|&answer| answer == checked);
-        if !same(&[listed, linked]) || option < 2 && !same(&[explained, second, drawn]) {
+        if !same(&[listed, linked]) || option < 2 && !same(&[explained, second, aired, drawn]) {
             return Err("calls refuse one file differently".to_string());
         }
     }
@@ -92,6 +98,7 @@ fn one<'a>(file: &[u8], rng: &mut Rng, room: &mut [u8]) -> Result<Vec<(&'a str, 
         ("check", checked),
         ("explain", explained),
         ("explain_edition 2", second),
+        ("explain_air", aired),
         ("graphviz", drawn),
         ("nodes", listed),
         ("edges", linked),
@@ -112,6 +119,17 @@ fn promises(file: &[u8], answers: &[Answer], second: Answer) -> Result<(), Strin
         return Err(format!("depth above the bound {bound}"));
     }
     second_edition(&model, second)
+}
+
+/// What document 02 states of the air profile, order 9: "Inside it 11 can never come", "Everything else answers as in document
+/// 01". Both were lent the same room.
+fn profile(explained: Answer, aired: Answer) -> Result<(), String> {
+    match aired.number {
+        11 => Err("11 inside the profile".to_string()),
+        15..=17 if explained.number != 12 => Ok(()),
+        _ if aired == explained => Ok(()),
+        _ => Err(format!("{aired:?} inside the profile, else {explained:?}")),
+    }
 }
 
 /// What document 02 states of edition 2, order 11: "In edition 2 refusal 11 is never given, and all openings in the whole text

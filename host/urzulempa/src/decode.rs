@@ -165,6 +165,12 @@ fn stands_for(file: &[u8], variable: u16) -> Option<String> {
     }
 }
 
+/// What a Lock names: the locked solvable and the one that it forbids.
+pub fn lock(file: &[u8], clause: u64) -> Option<(String, String)> {
+    let [locked, forbidden, _] = Record::at(file, clause_record(file, clause)?)?.fields();
+    Some((stands_for(file, locked)?, stands_for(file, forbidden)?))
+}
+
 /// The tables by kind, clauses last: what a reference names, one and many.
 const TABLES: [(&str, &str); 9] = [
     ("name", "names"),

@@ -7,6 +7,7 @@ extern "C" {
     fn urzulempa_explain(file: *const u8, file_len: usize, option: u64, room: *mut u8, room_len: usize) -> Answer;
     fn urzulempa_explain_plain(file: *const u8, file_len: usize, room: *mut u8, room_len: usize) -> Answer;
     fn urzulempa_explain_edition(file: *const u8, file_len: usize, edition: u64, option: u64, room: *mut u8, room_len: usize) -> Answer;
+    fn urzulempa_explain_air(file: *const u8, file_len: usize, option: u64, room: *mut u8, room_len: usize) -> Answer;
     fn urzulempa_graphviz(file: *const u8, file_len: usize, option: u64, room: *mut u8, room_len: usize) -> Answer;
     fn urzulempa_check(file: *const u8, file_len: usize) -> Answer;
     fn urzulempa_nodes(file: *const u8, file_len: usize, list: *mut Node, list_len: usize) -> Answer;
@@ -31,6 +32,10 @@ pub fn explain_plain(file: &[u8], room: &mut [u8]) -> Answer {
 
 pub fn explain_edition(file: &[u8], edition: u64, option: u64, room: &mut [u8]) -> Answer {
     unsafe { urzulempa_explain_edition(file.as_ptr(), file.len(), edition, option, room.as_mut_ptr(), room.len()) }
+}
+
+pub fn explain_air(file: &[u8], option: u64, room: &mut [u8]) -> Answer {
+    unsafe { urzulempa_explain_air(file.as_ptr(), file.len(), option, room.as_mut_ptr(), room.len()) }
 }
 
 pub fn graphviz(file: &[u8], option: u64, room: &mut [u8]) -> Answer {

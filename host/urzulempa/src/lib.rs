@@ -90,6 +90,9 @@ pub const NO_CLAUSE: u16 = u16::MAX;
 /// The most nodes that a graph has.
 pub const MOST_NODES: usize = 128;
 
+/// The most nodes of a graph that [`explain_air`] takes.
+pub const MOST_AIR_NODES: usize = 64;
+
 /// The most edges that a graph has.
 pub const MOST_EDGES: usize = 1_024;
 
@@ -119,6 +122,28 @@ pub fn explain_plain(file: &[u8], room: &mut [u8]) -> Answer {
 /// ```
 pub fn explain_edition(file: &[u8], edition: u64, option: u64, room: &mut [u8]) -> Answer {
     ffi::explain_edition(file, edition, option, room)
+}
+
+/// Writes the explanation of a load that fits the air profile: no Lock in the core, at most [`MOST_AIR_NODES`] nodes, no cycle in the
+/// graph. It is then that of [`explain`], and ends; any other load is refused, with the room as it was.
+///
+/// ```
+/// use urzulempa::{explain, explain_air, Refusal};
+///
+/// let file = include_bytes!("../../../samples/replay.rec");
+/// let (mut room, mut plain) = ([0; 1024], [0; 1024]);
+/// assert_eq!(explain_air(file, 0, &mut room), explain(file, 0, &mut plain));
+/// assert_eq!(room, plain);
+///
+/// // The rack has a lock, its clause 29. Deck and panel need each other: the lower of their nodes is 1.
+/// let rack = include_bytes!("../../../samples/rack.rec");
+/// assert_eq!(explain_air(rack, 0, &mut room).refusal(), Some(Refusal::Locked(29)));
+/// let ring = include_bytes!("../../../samples/deck-panel.rec");
+/// assert_eq!(explain_air(ring, 0, &mut room).refusal(), Some(Refusal::Cycle(1)));
+/// assert_eq!(room, plain);
+/// ```
+pub fn explain_air(file: &[u8], option: u64, room: &mut [u8]) -> Answer {
+    ffi::explain_air(file, option, room)
 }
 
 /// Writes the graph in the DOT language; option 1 draws each merge group once.

@@ -60,7 +60,7 @@ pub fn has_package(file: &[u8], text: &str) -> bool {
 }
 
 /// A node as the graph text shows it.
-fn shown(file: &[u8], node: &Node) -> String {
+pub fn shown(file: &[u8], node: &Node) -> String {
     match node.kind {
         0 => "<root>".into(),
         1 => decode::solvable(file, node.number).unwrap_or_default(),

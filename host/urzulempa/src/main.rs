@@ -1,5 +1,6 @@
 //! The command: explain, graph, nodes, edges, check, salvage.
 
+mod cycle;
 mod decode;
 mod keep;
 mod lists;
@@ -8,7 +9,7 @@ mod mended;
 use std::ffi::OsString;
 use std::io::{self, Write};
 use std::process::ExitCode;
-use urzulempa::{check, edges, graphviz, grown, repaired, Answer, Edition, Refusal};
+use urzulempa::{check, edges, explain_air, graphviz, grown, repaired, Answer, Edition, Refusal};
 
 const HELP: &str = "\
 urzulempa: why a load of packages has no solution, from a file of clause records
@@ -16,6 +17,8 @@ urzulempa: why a load of packages has no solution, from a file of clause records
   urzulempa explain FILE [--indent] [--room N]   the explanation; --indent draws the top level too
             [--edition E]                        E is 1, the Rust's rules and the default, by which a text may have no end, or 2,
                                                  by which every package is shown once and a text always ends
+            [--air]                              only what is safe on air: a load without a lock in its core, without a cycle, and
+                                                 with at most 64 nodes; any other is refused with 15 to 17, and the text always ends
   urzulempa graph FILE [--simplify] [--room N]   the graph in the DOT language; --simplify draws a merge group once
   urzulempa nodes FILE                           the nodes: number, kind, what it names, first node of its group, labels, and the
                                                  clause that first added it (65535: none) with its record
@@ -34,6 +37,7 @@ Exit status: 0 done, 2 refused, 1 trouble with a file, 64 wrong usage.
 Examples:
   urzulempa explain samples/replay.rec
   urzulempa explain samples/deck-panel.rec --edition 2
+  urzulempa explain samples/replay.rec --air
   urzulempa graph samples/replay.rec --simplify | dot -Tsvg > replay.svg
   urzulempa edges samples/rack.rec deck 3.1
   urzulempa check - < samples/rack.rec
@@ -62,11 +66,12 @@ fn run(words: &[String]) -> Result<ExitCode, String> {
     let (mut file, mut package) = (None, None);
     let (mut out, mut force) = (None, false);
     let (mut option, mut room) = (0, DEFAULT_ROOM);
-    let mut edition = Edition::One;
+    let (mut edition, mut air) = (Edition::One, false);
     let mut rest = words[1..].iter();
     while let Some(word) = rest.next() {
         match (words[0].as_str(), word.as_str()) {
             ("explain", "--indent") | ("graph", "--simplify") => option = 1,
+            ("explain", "--air") => air = true,
             ("explain" | "graph", "--room") => match rest.next().and_then(|n| n.parse().ok()) {
                 Some(n) => room = n,
                 None => return Ok(usage("--room wants a number of bytes")),
@@ -95,12 +100,16 @@ fn run(words: &[String]) -> Result<ExitCode, String> {
     if !["explain", "graph", "nodes", "edges", "check", "salvage"].contains(&words[0].as_str()) {
         return Ok(usage(&format!("{} is no command", words[0])));
     }
+    if air && edition == Edition::Two {
+        return Ok(usage("--air explains by edition 1: leave out one of --air and --edition 2"));
+    }
     let Some(name) = file else { return Ok(usage("FILE is missing")) };
     if words[0] == "salvage" {
         return out.map_or_else(|| Ok(usage("salvage wants -o OUT")), |out| salvage(&name, out, force));
     }
     let (bytes, _) = keep::read(&name)?;
     match words[0].as_str() {
+        "explain" if air => text(&bytes, grown(room, |r| explain_air(&bytes, option, r))),
         "explain" => text(&bytes, grown(room, |r| edition.explain(&bytes, option, r))),
         "graph" => text(&bytes, grown(room, |r| graphviz(&bytes, option, r))),
         "nodes" => node_list(&bytes),
@@ -175,7 +184,7 @@ fn told(file: &[u8], answer: &Answer) -> ExitCode {
 /// Says a refusal in a sentence, with the record that it points at, decoded.
 fn refused(file: &[u8], refusal: Refusal) -> ExitCode {
     let record = refusal.record().or_else(|| match refusal {
-        Refusal::Learnt(c) | Refusal::GraphFull(c) => decode::clause_record(file, c),
+        Refusal::Learnt(c) | Refusal::GraphFull(c) | Refusal::Locked(c) => decode::clause_record(file, c),
         Refusal::Endless(s) => decode::solvable_record(file, s),
         _ => None,
     });
@@ -186,6 +195,15 @@ fn refused(file: &[u8], refusal: Refusal) -> ExitCode {
             if let Some(shown) = u16::try_from(s).ok().and_then(|s| decode::solvable(file, s)) {
                 say(&format!("solvable {s} is {shown}"));
             }
+        }
+        Refusal::Locked(c) => {
+            if let Some((locked, forbidden)) = decode::lock(file, c) {
+                say(&format!("{locked} is locked, which keeps {forbidden} out"));
+            }
+        }
+        Refusal::ManyNodes => say(&format!("it has {} nodes", lists::all_nodes(file).1.len())),
+        Refusal::Cycle(node) => {
+            cycle::lines(file, node).iter().for_each(|line| say(line));
         }
         Refusal::Unreached(_) => say("node 0 is the root, node 1 unresolved if anything leads there, the others as the core's clauses first name them"),
         _ => {}
@@ -203,8 +221,8 @@ fn refused(file: &[u8], refusal: Refusal) -> ExitCode {
 fn place(refusal: &Refusal, record: Option<u64>) -> String {
     let byte = record.map(|r| format!(", byte {}", r * 32)).unwrap_or_default();
     match *refusal {
-        Refusal::Learnt(clause) | Refusal::GraphFull(clause) => format!("clause {clause}{byte}"),
-        Refusal::Unreached(node) => format!("node {node}"),
+        Refusal::Learnt(clause) | Refusal::GraphFull(clause) | Refusal::Locked(clause) => format!("clause {clause}{byte}"),
+        Refusal::Unreached(node) | Refusal::Cycle(node) => format!("node {node}"),
         Refusal::Room(unit) => format!("unit {unit}"),
         Refusal::Endless(solvable) => format!("solvable {solvable}{byte}"),
         _ => record.map_or_else(|| "the whole file".into(), |r| format!("record {r}{byte}")),

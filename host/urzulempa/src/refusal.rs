@@ -2,7 +2,7 @@
 
 use std::fmt;
 
-/// Why there is no whole text (document 01, "Refusal numbers"), with its place.
+/// Why there is no whole text (document 01, "Refusal numbers", and document 02), with its place.
 #[derive(Clone, Copy, Debug, PartialEq, Eq)]
 pub enum Refusal {
     /// 1
@@ -29,6 +29,12 @@ pub enum Refusal {
     Endless(u64),
     /// 12
     Option,
+    /// 15, by clause
+    Locked(u64),
+    /// 16
+    ManyNodes,
+    /// 17, by node
+    Cycle(u64),
     /// A number that no call gives.
     Unknown(u64),
 }
@@ -50,6 +56,9 @@ impl Refusal {
             10 => Self::Room(place),
             11 => Self::Endless(place),
             12 => Self::Option,
+            15 => Self::Locked(place),
+            16 => Self::ManyNodes,
+            17 => Self::Cycle(place),
             other => Self::Unknown(other),
         })
     }
@@ -69,6 +78,9 @@ impl Refusal {
             Self::Room(_) => 10,
             Self::Endless(_) => 11,
             Self::Option => 12,
+            Self::Locked(_) => 15,
+            Self::ManyNodes => 16,
+            Self::Cycle(_) => 17,
             Self::Unknown(number) => number,
         }
     }
@@ -97,6 +109,9 @@ impl fmt::Display for Refusal {
             Self::Room(u) => write!(f, "the room, or the list, holds no more than {u} whole units: lend a larger one"),
             Self::Endless(s) => write!(f, "solvable {s} comes to be opened below itself, so the explanation would never end: the lines before that are whole, and the load has a cycle to break"),
             Self::Option => write!(f, "the option is neither 0 nor 1, or the edition neither 1 nor 2: pass one of them"),
+            Self::Locked(c) => write!(f, "clause {c} is a lock in the core, and the air profile takes none: explain this load without the profile"),
+            Self::ManyNodes => write!(f, "the graph has more than 64 nodes, the most that the air profile takes: cut the core down, or explain this load without the profile"),
+            Self::Cycle(n) => write!(f, "node {n} leads back to itself, and the air profile takes no cycle: break it, or explain this load without the profile"),
             Self::Unknown(n) => write!(f, "refusal {n}, which no call gives"),
         }
     }

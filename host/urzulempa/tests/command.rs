@@ -96,13 +96,6 @@ fn nodes_are_listed_with_what_they_are() {
 
 /// A file whose graph has as many nodes as a graph can have: the root, unresolved and 126 solvables, of which the first lacks something.
 fn most_nodes() -> Vec<u8> {
-    let record = |kind: u8, first: u8, fields: [u16; 3], text: &str| {
-        let mut bytes = vec![kind, first];
-        fields.iter().for_each(|x| bytes.extend(x.to_le_bytes()));
-        bytes.extend(text.bytes());
-        bytes.resize(32, 0);
-        bytes
-    };
     let each = |one: &dyn Fn(u16) -> Vec<u8>| (0..126).flat_map(one).collect::<Vec<u8>>();
     [
         record(1, 1, [0; 3], "p"),
@@ -376,12 +369,106 @@ fn a_refusal_that_salvage_can_mend_says_so() {
     assert!(!said(&run(&["explain", "-"], DECK_PANEL).stderr).contains("salvage"));
 }
 
+/// A record of a file, as the README lays it out.
+fn record(kind: u8, first: u8, fields: [u16; 3], text: &str) -> Vec<u8> {
+    let mut bytes = vec![kind, first];
+    fields.iter().for_each(|x| bytes.extend(x.to_le_bytes()));
+    bytes.extend(text.bytes());
+    bytes.resize(32, 0);
+    bytes
+}
+
+/// What is said of a file that the air profile refuses, in lines; nothing is printed.
+fn refused_on_air(file: &[u8]) -> Vec<String> {
+    let out = run(&["explain", "-", "--air"], file);
+    assert_eq!((out.status.code(), said(&out.stdout)), (Some(2), String::new()));
+    said(&out.stderr).lines().map(str::to_string).collect()
+}
+
+#[test]
+fn on_air_a_small_load_is_explained_as_ever() {
+    for more in [&[][..], &["--indent"], &["--room", "120"], &["--edition", "1"]] {
+        let (plain, air) = (run(&[&["explain", "-"], more].concat(), REPLAY), run(&[&["explain", "-", "--air"], more].concat(), REPLAY));
+        assert_eq!((plain.status.code(), plain.stdout, plain.stderr), (air.status.code(), air.stdout, air.stderr));
+    }
+    assert_eq!(refused_on_air(&REPLAY[..33])[0].split(':').next(), Some("refused 1 at the whole file"));
+}
+
+#[test]
+fn on_air_a_lock_is_named_with_its_record() {
+    let lines = refused_on_air(RACK);
+    assert!(lines[0].starts_with("refused 15 at clause 29, byte 5760: clause 29 is a lock in the core, "), "{lines:?}");
+    assert_eq!(lines[1], "driver 11 is locked, which keeps driver 12 out");
+    assert!(lines[2].starts_with("record 180: Lock(variable 27, variable 25), in the core; "), "{lines:?}");
+    // Outside the core it does not count.
+    let mut file = RACK.to_vec();
+    file[32 * 180 + 1] = 0;
+    let out = run(&["explain", "-", "--air"], &file);
+    assert_eq!((out.status.code(), out.stdout), (Some(0), run(&["explain", "-"], &file).stdout));
+}
+
+#[test]
+fn on_air_the_nodes_are_counted() {
+    let lines = refused_on_air(&most_nodes());
+    assert!(lines[0].starts_with("refused 16 at the whole file: the graph has more than 64 nodes, "), "{lines:?}");
+    assert_eq!(lines[1..], ["it has 128 nodes"]);
+}
+
+#[test]
+fn on_air_the_packages_on_a_cycle_are_named_in_order() {
+    let lines = refused_on_air(DECK_PANEL);
+    assert!(lines[0].starts_with("refused 17 at node 1: node 1 leads back to itself, "), "{lines:?}");
+    assert_eq!(lines[1..3], ["node 1 is panel 1", "cycle: deck 1 → panel 1 → deck 1"]);
+    assert_eq!(lines[3..], edges(DECK_PANEL, &["panel"]));
+}
+
+/// Packages a to e, of which the root requires the first alone, in a row: a constrains b, b requires c, and so on in turns. The last
+/// constrains one of them, by its place, or itself.
+fn row(back: u16) -> Vec<u8> {
+    let each = |one: &dyn Fn(u16) -> Vec<u8>| (0..5).flat_map(one).collect::<Vec<u8>>();
+    [
+        each(&|i| record(1, 1, [i, 0, 0], ["a", "b", "c", "d", "e"][usize::from(i)])),
+        each(&|i| record(2, 1, [i, i, 0], "1")),
+        record(3, 2, [0; 3], "<2"),
+        each(&|i| record(4, 4, [i, 0, 0], "next")),
+        each(&|i| record(5, 0, [i, i, 0], "")),
+        record(7, 0, [0; 3], ""),
+        each(&|i| record(7, 0, [i + 1, 1, i], "")),
+        record(19, 1, [0; 3], ""),
+        record(22, 1, [1, 2, 0], ""),
+        record(19, 1, [2, 2, 0], ""),
+        record(22, 1, [3, 4, 0], ""),
+        record(19, 1, [4, 4, 0], ""),
+        record(22, 1, [5, back + 1, 0], ""),
+    ]
+    .concat()
+}
+
+#[test]
+fn on_air_a_cycle_goes_by_any_edge_and_begins_where_the_root_meets_it() {
+    for (back, wanted) in [
+        (0, "cycle: a 1 → b 1 → c 1 → d 1 → e 1 → a 1"),
+        (1, "cycle: b 1 → c 1 → d 1 → e 1 → b 1"),
+        (3, "cycle: d 1 → e 1 → d 1"),
+        (4, "cycle: e 1 → e 1"),
+    ] {
+        let lines = refused_on_air(&row(back));
+        assert!(lines[0].starts_with("refused 17 at node 1: "), "{lines:?}");
+        // Unresolved went, and the newest node has its number.
+        assert_eq!(lines[1..3], ["node 1 is e 1".to_string(), wanted.to_string()]);
+        // A line for each edge, of which the last leads back.
+        assert_eq!(lines.len(), 3 + wanted.matches('→').count());
+        let last = format!("e 1 -> {}  constrains \"a <2\"  clause 5, ", ["a 1", "b 1", "c 1", "d 1", "e 1"][usize::from(back)]);
+        assert!(lines.last().is_some_and(|l| l.starts_with(&last)), "{lines:?}");
+    }
+}
+
 #[test]
 fn wrong_usage_is_status_64_and_a_file_that_is_not_there_1() {
     for words in [&[][..], &["explain"], &["draw", "-"], &["edges"], &["edges", "--all"], &["check", "-", "--indent"], &["explain", "-", "--room", "many"], &["check", "a", "b"]] {
         assert_eq!(run(words, &[]).status.code(), Some(64), "{words:?}");
     }
-    for words in [&["explain", "-", "--edition"][..], &["explain", "-", "--edition", "0"], &["explain", "-", "--edition", "3"], &["explain", "-", "--edition", "two"], &["graph", "-", "--edition", "2"], &["check", "-", "--edition", "2"]] {
+    for words in [&["explain", "-", "--edition"][..], &["explain", "-", "--edition", "0"], &["explain", "-", "--edition", "3"], &["explain", "-", "--edition", "two"], &["graph", "-", "--edition", "2"], &["check", "-", "--edition", "2"], &["explain", "-", "--air", "--edition", "2"], &["explain", "--edition", "2", "-", "--air"], &["graph", "-", "--air"], &["nodes", "-", "--air"]] {
         let out = run(words, REPLAY);
         assert_eq!((out.status.code(), out.stdout.len()), (Some(64), 0), "{words:?}");
     }

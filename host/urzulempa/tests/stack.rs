@@ -1,7 +1,10 @@
 //! Every call runs on a thread with 128 KiB of stack and a guard page behind it.
 
 use std::thread::Builder;
-use urzulempa::{check, edge_numbers, edges, explain, explain_edition, explain_plain, graphviz, nodes, salvage, Node, MOST_EDGES, MOST_NODES, MOST_REPLACED};
+use urzulempa::{
+    check, edge_numbers, edges, explain, explain_air, explain_edition, explain_plain, graphviz, nodes, salvage, Node, MOST_EDGES, MOST_NODES,
+    MOST_REPLACED,
+};
 
 const SAMPLES: [&[u8]; 5] = [
     include_bytes!("../../../samples/replay.rec"),
@@ -25,6 +28,7 @@ fn explain_fits() {
             assert!([0, 11].contains(&explain_plain(file, &mut room).number));
             assert!([0, 11].contains(&explain_edition(file, 1, 0, &mut room).number));
             assert!(explain_edition(file, 2, 1, &mut room).is_done());
+            assert!([0, 15, 17].contains(&explain_air(file, 1, &mut room).number));
         }
     });
 }

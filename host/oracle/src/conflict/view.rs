@@ -2,6 +2,7 @@
 
 use std::fmt::{self, Write as _};
 
+use petgraph::algo::{is_cyclic_directed, tarjan_scc};
 use petgraph::graph::NodeIndex;
 use petgraph::visit::EdgeRef as _;
 
@@ -136,6 +137,28 @@ impl<'p, 'a> View<'p, 'a> {
 
     pub fn edge_count(&self) -> usize {
         self.unsat.graph.graph.edge_count()
+    }
+
+    /// How many nodes there are, unresolved counted only where it stayed.
+    pub fn node_count(&self) -> usize {
+        self.unsat.graph.graph.node_count()
+    }
+
+    /// The lowest node that is on a cycle, whatever its edges stand for: one among several that all lead to each other, or one
+    /// with an edge to itself.
+    pub fn lowest_on_cycle(&self) -> Option<usize> {
+        let graph = &self.unsat.graph.graph;
+        let goes_round = |together: &Vec<NodeIndex>| {
+            together.len() > 1 || graph.contains_edge(together[0], together[0])
+        };
+        let round = tarjan_scc(graph).into_iter().filter(goes_round);
+        let lowest = round.flatten().map(NodeIndex::index).min();
+        assert_eq!(
+            lowest.is_some(),
+            is_cyclic_directed(graph),
+            "petgraph's two ways to find a cycle agree"
+        );
+        lowest
     }
 
     /// Each edge's source and target, and its requirement, none for a conflict.

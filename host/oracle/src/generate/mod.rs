@@ -3,6 +3,7 @@
 //! Most shapes are small, since a comparison runs many; those marked heavy make files near the
 //! limits, and [`pick`] takes one of them every sixteenth time.
 
+mod air;
 mod auxiliaries;
 pub mod damage;
 mod faults;
@@ -153,12 +154,34 @@ const FAULTS: &[Shape] = &[
     light("random-bytes", faults::random_bytes),
 ];
 
-fn all() -> impl Iterator<Item = &'static Shape> {
+/// Files near the air profile of document 02, order 9.
+const AIR: &[Shape] = &[
+    light("air-ring", air::ring),
+    light("air-ring-of-conflicts", air::ring_of_conflicts),
+    light("air-ring-long", air::ring_long),
+    light("air-self-edges", air::self_edges),
+    light("air-locks", air::locks),
+    light("air-nodes", air::nodes),
+    light("air-inside", air::inside),
+    heavy("air-largest", air::largest),
+];
+
+/// All but those near the air profile.
+fn plain() -> impl Iterator<Item = &'static Shape> {
     KINDS.iter().flatten().chain(SHAPES).chain(FAULTS)
+}
+
+fn all() -> impl Iterator<Item = &'static Shape> {
+    plain().chain(AIR)
 }
 
 pub fn shapes() -> impl Iterator<Item = &'static str> {
     all().map(|shape| shape.name)
+}
+
+/// The shapes whose files `record` takes: one added to [`AIR`] leaves the recorded answers as they are.
+pub fn recorded() -> impl Iterator<Item = &'static str> {
+    plain().map(|shape| shape.name)
 }
 
 /// The file of a shape and a seed.
@@ -178,14 +201,29 @@ fn sound(rng: &mut Rng) -> Vec<u8> {
 /// The shape and seed of the `index`th file of a run, so that runs of any length take every shape
 /// in turn, and heavy ones seldom.
 pub fn pick(index: u64, seed: u64) -> (&'static str, u64) {
+    picked(index, seed, all)
+}
+
+/// The same over the shapes near the air profile and those with a cycle or a lock.
+pub fn pick_air(index: u64, seed: u64) -> (&'static str, u64) {
+    let named = ["cycle", "lock", "forbid", "world", "soup"];
+    let near = move |shape: &&Shape| named.iter().any(|name| shape.name.contains(name));
+    picked(index, seed, || AIR.iter().chain(plain().filter(near)))
+}
+
+fn picked<I: Iterator<Item = &'static Shape>>(
+    index: u64,
+    seed: u64,
+    from: impl Fn() -> I,
+) -> (&'static str, u64) {
     let heavy = index % 16 == 15;
     let turn = if heavy {
         index / 16
     } else {
         index - index / 16
     };
-    let count = all().filter(|shape| shape.heavy == heavy).count() as u64;
-    let shape = all()
+    let count = from().filter(|shape| shape.heavy == heavy).count() as u64;
+    let shape = from()
         .filter(|shape| shape.heavy == heavy)
         .nth((turn % count) as usize)
         .expect("there are shapes of both weights");

@@ -46,6 +46,30 @@ pub fn explain_edition(file: &[u8], edition: u64, option: u64, room: &mut [u8]) 
     answer
 }
 
+/// Where the profile takes the file, `explain` has to give the same, too.
+pub fn explain_air(file: &[u8], option: u64, room: &mut [u8]) -> Answer {
+    let (mut ours, mut whole) = (room.to_vec(), room.to_vec());
+    let port = urzulempa::explain_air(file, option, &mut ours);
+    let answer = same(oracle::explain_air(file, option, room), port);
+    assert!(ours == room, "the port leaves other bytes");
+    if !(15..=17).contains(&answer.number) {
+        assert_eq!(explain(file, option, &mut whole), answer);
+        assert!(whole == room, "the profile leaves other bytes than explain");
+    }
+    answer
+}
+
+/// Number and place of the air profile's answer with room to spare. A refusal leaves every byte.
+pub fn aired(file: &[u8]) -> (u64, u64) {
+    let mut room = vec![0xee; 1 << 16];
+    let answer = explain_air(file, 0, &mut room);
+    if answer.number != 0 {
+        assert_eq!((answer.bytes, answer.units, answer.depth), (0, 0, 0));
+        assert!(room.iter().all(|&byte| byte == 0xee));
+    }
+    (answer.number, answer.place)
+}
+
 pub fn graphviz(file: &[u8], option: u64, room: &mut [u8]) -> Answer {
     let mut ours = room.to_vec();
     let port = urzulempa::graphviz(file, option, &mut ours);

@@ -1,0 +1,4 @@
+pub mod Locks
+pub mod Ways
+pub mod Kinds
+pub mod Silent

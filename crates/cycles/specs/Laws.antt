@@ -1,0 +1,3 @@
+pub mod Lowest
+pub mod Walks
+pub mod Found
