@@ -10,7 +10,7 @@ use borrow.Author.Tests.{le-leb, lt-leb}
 use Rattle.basis.specs.Members.{clash}
 use Rattle.replay.specs.declared.calls.Seen.{Seen}
 use Rattle.replay.specs.Head.{callIn, optionIn, roomIn, recordedIn}
-use Rattle.replay.specs.Seen.{Told, told-one, blank, blankNumbers, checkedIn, drawnIn, listedIn, edgedIn}
+use Rattle.replay.specs.Seen.{Told, told-one, Aired, aired-one, blank, blankNumbers, checkedIn, drawnIn, listedIn, edgedIn, mendedIn, replacedIn}
 
 -- no call has this number, and no answer either
 abbrev pub noCall : Seen
@@ -25,16 +25,24 @@ pub record Listing (file : List ℕ) (n : ℕ) (r : Seen) : Type 0 where
 unfoldable pub edgesIn : List ℕ → ℕ → Seen
 edgesIn file n = cond (leb n 8192) (edgedIn file (blankNumbers n)) noCall
 
+-- the repair beside a room of 65,536 bytes, with a list of at most 8,192 numbers
+unfoldable pub mendsIn : List ℕ → ℕ → Seen
+mendsIn file n = cond (leb n 8192) (replacedIn file (blank 65536) (blankNumbers n)) noCall
+
 -- the call with that number, on a room of n bytes, a list of n entries or one of n numbers: check, explain, explain plainly, draw, list
--- the nodes, list the edges
+-- the nodes, list the edges, explain by edition 2, explain in the air profile, repair into a room, repair and list what was replaced
 unfoldable pub Replayed : List ℕ → ℕ → ℕ → ℕ → Seen → Type 0
 Replayed file zero opt n r = r ≡ checkedIn file
-Replayed file (suc zero) opt n r = Told file opt (blank n) r
-Replayed file (suc (suc zero)) opt n r = Told file 0 (blank n) r
+Replayed file (suc zero) opt n r = Told 1 file opt (blank n) r
+Replayed file (suc (suc zero)) opt n r = Told 1 file 0 (blank n) r
 Replayed file (suc (suc (suc zero))) opt n r = r ≡ drawnIn file opt (blank n)
 Replayed file (suc (suc (suc (suc zero)))) opt n r = Listing file n r
 Replayed file (suc (suc (suc (suc (suc zero))))) opt n r = r ≡ edgesIn file n
-Replayed file (suc (suc (suc (suc (suc (suc k)))))) opt n r = r ≡ noCall
+Replayed file (suc (suc (suc (suc (suc (suc zero)))))) opt n r = Told 2 file opt (blank n) r
+Replayed file (suc (suc (suc (suc (suc (suc (suc zero))))))) opt n r = Aired file opt (blank n) r
+Replayed file (suc (suc (suc (suc (suc (suc (suc (suc zero)))))))) opt n r = r ≡ mendedIn file (blank n) (blankNumbers 8192)
+Replayed file (suc (suc (suc (suc (suc (suc (suc (suc (suc zero))))))))) opt n r = r ≡ mendsIn file n
+Replayed file (suc (suc (suc (suc (suc (suc (suc (suc (suc (suc k)))))))))) opt n r = r ≡ noCall
 
 -- a and b are one and the same, or not
 pub record Same (a b : Seen) (r : Bool) : Type 0 where
@@ -64,12 +72,16 @@ listing-one file n r q R Q = go (decLe n 128)
 pub replayed-one : (file : List ℕ) (call opt n : ℕ) (r q : Seen) → Replayed file call opt n r → Replayed file call opt n q → r ≡ q
 unfolding Replayed
 replayed-one file zero opt n r q R Q = R ∙ sym Q
-replayed-one file (suc zero) opt n r q R Q = told-one file opt (blank n) r q R Q
-replayed-one file (suc (suc zero)) opt n r q R Q = told-one file 0 (blank n) r q R Q
+replayed-one file (suc zero) opt n r q R Q = told-one 1 file opt (blank n) r q R Q
+replayed-one file (suc (suc zero)) opt n r q R Q = told-one 1 file 0 (blank n) r q R Q
 replayed-one file (suc (suc (suc zero))) opt n r q R Q = R ∙ sym Q
 replayed-one file (suc (suc (suc (suc zero)))) opt n r q R Q = listing-one file n r q R Q
 replayed-one file (suc (suc (suc (suc (suc zero))))) opt n r q R Q = R ∙ sym Q
-replayed-one file (suc (suc (suc (suc (suc (suc k)))))) opt n r q R Q = R ∙ sym Q
+replayed-one file (suc (suc (suc (suc (suc (suc zero)))))) opt n r q R Q = told-one 2 file opt (blank n) r q R Q
+replayed-one file (suc (suc (suc (suc (suc (suc (suc zero))))))) opt n r q R Q = aired-one file opt (blank n) r q R Q
+replayed-one file (suc (suc (suc (suc (suc (suc (suc (suc zero)))))))) opt n r q R Q = R ∙ sym Q
+replayed-one file (suc (suc (suc (suc (suc (suc (suc (suc (suc zero))))))))) opt n r q R Q = R ∙ sym Q
+replayed-one file (suc (suc (suc (suc (suc (suc (suc (suc (suc (suc k)))))))))) opt n r q R Q = R ∙ sym Q
 
 true-both : (a b : Bool) → (a ≡ true → b ≡ true) → (b ≡ true → a ≡ true) → a ≡ b
 true-both true true f g = refl
@@ -108,16 +120,24 @@ pub edges-long : (file : List ℕ) (n : ℕ) (r : Seen) → 8192 < n → r ≡ n
 unfolding edgesIn
 edges-long file n r l e = rw (lt-leb n 8192 l) e
 
+pub mends-short : (file : List ℕ) (n : ℕ) (r : Seen) → n ≤ 8192 → r ≡ replacedIn file (blank 65536) (blankNumbers n) → r ≡ mendsIn file n
+unfolding mendsIn
+mends-short file n r l e = rw (le-leb n 8192 l) e
+
+pub mends-long : (file : List ℕ) (n : ℕ) (r : Seen) → 8192 < n → r ≡ noCall → r ≡ mendsIn file n
+unfolding mendsIn
+mends-long file n r l e = rw (lt-leb n 8192 l) e
+
 module _ (file : List ℕ) (call opt n : ℕ) (r : Seen) where
   pub at-check : call ≡ 0 → r ≡ checkedIn file → Replayed file call opt n r
   unfolding Replayed
   at-check q e = rw q e
 
-  pub at-explain : call ≡ 1 → Told file opt (blank n) r → Replayed file call opt n r
+  pub at-explain : call ≡ 1 → Told 1 file opt (blank n) r → Replayed file call opt n r
   unfolding Replayed
   at-explain q e = rw q e
 
-  pub at-plain : call ≡ 2 → Told file 0 (blank n) r → Replayed file call opt n r
+  pub at-plain : call ≡ 2 → Told 1 file 0 (blank n) r → Replayed file call opt n r
   unfolding Replayed
   at-plain q e = rw q e
 
@@ -133,16 +153,36 @@ module _ (file : List ℕ) (call opt n : ℕ) (r : Seen) where
   unfolding Replayed
   at-edges q e = rw q e
 
-pub at-none : (file : List ℕ) (call opt n : ℕ) (r : Seen) → (call ≡ 0 → ⊥) → (call ≡ 1 → ⊥) → (call ≡ 2 → ⊥) → (call ≡ 3 → ⊥) → (call ≡ 4 → ⊥) → (call ≡ 5 → ⊥) → r ≡ noCall
-    → Replayed file call opt n r
+  pub at-second : call ≡ 6 → Told 2 file opt (blank n) r → Replayed file call opt n r
+  unfolding Replayed
+  at-second q e = rw q e
+
+  pub at-air : call ≡ 7 → Aired file opt (blank n) r → Replayed file call opt n r
+  unfolding Replayed
+  at-air q e = rw q e
+
+  pub at-mend : call ≡ 8 → r ≡ mendedIn file (blank n) (blankNumbers 8192) → Replayed file call opt n r
+  unfolding Replayed
+  at-mend q e = rw q e
+
+  pub at-replaced : call ≡ 9 → r ≡ mendsIn file n → Replayed file call opt n r
+  unfolding Replayed
+  at-replaced q e = rw q e
+
+pub at-none : (file : List ℕ) (call opt n : ℕ) (r : Seen) → (call ≡ 0 → ⊥) → (call ≡ 1 → ⊥) → (call ≡ 2 → ⊥) → (call ≡ 3 → ⊥) → (call ≡ 4 → ⊥)
+    → (call ≡ 5 → ⊥) → (call ≡ 6 → ⊥) → (call ≡ 7 → ⊥) → (call ≡ 8 → ⊥) → (call ≡ 9 → ⊥) → r ≡ noCall → Replayed file call opt n r
 unfolding Replayed
-at-none file zero opt n r a b c d f g e = absurd (a refl)
-at-none file (suc zero) opt n r a b c d f g e = absurd (b refl)
-at-none file (suc (suc zero)) opt n r a b c d f g e = absurd (c refl)
-at-none file (suc (suc (suc zero))) opt n r a b c d f g e = absurd (d refl)
-at-none file (suc (suc (suc (suc zero)))) opt n r a b c d f g e = absurd (f refl)
-at-none file (suc (suc (suc (suc (suc zero))))) opt n r a b c d f g e = absurd (g refl)
-at-none file (suc (suc (suc (suc (suc (suc k)))))) opt n r a b c d f g e = e
+at-none file zero opt n r a b c d f g h i j k e = absurd (a refl)
+at-none file (suc zero) opt n r a b c d f g h i j k e = absurd (b refl)
+at-none file (suc (suc zero)) opt n r a b c d f g h i j k e = absurd (c refl)
+at-none file (suc (suc (suc zero))) opt n r a b c d f g h i j k e = absurd (d refl)
+at-none file (suc (suc (suc (suc zero)))) opt n r a b c d f g h i j k e = absurd (f refl)
+at-none file (suc (suc (suc (suc (suc zero))))) opt n r a b c d f g h i j k e = absurd (g refl)
+at-none file (suc (suc (suc (suc (suc (suc zero)))))) opt n r a b c d f g h i j k e = absurd (h refl)
+at-none file (suc (suc (suc (suc (suc (suc (suc zero))))))) opt n r a b c d f g h i j k e = absurd (i refl)
+at-none file (suc (suc (suc (suc (suc (suc (suc (suc zero)))))))) opt n r a b c d f g h i j k e = absurd (j refl)
+at-none file (suc (suc (suc (suc (suc (suc (suc (suc (suc zero))))))))) opt n r a b c d f g h i j k e = absurd (k refl)
+at-none file (suc (suc (suc (suc (suc (suc (suc (suc (suc (suc m)))))))))) opt n r a b c d f g h i j k e = e
 
 fields-same : (n p y u d s n′ p′ y′ u′ d′ s′ : ℕ) → n ≡ n′ → p ≡ p′ → y ≡ y′ → u ≡ u′ → d ≡ d′ → s ≡ s′
     → _≡_ {A = Seen} (record { number = n; place = p; bytes = y; units = u; depth = d; sum = s }) (record { number = n′; place = p′; bytes = y′; units = u′; depth = d′; sum = s′ })

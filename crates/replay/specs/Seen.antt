@@ -7,6 +7,8 @@ use native.Mathlib.Numerals.{unary-clauses}
 use lib.ListN.{length, take, drop, replicate, length-replicate, length-map, length-append, length-drop}
 use lib.Seq.{take-append-add}
 use Rattle.texts.specs.Wrote.{over}
+use Rattle.salvage.specs.declared.Salvaged.{Salvaged}
+use Rattle.salvage.specs.Lent.{salvageAnswer, salvageRoom, salvageList}
 use Rattle.entries.specs.Entry.{entryOf, wordOf, Narrows, entries-back, fillTo}
 use Rattle.entries.specs.declared.NodeEntry.{NodeEntry}
 use Rattle.nodelist.specs.Nodes.{nodesOf, listedBy}
@@ -15,6 +17,7 @@ use Rattle.nodelist.specs.Listed.{Listed, wordsOver, as-many, in-room}
 use Rattle.urzulempa.specs.declared.Answer.{Answer}
 use Rattle.urzulempa.specs.Answers.{checkOf}
 use Rattle.urzulempa.specs.Says.{Says, says-one}
+use Rattle.urzulempa.specs.Air.{SaysAir, says-air-one}
 use Rattle.urzulempa.specs.Draws.{resultAnswer, drawFile}
 use Rattle.urzulempa.specs.Nodes.{nodesAnswer, nodesLeft, noWords, answerOf, exported}
 use Rattle.urzulempa.specs.Edges.{edgesAnswer, edgesLeft}
@@ -31,10 +34,16 @@ answerIn r = record { number = r .number; place = r .place; bytes = r .bytes; un
 abbrev pub blank : ℕ → List ℕ
 blank n = replicate n 165
 
--- the explanation of a file in the room `out`
-pub record Told (file : List ℕ) (opt : ℕ) (out : List ℕ) (r : Seen) : Type 0 where
+-- the explanation of a file by edition e in the room `out`
+pub record Told (e : ℕ) (file : List ℕ) (opt : ℕ) (out : List ℕ) (r : Seen) : Type 0 where
   pub left : List ℕ
-  pub says : Says 1 file opt out left (answerIn r)
+  pub says : Says e file opt out left (answerIn r)
+  pub sums : r .sum ≡ sumOf left
+
+-- the explanation in the air profile in the room `out`
+pub record Aired (file : List ℕ) (opt : ℕ) (out : List ℕ) (r : Seen) : Type 0 where
+  pub left : List ℕ
+  pub says : SaysAir file opt out left (answerIn r)
   pub sums : r .sum ≡ sumOf left
 
 -- the graph text in the room `out`
@@ -60,22 +69,44 @@ blankNumbers n = replicate n 42405
 unfoldable pub edgedIn : List ℕ → List ℕ → Seen
 edgedIn file l = seenOf (edgesAnswer file (length l)) (sumOf (edgesLeft file l))
 
+-- a repair's answer in the fields of the others: the count of replaced records as units, the bytes dropped as depth
+abbrev pub mendedAs : Salvaged → Answer
+mendedAs s = record { number = s .number; place = s .place; bytes = s .bytes; units = s .replaced; depth = s .dropped }
+
+-- the repair in the room `out` beside the list `l`: what the room shows, and what the list does
+unfoldable pub mendedIn : List ℕ → List ℕ → List ℕ → Seen
+mendedIn file out l = seenOf (mendedAs (salvageAnswer file (length out) (length l))) (sumOf (salvageRoom file out (length l)))
+
+unfoldable pub replacedIn : List ℕ → List ℕ → List ℕ → Seen
+replacedIn file out l = seenOf (mendedAs (salvageAnswer file (length out) (length l))) (sumOf (salvageList file (length out) l))
+
 -- refusals 1 to 9, with nothing lent
 unfoldable pub checkedIn : List ℕ → Seen
 checkedIn file = seenOf (checkOf file) (sumOf [])
 
--- two results that it allows are equal
-pub told-one : (file : List ℕ) (opt : ℕ) (out : List ℕ) (r q : Seen) → Told file opt out r → Told file opt out q → r ≡ q
-told-one file opt out r q S T =
-    let e = says-one 1 file opt out (S .left) (T .left) (answerIn r) (answerIn q) (S .says) (T .says) in
-    let s : r .sum ≡ q .sum = S .sums ∙ ap sumOf (e .1) ∙ sym (T .sums) in
-    ap (λ (a : Answer). seenOf a (r .sum)) (e .0) ∙ ap (seenOf (answerIn q)) s
+-- two results that they allow are equal
+both-one : (r q : Seen) (left right : List ℕ) → r .sum ≡ sumOf left → q .sum ≡ sumOf right → (answerIn r ≡ answerIn q) × (left ≡ right) → r ≡ q
+both-one r q left right s t e =
+    let h : r .sum ≡ q .sum = s ∙ ap sumOf (e .1) ∙ sym t in
+    ap (λ (a : Answer). seenOf a (r .sum)) (e .0) ∙ ap (seenOf (answerIn q)) h
+
+pub told-one : (e : ℕ) (file : List ℕ) (opt : ℕ) (out : List ℕ) (r q : Seen) → Told e file opt out r → Told e file opt out q → r ≡ q
+told-one e file opt out r q S T =
+    both-one r q (S .left) (T .left) (S .sums) (T .sums) (says-one e file opt out (S .left) (T .left) (answerIn r) (answerIn q) (S .says) (T .says))
+
+pub aired-one : (file : List ℕ) (opt : ℕ) (out : List ℕ) (r q : Seen) → Aired file opt out r → Aired file opt out q → r ≡ q
+aired-one file opt out r q S T =
+    both-one r q (S .left) (T .left) (S .sums) (T .sums) (says-air-one file opt out (S .left) (T .left) (answerIn r) (answerIn q) (S .says) (T .says))
 
 -- ---- the ways through the code
 
-pub told-in : (file : List ℕ) (opt : ℕ) (out left : List ℕ) (a : Answer) (s : ℕ) (r : Seen) → Says 1 file opt out left a → s ≡ sumOf left → r ≡ seenOf a s
-    → Told file opt out r
-told-in file opt out left a s r S e q = rw q (record { left = left; says = S; sums = e })
+pub told-in : (e : ℕ) (file : List ℕ) (opt : ℕ) (out left : List ℕ) (a : Answer) (s : ℕ) (r : Seen) → Says e file opt out left a → s ≡ sumOf left
+    → r ≡ seenOf a s → Told e file opt out r
+told-in e file opt out left a s r S p q = rw q (record { left = left; says = S; sums = p })
+
+pub aired-in : (file : List ℕ) (opt : ℕ) (out left : List ℕ) (a : Answer) (s : ℕ) (r : Seen) → SaysAir file opt out left a → s ≡ sumOf left
+    → r ≡ seenOf a s → Aired file opt out r
+aired-in file opt out left a s r S p q = rw q (record { left = left; says = S; sums = p })
 
 pub drawn-in : (file : List ℕ) (opt : ℕ) (out left : List ℕ) (a : Answer) (s : ℕ) (r : Seen) → a ≡ resultAnswer (drawFile file opt (length out))
     → left ≡ over (drawFile file opt (length out) .text) out → s ≡ sumOf left → r ≡ seenOf a s → r ≡ drawnIn file opt out
@@ -86,6 +117,16 @@ pub edged-in : (file l left : List ℕ) (a : Answer) (s : ℕ) (r : Seen) → a 
     → r ≡ seenOf a s → r ≡ edgedIn file l
 unfolding edgedIn
 edged-in file l left a s r e k p q = rw (q, p, e, k)
+
+pub mended-in : (file out l left : List ℕ) (x : Salvaged) (a : Answer) (s : ℕ) (r : Seen) → x ≡ salvageAnswer file (length out) (length l)
+    → left ≡ salvageRoom file out (length l) → a ≡ mendedAs x → s ≡ sumOf left → r ≡ seenOf a s → r ≡ mendedIn file out l
+unfolding mendedIn
+mended-in file out l left x a s r e k w p q = q ∙ ap₂ seenOf (w ∙ ap mendedAs e) (p ∙ ap sumOf k)
+
+pub replaced-in : (file out l left : List ℕ) (x : Salvaged) (a : Answer) (s : ℕ) (r : Seen) → x ≡ salvageAnswer file (length out) (length l)
+    → left ≡ salvageList file (length out) l → a ≡ mendedAs x → s ≡ sumOf left → r ≡ seenOf a s → r ≡ replacedIn file out l
+unfolding replacedIn
+replaced-in file out l left x a s r e k w p q = q ∙ ap₂ seenOf (w ∙ ap mendedAs e) (p ∙ ap sumOf k)
 
 take-blank : {A : Type 0} (x : A) (n m : ℕ) → n ≤ m → take n (replicate m x) ≡ replicate n x
 take-blank x zero m l = refl
@@ -109,8 +150,11 @@ map-append (x ∷ xs) ys = ap (λ (t : List NodeEntry). entryOf x ∷ t) (map-ap
 pub prefix-blank : (n : ℕ) → n ≤ 65536 → n ≡ length (take n (replicate {A = ℕ} 65536 165))
 prefix-blank n l = sym (ap length (take-blank {A = ℕ} 165 n 65536 l) ∙ length-replicate {A = ℕ} n 165)
 
-pub told-blank : (file : List ℕ) (opt n : ℕ) (r : Seen) → Told file opt (take n (replicate 65536 165)) r → n ≤ 65536 → Told file opt (blank n) r
-told-blank file opt n r S l = rw (take-blank {A = ℕ} 165 n 65536 l) at S
+pub told-blank : (e : ℕ) (file : List ℕ) (opt n : ℕ) (r : Seen) → Told e file opt (take n (replicate 65536 165)) r → n ≤ 65536 → Told e file opt (blank n) r
+told-blank e file opt n r S l = rw (take-blank {A = ℕ} 165 n 65536 l) at S
+
+pub aired-blank : (file : List ℕ) (opt n : ℕ) (r : Seen) → Aired file opt (take n (replicate 65536 165)) r → n ≤ 65536 → Aired file opt (blank n) r
+aired-blank file opt n r S l = rw (take-blank {A = ℕ} 165 n 65536 l) at S
 
 pub drawn-blank : (file : List ℕ) (opt n : ℕ) (r : Seen) → r ≡ drawnIn file opt (take n (replicate 65536 165)) → n ≤ 65536 → r ≡ drawnIn file opt (blank n)
 drawn-blank file opt n r e l = rw (take-blank {A = ℕ} 165 n 65536 l) at e
@@ -121,6 +165,14 @@ prefix-numbers n l = sym (ap length (take-blank {A = ℕ} 42405 n 8192 l) ∙ le
 
 pub edged-blank : (file : List ℕ) (n : ℕ) (r : Seen) → r ≡ edgedIn file (take n (replicate 8192 42405)) → n ≤ 8192 → r ≡ edgedIn file (blankNumbers n)
 edged-blank file n r e l = rw (take-blank {A = ℕ} 42405 n 8192 l) at e
+
+-- the repair beside the whole list, or the whole room
+pub mended-blank : (file l : List ℕ) (n : ℕ) (r : Seen) → r ≡ mendedIn file (take n (replicate 65536 165)) l → n ≤ 65536 → r ≡ mendedIn file (blank n) l
+mended-blank file l n r e k = e ∙ ap (λ (x : List ℕ). mendedIn file x l) (take-blank {A = ℕ} 165 n 65536 k)
+
+pub replaced-blank : (file out : List ℕ) (n : ℕ) (r : Seen) → r ≡ replacedIn file out (take n (replicate 8192 42405)) → n ≤ 8192
+    → r ≡ replacedIn file out (blankNumbers n)
+replaced-blank file out n r e k = e ∙ ap (λ (x : List ℕ). replacedIn file out x) (take-blank {A = ℕ} 42405 n 8192 k)
 
 -- the words that the program starts from
 abbrev blankWord : ℕ

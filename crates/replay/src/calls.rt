@@ -1,20 +1,24 @@
 // A recorded call, made again: the answer, and the checksum of the whole room or list that it was lent.
 ghost use mathlib.Core.Path.{_≡_};
 ghost use Prim.Native.Nat.{_≤_};
-ghost use Rattle.replay.specs.Seen.{seenOf, Told, blank, blankNumbers, checkedIn, drawnIn, listedIn, edgedIn};
-ghost use Rattle.replay.specs.Again.{Listing, Replayed, noCall, edgesIn};
+ghost use Rattle.replay.specs.Seen.{seenOf, Told, Aired, blank, blankNumbers, checkedIn, drawnIn, listedIn, edgedIn, mendedAs, mendedIn, replacedIn};
+ghost use Rattle.replay.specs.Again.{Listing, Replayed, noCall, edgesIn, mendsIn};
 ghost use Rattle.urzulempa.specs.Nodes.{answerOf};
 use crate::sums::sum;
 use crate::sums::sum_entries;
 use crate::sums::sum_numbers;
 use nodelist::Counted;
 use nodelist::node_words;
+use salvage::Salvaged;
 use urzulempa::Answer;
 use urzulempa::urzulempa_check;
 use urzulempa::urzulempa_edges;
 use urzulempa::urzulempa_explain;
+use urzulempa::urzulempa_explain_air;
+use urzulempa::urzulempa_explain_edition;
 use urzulempa::urzulempa_explain_plain;
 use urzulempa::urzulempa_graphviz;
+use urzulempa::urzulempa_salvage;
 
 pub struct Seen {
     pub number: u64,
@@ -45,7 +49,7 @@ fn check(file: &[u8]) -> Seen
 }
 
 fn explained(file: &[u8], option: u64, room: &mut [u8]) -> Seen
-    ensures { λ r. ⌜ Told (now (file .entry)) option (now (room .entry)) r ⌝ }
+    ensures { λ r. ⌜ Told 1 (now (file .entry)) option (now (room .entry)) r ⌝ }
 {
     let a = urzulempa_explain(file, option, room);
     joined(a, sum(room))
@@ -53,14 +57,14 @@ fn explained(file: &[u8], option: u64, room: &mut [u8]) -> Seen
 
 fn explain(file: &[u8], option: u64, n: usize) -> Seen
     requires { ⌜ n ≤ 65536 ⌝ }
-    ensures { λ r. ⌜ Told (now (file .entry)) option (blank n) r ⌝ }
+    ensures { λ r. ⌜ Told 1 (now (file .entry)) option (blank n) r ⌝ }
 {
     let mut room = [165u8; 65536];
     explained(file, option, &mut room[..n])
 }
 
 fn told_plainly(file: &[u8], room: &mut [u8]) -> Seen
-    ensures { λ r. ⌜ Told (now (file .entry)) 0 (now (room .entry)) r ⌝ }
+    ensures { λ r. ⌜ Told 1 (now (file .entry)) 0 (now (room .entry)) r ⌝ }
 {
     let a = urzulempa_explain_plain(file, room);
     joined(a, sum(room))
@@ -68,7 +72,7 @@ fn told_plainly(file: &[u8], room: &mut [u8]) -> Seen
 
 fn plain(file: &[u8], n: usize) -> Seen
     requires { ⌜ n ≤ 65536 ⌝ }
-    ensures { λ r. ⌜ Told (now (file .entry)) 0 (blank n) r ⌝ }
+    ensures { λ r. ⌜ Told 1 (now (file .entry)) 0 (blank n) r ⌝ }
 {
     let mut room = [165u8; 65536];
     told_plainly(file, &mut room[..n])
@@ -158,6 +162,89 @@ fn edges_in(file: &[u8], n: usize) -> Seen
     edges(file, n)
 }
 
+fn told_second(file: &[u8], option: u64, room: &mut [u8]) -> Seen
+    ensures { λ r. ⌜ Told 2 (now (file .entry)) option (now (room .entry)) r ⌝ }
+{
+    let a = urzulempa_explain_edition(file, 2, option, room);
+    joined(a, sum(room))
+}
+
+fn second(file: &[u8], option: u64, n: usize) -> Seen
+    requires { ⌜ n ≤ 65536 ⌝ }
+    ensures { λ r. ⌜ Told 2 (now (file .entry)) option (blank n) r ⌝ }
+{
+    let mut room = [165u8; 65536];
+    told_second(file, option, &mut room[..n])
+}
+
+fn told_in_air(file: &[u8], option: u64, room: &mut [u8]) -> Seen
+    ensures { λ r. ⌜ Aired (now (file .entry)) option (now (room .entry)) r ⌝ }
+{
+    let a = urzulempa_explain_air(file, option, room);
+    joined(a, sum(room))
+}
+
+fn in_air(file: &[u8], option: u64, n: usize) -> Seen
+    requires { ⌜ n ≤ 65536 ⌝ }
+    ensures { λ r. ⌜ Aired (now (file .entry)) option (blank n) r ⌝ }
+{
+    let mut room = [165u8; 65536];
+    told_in_air(file, option, &mut room[..n])
+}
+
+fn mended(s: Salvaged) -> Answer
+    ensures { λ r. ⌜ r ≡ mendedAs s ⌝ }
+{
+    Answer {
+        number: s.number,
+        place: s.place,
+        bytes: s.bytes,
+        units: s.replaced,
+        depth: s.dropped,
+    }
+}
+
+fn mend_room(file: &[u8], room: &mut [u8], list: &mut [u16]) -> Seen
+    ensures { λ r. ⌜ r ≡ mendedIn (now (file .entry)) (now (room .entry)) (now (list .entry)) ⌝ }
+{
+    let s = urzulempa_salvage(file, room, list);
+    joined(mended(s), sum(room))
+}
+
+fn mend(file: &[u8], n: usize) -> Seen
+    requires { ⌜ n ≤ 65536 ⌝ }
+    ensures { λ r. ⌜ r ≡ mendedIn (now (file .entry)) (blank n) (blankNumbers 8192) ⌝ }
+{
+    let mut list = [42405u16; 8192];
+    let mut room = [165u8; 65536];
+    mend_room(file, &mut room[..n], &mut list)
+}
+
+fn mend_list(file: &[u8], room: &mut [u8], list: &mut [u16]) -> Seen
+    ensures { λ r. ⌜ r ≡ replacedIn (now (file .entry)) (now (room .entry)) (now (list .entry)) ⌝ }
+{
+    let s = urzulempa_salvage(file, room, list);
+    joined(mended(s), sum_numbers(list))
+}
+
+fn replaced(file: &[u8], n: usize) -> Seen
+    requires { ⌜ n ≤ 8192 ⌝ }
+    ensures { λ r. ⌜ r ≡ replacedIn (now (file .entry)) (blank 65536) (blankNumbers n) ⌝ }
+{
+    let mut room = [165u8; 65536];
+    let mut list = [42405u16; 8192];
+    mend_list(file, &mut room, &mut list[..n])
+}
+
+fn replaced_in(file: &[u8], n: usize) -> Seen
+    ensures { λ r. ⌜ r ≡ mendsIn (now (file .entry)) n ⌝ }
+{
+    if n > 8192 {
+        return no_call();
+    }
+    replaced(file, n)
+}
+
 // The call with that number (host/oracle/src/record.rs), on a room of n bytes, a list of n entries or one of n numbers.
 pub fn replayed(file: &[u8], call: u64, option: u64, n: usize) -> Seen
     requires { ⌜ n ≤ 65536 ⌝ }
@@ -180,6 +267,18 @@ pub fn replayed(file: &[u8], call: u64, option: u64, n: usize) -> Seen
     }
     if call == 5 {
         return edges_in(file, n);
+    }
+    if call == 6 {
+        return second(file, option, n);
+    }
+    if call == 7 {
+        return in_air(file, option, n);
+    }
+    if call == 8 {
+        return mend(file, n);
+    }
+    if call == 9 {
+        return replaced_in(file, n);
     }
     no_call()
 }

@@ -7,13 +7,19 @@
 //!   are left; then the file's bytes.
 //! - a call on the file before it: 2, call, option, room, then the answer's number, place, bytes, units and depth, and the
 //!   checksum of the whole room after the call. Call 0 is check, 1 explain, 2 the plain explanation, 3 the graph text,
-//!   4 the node list, whose room is counted in entries, and 5 the edge list, whose room is counted in numbers. A room holds
-//!   [`FILL`] in every byte before the call.
+//!   4 the node list, whose room is counted in entries, 5 the edge list, whose room is counted in numbers, 6 the explanation
+//!   by edition 2, and 7 the explanation in the air profile. 8 and 9 are the repair of a damaged file, which conflict.rs does
+//!   not have and [`salvage`] gives, with the count of replaced records as units and the bytes dropped as depth: 8 with the
+//!   checksum of the room, beside a list of [`NUMBERS`], 9 with that of the list, whose room is counted in numbers, beside a
+//!   room of [`MOST`]. A room holds [`FILL`] in every byte before the call.
 //! - the end: 3, how many files, how many answers.
 
 use std::collections::BTreeSet;
 
-use crate::{check, edges, explain, generate, graphviz, nodes, Answer, Node, Problem};
+use crate::{
+    check, edges, explain, explain_air, explain_edition, generate, graphviz, nodes, salvage,
+    Answer, Node, Problem,
+};
 
 /// What stands in every byte that is lent.
 const FILL: u8 = 165;
@@ -21,6 +27,8 @@ const FILL: u8 = 165;
 const PAIR: u16 = u16::from_le_bytes([FILL; 2]);
 /// The largest room that the program lends.
 const MOST: usize = 1 << 16;
+/// The largest list of numbers that the program lends.
+const NUMBERS: usize = 1 << 13;
 /// A room that is ample for most small files.
 const AMPLE: usize = 6 << 10;
 /// Files are chosen among those of this many seeds.
@@ -38,6 +46,10 @@ enum Call {
     Graph(u64),
     Nodes,
     Edges,
+    Second(u64),
+    Air(u64),
+    Mend,
+    Replaced,
 }
 
 /// How much is lent: a size, or one that follows from what a call needs.
@@ -72,6 +84,26 @@ const TRIALS: [(Call, Room); 16] = [
 /// Each file gets one of these in turn.
 const EDGE_ROOMS: [Room; 4] = [Room::Of(5 * 1_024), Room::Exact, Room::OneShort, Room::Half];
 
+/// A file gets one of these in turn, and one that the repair changes gets all.
+const MENDED: [(Call, Room); 5] = [
+    (Call::Mend, Room::Of(MOST)),
+    (Call::Replaced, Room::Exact),
+    (Call::Mend, Room::OneShort),
+    (Call::Replaced, Room::OneShort),
+    (Call::Mend, Room::Exact),
+];
+
+/// Options and rooms of an explanation by edition 2 and of one in the air profile: each file gets one of these in turn.
+const EXPLAINED: [(u64, Room); 7] = [
+    (0, Room::Of(AMPLE)),
+    (1, Room::Exact),
+    (0, Room::OneShort),
+    (1, Room::Of(AMPLE)),
+    (0, Room::Half),
+    (1, Room::OneShort),
+    (2, Room::Of(60)),
+];
+
 /// The list, or why it would not do.
 pub fn list() -> Result<Vec<u8>, String> {
     let mut out = Vec::new();
@@ -94,7 +126,8 @@ pub fn list() -> Result<Vec<u8>, String> {
         &mut out,
         &[END, files as u64, answers, 0, 0, 0, 0, 0, 0, 0, 0, 0],
     );
-    match (0..=12).find(|number| !numbers.contains(number)) {
+    let mut given = (0..=12).chain(15..=17);
+    match given.find(|number| !numbers.contains(number)) {
         Some(number) => Err(format!("no call is answered with {number}")),
         None => Ok(out),
     }
@@ -126,7 +159,16 @@ fn calls(file: &[u8], index: usize) -> Vec<[u64; 12]> {
     let turn = (0..3).map(|i| 1 + (4 * index + i) % others);
     let picked = std::iter::once(0).chain(turn).map(|i| TRIALS[i]);
     let edges = (Call::Edges, EDGE_ROOMS[index % EDGE_ROOMS.len()]);
-    let all = picked.chain([edges]);
+    let (option, room) = EXPLAINED[index % EXPLAINED.len()];
+    let explained = [(Call::Second(option), room), (Call::Air(option), room)];
+    let turn = index % MENDED.len();
+    let repair = mended(file, &mut [0; MOST], &mut [0; NUMBERS]);
+    let mends = match repair.units + repair.depth {
+        0 => &MENDED[turn..=turn],
+        _ => &MENDED,
+    };
+    let all = picked.chain([edges]).chain(explained);
+    let all = all.chain(mends.iter().copied());
     all.map(|trial| answered(file, trial)).collect()
 }
 
@@ -152,6 +194,17 @@ fn answered(file: &[u8], (call, room): (Call, Room)) -> [u64; 12] {
             let answer = edges(file, &mut list);
             let numbers: Vec<u64> = list.into_iter().map(u64::from).collect();
             (5, 0, answer, sum(&numbers))
+        }
+        Call::Second(option) => in_room(6, option, size, |room| {
+            explain_edition(file, 2, option, room)
+        }),
+        Call::Air(option) => in_room(7, option, size, |room| explain_air(file, option, room)),
+        Call::Mend => in_room(8, 0, size, |room| mended(file, room, &mut [PAIR; NUMBERS])),
+        Call::Replaced => {
+            let mut list = vec![PAIR; size];
+            let answer = mended(file, &mut [FILL; MOST], &mut list);
+            let numbers: Vec<u64> = list.into_iter().map(u64::from).collect();
+            (9, 0, answer, sum(&numbers))
         }
     };
     let Answer {
@@ -189,7 +242,18 @@ fn in_room(
     (number, option, answer, sum(&bytes))
 }
 
-/// The bytes that a call writes into the largest room, the entries of the node list, or the numbers of the edge list.
+fn mended(file: &[u8], room: &mut [u8], list: &mut [u16]) -> Answer {
+    let salvaged = salvage(file, room, list);
+    Answer {
+        number: salvaged.number,
+        place: salvaged.place,
+        bytes: salvaged.bytes,
+        units: salvaged.replaced,
+        depth: salvaged.dropped,
+    }
+}
+
+/// The bytes that a call writes into the largest room, the entries of the node list, or the numbers of another list.
 fn needed(file: &[u8], call: Call) -> usize {
     let mut room = vec![0; MOST];
     let answer = match call {
@@ -197,6 +261,10 @@ fn needed(file: &[u8], call: Call) -> usize {
         Call::Explain(option) => explain(file, option, &mut room),
         Call::Plain => explain(file, 0, &mut room),
         Call::Graph(option) => graphviz(file, option, &mut room),
+        Call::Second(option) => explain_edition(file, 2, option, &mut room),
+        Call::Air(option) => explain_air(file, option, &mut room),
+        Call::Mend => mended(file, &mut room, &mut [0; NUMBERS]),
+        Call::Replaced => return mended(file, &mut room, &mut [0; NUMBERS]).units as usize,
         Call::Nodes => {
             let problem = Problem::read(file).ok();
             return problem.map_or(0, |p| p.model().map_or(0, |m| m.nodes().len()));

@@ -1,5 +1,5 @@
 use borrow.Author.Needs.{needs}
-use Rattle.replay.specs.Again.{at-check, at-explain, at-plain, at-graph, at-list, at-edges, at-none}
+use Rattle.replay.specs.Again.{at-check, at-explain, at-plain, at-graph, at-list, at-edges, at-second, at-air, at-mend, at-replaced, at-none}
 use Rattle.replay.proofs.calls.replayed.Statement.{statement}
 use Rattle.replay.proofs.calls.replayed.Tie as tie
 
@@ -19,5 +19,13 @@ replayed-spec =
     (λ c. search at-list)
     (λ c κs. search needs)
     (λ c. search at-edges)
+    (λ c κs. search needs)
+    (λ c. search at-second)
+    (λ c κs. search needs)
+    (λ c. search at-air)
+    (λ c κs. search needs)
+    (λ c. search at-mend)
+    (λ c κs. search needs)
+    (λ c. search at-replaced)
     (λ c κs. search needs)
     (λ c. search at-none))
