@@ -2,14 +2,15 @@
 use mathlib.Core.Path.{_≡_, refl, sym, ap, _∙_}
 use mathlib.Core.Bool.{Bool, true, false, _&&_}
 use mathlib.Core.List.{List}
-use Prim.Native.Nat.{ℕ, _+_, _≤_, _<_}
+use Prim.Native.Nat.{ℕ, _+_, _*_, _-_, _≤_, _<_}
 use native.Mathlib.Omega.{arith}
 use native.Mathlib.Numerals.{add-one}
 use lib.ListN.{length, getD, drop, drop-of-length-le}
 use lib.Seq.{drop-cons}
-use lib.Dec.{leb, eqb}
-use borrow.Author.Tests.{lt-leb, le-leb, eq-eqb, ne-eqb}
+use lib.Dec.{leb, ltb, eqb}
+use borrow.Author.Tests.{lt-leb, le-leb, eq-eqb, ne-eqb, ltb-true, ltb-false}
 use Rattle.basis.specs.Lists.{all}
+use Rattle.basis.specs.Members.{split}
 use Rattle.basis.specs.Guard.{guard, guard-no, guard-yes}
 use Rattle.records.specs.declared.First.{First}
 use Rattle.records.specs.declared.First.the-variants as F
@@ -82,6 +83,72 @@ module _ (s : List ℕ) where
   pub zero-end : (k : ℕ) → ZeroLeft s k → length s ≤ k → true ≡ allZero s
   unfolding ZeroLeft
   zero-end k inv h = all-end (eqb 0) s k (allZero s) h inv
+
+-- ---- eight bytes at a time
+
+-- the eight bytes from k on as one number, the lowest first
+unfoldable pub eightAt : List ℕ → ℕ → ℕ
+eightAt s k =
+    getD s k 0
+    + 256 * getD s (k + 1) 0
+    + 65536 * getD s (k + 2) 0
+    + 16777216 * getD s (k + 3) 0
+    + 4294967296 * getD s (k + 4) 0
+    + 1099511627776 * getD s (k + 5) 0
+    + 281474976710656 * getD s (k + 6) 0
+    + 72057594037927936 * getD s (k + 7) 0
+
+module _ (s : List ℕ) where
+  -- a byte that is 0 leaves the rest to say it
+  zero-on : (k m : ℕ) → m ≡ k + 1 → ZeroLeft s k → k < length s → getD s k 0 ≤ 0 → ZeroLeft s m
+  zero-on k m e inv h l = rw e (zero-next s k (getD s k 0) inv h l refl)
+
+  -- a byte is 0, or says it by itself
+  zero-or : (k m : ℕ) → m ≡ k + 1 → ZeroLeft s k → k < length s → (getD s k 0 ≤ 0 → ZeroLeft s m → false ≡ allZero s) → false ≡ allZero s
+  zero-or k m e inv h go =
+      split (ltb 0 (getD s k 0))
+      (λ q. zero-stop s k (getD s k 0) inv h (ltb-true _ _ q) refl)
+      (λ q. go (ltb-false _ _ q) (zero-on k m e inv h (ltb-false _ _ q)))
+
+  pub eight-next : (k w : ℕ) → ZeroLeft s k → k ≤ length s → 8 ≤ length s - k → w ≤ 0 → w ≡ eightAt s k → ZeroLeft s (k + 8)
+  unfolding eightAt
+  eight-next k w inv d h l e =
+      let i1 : ZeroLeft s (k + 1) = zero-on k (k + 1) refl inv (omega arith) (omega arith) in
+      let i2 : ZeroLeft s (k + 2) = zero-on (k + 1) (k + 2) (omega arith) i1 (omega arith) (omega arith) in
+      let i3 : ZeroLeft s (k + 3) = zero-on (k + 2) (k + 3) (omega arith) i2 (omega arith) (omega arith) in
+      let i4 : ZeroLeft s (k + 4) = zero-on (k + 3) (k + 4) (omega arith) i3 (omega arith) (omega arith) in
+      let i5 : ZeroLeft s (k + 5) = zero-on (k + 4) (k + 5) (omega arith) i4 (omega arith) (omega arith) in
+      let i6 : ZeroLeft s (k + 6) = zero-on (k + 5) (k + 6) (omega arith) i5 (omega arith) (omega arith) in
+      let i7 : ZeroLeft s (k + 7) = zero-on (k + 6) (k + 7) (omega arith) i6 (omega arith) (omega arith) in
+      zero-on (k + 7) (k + 8) (omega arith) i7 (omega arith) (omega arith)
+
+  pub eight-stop : (k w : ℕ) → ZeroLeft s k → k ≤ length s → 8 ≤ length s - k → 0 < w → w ≡ eightAt s k → false ≡ allZero s
+  unfolding eightAt
+  eight-stop k w inv d h l e =
+      zero-or k (k + 1) (omega arith) inv (omega arith) (λ z0 i1.
+      zero-or (k + 1) (k + 2) (omega arith) i1 (omega arith) (λ z1 i2.
+      zero-or (k + 2) (k + 3) (omega arith) i2 (omega arith) (λ z2 i3.
+      zero-or (k + 3) (k + 4) (omega arith) i3 (omega arith) (λ z3 i4.
+      zero-or (k + 4) (k + 5) (omega arith) i4 (omega arith) (λ z4 i5.
+      zero-or (k + 5) (k + 6) (omega arith) i5 (omega arith) (λ z5 i6.
+      zero-or (k + 6) (k + 7) (omega arith) i6 (omega arith) (λ z6 i7.
+      zero-stop s (k + 7) (getD s (k + 7) 0) i7 (omega arith) (omega arith) refl)))))))
+
+  -- the 24 bytes of a text
+  module _ (h : length s ≡ 24) where
+    pub first-used : (u : ℕ) → 0 < u → u ≡ eightAt s 0 → false ≡ allZero s
+    first-used u l e = eight-stop 0 u (zero-start s) (omega arith) (omega arith) l e
+
+    pub second-used : (u v : ℕ) → 0 < v → v ≡ eightAt s 8 → u ≤ 0 → u ≡ eightAt s 0 → false ≡ allZero s
+    second-used u v l e z f = eight-stop 8 v (eight-next 0 u (zero-start s) (omega arith) (omega arith) z f) (omega arith) (omega arith) l e
+
+    pub third-used : (u v w : ℕ) → w ≡ eightAt s 16 → v ≤ 0 → v ≡ eightAt s 8 → u ≤ 0 → u ≡ eightAt s 0 → ltb w 1 ≡ allZero s
+    third-used u v w e y g z f =
+        let i : ZeroLeft s 8 = eight-next 0 u (zero-start s) (omega arith) (omega arith) z f in
+        let j : ZeroLeft s 16 = eight-next 8 v i (omega arith) (omega arith) y g in
+        split (ltb w 1)
+        (λ q. q ∙ zero-end s 24 (eight-next 16 w j (omega arith) (omega arith) (let b : w < 1 = ltb-true _ _ q in omega arith) e) (omega arith))
+        (λ q. q ∙ eight-stop 16 w j (omega arith) (omega arith) (let b : 1 ≤ w = ltb-false _ _ q in omega arith) e)
 
 -- ---- byte 1 and the text
 

@@ -1,5 +1,4 @@
 // The fields of record i of a file. Each is total: past the last whole record it gives what `noRec` holds.
-use basis::byte;
 use basis::wide;
 ghost use mathlib.Core.Path.{_≡_};
 ghost use Prim.Native.Nat.{_+_, _<_, _≤_};
@@ -15,7 +14,8 @@ fn byte_in(file: &[u8], i: usize, k: usize) -> u8
     ensures { λ r. ⌜ r ≡ byteIn (now (file .entry)) i k ⌝ }
 {
     if i < file.len() / 32 {
-        byte(file, 32 * i + k)
+        let at = 32 * i + k;
+        file[at]
     } else {
         0
     }

@@ -4,10 +4,11 @@ use crate::fields::first_at;
 use crate::fields::rest_at;
 use crate::fields::text_at;
 ghost use mathlib.Core.Path.{_≡_};
-ghost use Prim.Native.Nat.{_≤_};
+ghost use Prim.Native.Nat.{_+_, _<_, _≤_};
+ghost use lib.ListN.{length};
 ghost use Rattle.records.specs.Shapes.{recordsOf};
 ghost use Rattle.records.specs.Tables.{at};
-ghost use Rattle.records.specs.Text.{allText, allZero, restZero, textPass, firstPass};
+ghost use Rattle.records.specs.Text.{allText, allZero, eightAt, restZero, textPass, firstPass};
 
 // Each byte is from 32 to 126.
 fn all_text(s: &[u8]) -> bool
@@ -27,11 +28,40 @@ fn all_text(s: &[u8]) -> bool
     true
 }
 
-// Each byte is 0.
+// A byte as a part of a 64-bit number.
+fn part(x: u8) -> u64
+    ensures { λ r. ⌜ (r ≡ x) × (r < 256) ⌝ }
+{
+    x as u64
+}
+
+// The eight bytes from `at` on as one number, the lowest byte first: the compiler makes one load of it.
+fn eight(s: &[u8], at: usize) -> u64
+    requires { ⌜ at + 8 ≤ length (now s) ⌝ }
+    ensures { λ r. ⌜ r ≡ eightAt (now (s .entry)) at ⌝ }
+{
+    part(s[at])
+        + 256 * part(s[at + 1])
+        + 65536 * part(s[at + 2])
+        + 16777216 * part(s[at + 3])
+        + 4294967296 * part(s[at + 4])
+        + 1099511627776 * part(s[at + 5])
+        + 281474976710656 * part(s[at + 6])
+        + 72057594037927936 * part(s[at + 7])
+}
+
+// Each byte is 0: eight at a time, the rest one by one.
 fn all_zero(s: &[u8]) -> bool
     ensures { λ r. ⌜ r ≡ allZero (now (s .entry)) ⌝ }
 {
     let mut k = 0;
+    while 8 <= s.len() - k {
+        let w = eight(s, k);
+        if 0 < w {
+            return false;
+        }
+        k += 8;
+    }
     while k < s.len() {
         let b = s[k];
         if 0 < b {
@@ -40,6 +70,33 @@ fn all_zero(s: &[u8]) -> bool
         k += 1;
     }
     true
+}
+
+// Each byte of a whole text is 0.
+fn none_used(s: &[u8]) -> bool
+    ensures { λ r. ⌜ r ≡ allZero (now (s .entry)) ⌝ }
+{
+    if s.len() != 24 {
+        return all_zero(s);
+    }
+    let u = eight(s, 0);
+    if 0 < u {
+        return false;
+    }
+    let v = eight(s, 8);
+    if 0 < v {
+        return false;
+    }
+    let w = eight(s, 16);
+    w < 1
+}
+
+// No byte of the text is used.
+fn blank(file: &[u8], i: usize) -> bool
+    ensures { λ r. ⌜ r ≡ restZero (at (recordsOf (now (file .entry))) i) 0 ⌝ }
+{
+    let s = rest_at(file, i, 0);
+    none_used(s)
 }
 
 // No byte of the text is used from byte b on.
@@ -79,13 +136,13 @@ pub fn first_good(file: &[u8], i: usize, f: First) -> bool
             if 1 < first_at(file, i) {
                 return false;
             }
-            rest_zero(file, i, 0)
+            blank(file, i)
         }
         First::Unused => {
             if first_at(file, i) != 0 {
                 return false;
             }
-            rest_zero(file, i, 0)
+            blank(file, i)
         }
     }
 }

@@ -7,5 +7,5 @@ pub byte-in-spec : {M : Type 1} → statement M
 byte-in-spec =
     tie.close
     (tie.spec
-    (λ c. search needs) (λ c. search needs) (λ c κs. search needs)
+    (λ c. search needs) (λ c. search needs) (λ c. search needs)
     (λ c. search (needs, byte-in)) (λ c. search byte-past))
