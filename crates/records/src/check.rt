@@ -1,5 +1,4 @@
 // One record against the counts and marks of those before it: in the order 2, 3, 6, 4, 5 (document 01, "Refusal numbers").
-use crate::Allowed;
 use crate::Counts;
 use crate::Found;
 use crate::Shape;
@@ -14,6 +13,9 @@ use crate::kinds::has_room;
 use crate::kinds::is_before;
 use crate::kinds::is_next;
 use crate::kinds::shape_of;
+use crate::origins::allowed;
+use crate::origins::named_good;
+use crate::origins::named_zero;
 use crate::text::first_good;
 use basis::get16;
 use basis::wide16;
@@ -21,20 +23,7 @@ ghost use mathlib.Core.Path.{_≡_};
 ghost use Prim.Native.Nat.{_<_};
 ghost use Rattle.records.specs.Shapes.{recordsOf};
 ghost use Rattle.records.specs.Tables.{at};
-ghost use Rattle.records.specs.Pass.{fieldPass, namedZero, shapePass, namedPass, freePass, numberPass, numbersPass, allowsPass, markOrigin, originPass, originsPass, admitPass, checkPass};
-
-// "c is 0 for 0, 3, 4, 5", b being the origin.
-fn named_zero(b: u16, x: u16) -> bool
-    ensures { λ r. ⌜ r ≡ namedZero b x ⌝ }
-{
-    if b == 1 {
-        return true;
-    }
-    if b == 2 {
-        return true;
-    }
-    x == 0
-}
+ghost use Rattle.records.specs.Pass.{fieldPass, shapePass, freePass, numberPass, numbersPass, markOrigin, originPass, originsPass, admitPass, checkPass};
 
 // A field by itself: "Unused fields are 0", origins are 0 to 5.
 fn field_good(file: &[u8], i: usize, s: Slot, x: u16) -> bool
@@ -75,19 +64,6 @@ fn shape_good(file: &[u8], i: usize, s: Shape) -> bool
     let sc = s.c;
     let c = c_at(file, i);
     field_good(file, i, sc, c)
-}
-
-// What a variable of origin b names.
-fn named_good(c: Counts, b: u16, x: u16) -> bool
-    ensures { λ r. ⌜ r ≡ namedPass c b x ⌝ }
-{
-    if b == 1 {
-        return is_before(Table::Solvables, c, x);
-    }
-    if b == 2 {
-        return is_before(Table::Names, c, x);
-    }
-    true
 }
 
 // A variable that no record 8 names yet.
@@ -134,25 +110,6 @@ fn numbers_good(file: &[u8], i: usize, c: Counts, m: &[u16], s: Shape) -> bool
     let sc = s.c;
     let x = c_at(file, i);
     number_good(c, m, t, sc, b, x)
-}
-
-// "Origins allowed"
-fn allowed(o: Allowed, v: u16) -> bool
-    ensures { λ r. ⌜ r ≡ allowsPass o v ⌝ }
-{
-    match o {
-        Allowed::Solvable => v == 1,
-        Allowed::SolvableOrRoot => v <= 1,
-        Allowed::Requirer => {
-            if v <= 1 {
-                return true;
-            }
-            v == 3
-        }
-        Allowed::ForbidMultiple => v == 2,
-        Allowed::Auxiliary => v == 4,
-        Allowed::Any => true,
-    }
 }
 
 // The origin in a variable's mark.

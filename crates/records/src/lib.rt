@@ -4,7 +4,9 @@
 
 pub mod check;
 pub mod fields;
+mod fits;
 pub mod kinds;
+mod origins;
 pub mod pass;
 mod text;
 

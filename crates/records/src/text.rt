@@ -109,7 +109,7 @@ fn rest_zero(file: &[u8], i: usize, b: u8) -> bool
 }
 
 // "Text is 1 to 24 bytes, each from 32 to 126", "zero beyond its length".
-fn text_good(file: &[u8], i: usize) -> bool
+pub fn text_good(file: &[u8], i: usize) -> bool
     ensures { λ r. ⌜ r ≡ textPass (at (recordsOf (now (file .entry))) i) ⌝ }
 {
     let b = first_at(file, i);
@@ -126,23 +126,33 @@ fn text_good(file: &[u8], i: usize) -> bool
     rest_zero(file, i, b)
 }
 
+// A flag and no text.
+pub fn flagged(file: &[u8], i: usize) -> bool
+    ensures { λ r. ⌜ r ≡ firstPass First.Flag (at (recordsOf (now (file .entry))) i) ⌝ }
+{
+    if 1 < first_at(file, i) {
+        return false;
+    }
+    blank(file, i)
+}
+
+// Neither flag nor text.
+pub fn unmarked(file: &[u8], i: usize) -> bool
+    ensures { λ r. ⌜ r ≡ firstPass First.Unused (at (recordsOf (now (file .entry))) i) ⌝ }
+{
+    if first_at(file, i) != 0 {
+        return false;
+    }
+    blank(file, i)
+}
+
 // Byte 1 and the text are what the kind asks for.
 pub fn first_good(file: &[u8], i: usize, f: First) -> bool
     ensures { λ r. ⌜ r ≡ firstPass f (at (recordsOf (now (file .entry))) i) ⌝ }
 {
     match f {
         First::Length => text_good(file, i),
-        First::Flag => {
-            if 1 < first_at(file, i) {
-                return false;
-            }
-            blank(file, i)
-        }
-        First::Unused => {
-            if first_at(file, i) != 0 {
-                return false;
-            }
-            blank(file, i)
-        }
+        First::Flag => flagged(file, i),
+        First::Unused => unmarked(file, i),
     }
 }

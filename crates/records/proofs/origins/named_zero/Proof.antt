@@ -1,7 +1,7 @@
 use borrow.Author.Needs.{needs}
 use Rattle.records.specs.Pass.{zero-solvable, zero-name, zero-other}
-use Rattle.records.proofs.check.named_zero.Statement.{statement}
-use Rattle.records.proofs.check.named_zero.Tie as tie
+use Rattle.records.proofs.origins.named_zero.Statement.{statement}
+use Rattle.records.proofs.origins.named_zero.Tie as tie
 
 pub named-zero-spec : {M : Type 1} → statement M
 named-zero-spec =

@@ -1,7 +1,7 @@
 use borrow.Author.Needs.{needs}
 use Rattle.records.specs.Pass.{allows-at, allows-low, allows-gate}
-use Rattle.records.proofs.check.allowed.Statement.{statement}
-use Rattle.records.proofs.check.allowed.Tie as tie
+use Rattle.records.proofs.origins.allowed.Statement.{statement}
+use Rattle.records.proofs.origins.allowed.Tie as tie
 
 pub allowed-spec : {M : Type 1} → statement M
 allowed-spec =

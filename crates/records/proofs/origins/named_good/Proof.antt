@@ -1,7 +1,7 @@
 use borrow.Author.Needs.{needs}
 use Rattle.records.specs.Pass.{named-solvable, named-name, named-none}
-use Rattle.records.proofs.check.named_good.Statement.{statement}
-use Rattle.records.proofs.check.named_good.Tie as tie
+use Rattle.records.proofs.origins.named_good.Statement.{statement}
+use Rattle.records.proofs.origins.named_good.Tie as tie
 
 pub named-good-spec : {M : Type 1} → statement M
 named-good-spec =

@@ -1,0 +1,14 @@
+use borrow.Author.Needs.{needs}
+use Rattle.basis.specs.Guard.{guards}
+use Rattle.records.specs.Fits.{candidateFits}
+use Rattle.records.proofs.fits.candidate.Statement.{statement}
+use Rattle.records.proofs.fits.candidate.Tie as tie
+
+pub candidate-spec : {M : Type 1} → statement M
+unfolding candidateFits
+candidate-spec =
+    tie.close
+    (tie.spec
+    (λ c. search (needs, guards) depth 12) (λ c κs. search needs) (λ c. search (needs, guards) depth 12)
+    (λ c κs. search needs) (λ c. search (needs, guards) depth 12) (λ c κs. search needs)
+    (λ c. search (needs, guards) depth 12) (λ c κs. search needs) (λ c. search (needs, guards) depth 12))

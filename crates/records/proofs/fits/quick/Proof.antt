@@ -1,0 +1,16 @@
+use borrow.Author.Needs.{needs}
+use Rattle.records.specs.Fits.{sure-name, sure-solvable, sure-set, sure-requirement, sure-candidate, sure-reason, sure-variable, sure-excluded, sure-requires, sure-none}
+use Rattle.records.proofs.fits.quick.Statement.{statement}
+use Rattle.records.proofs.fits.quick.Tie as tie
+
+pub quick-spec : {M : Type 1} → statement M
+quick-spec =
+    tie.close
+    (tie.spec
+    (λ c κs. search needs) (λ c κs. search needs) (λ c κs. search needs) (λ c κs. search needs)
+    (λ c κs. search needs) (λ c κs. search needs) (λ c κs. search needs) (λ c κs. search needs)
+    (λ c κs. search needs) (λ c κs. search needs) (λ c κs. search needs) (λ c κs. search needs)
+    (λ c κs. search needs) (λ c κs. search needs) (λ c κs. search needs) (λ c κs. search needs)
+    (λ c κs. search needs) (λ c κs. search needs) (λ c κs. search needs) (λ c. search sure-name)
+    (λ c. search sure-solvable) (λ c. search sure-set) (λ c. search sure-requirement) (λ c. search sure-candidate) (λ c. search sure-reason)
+    (λ c. search sure-variable) (λ c. search sure-excluded) (λ c. search sure-requires) (λ c. search sure-none))

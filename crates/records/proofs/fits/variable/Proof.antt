@@ -1,0 +1,18 @@
+use borrow.Author.Needs.{needs}
+use Rattle.basis.specs.Guard.{guards}
+use Rattle.records.specs.Fits.{variableFits}
+use Rattle.records.proofs.fits.variable.Statement.{statement}
+use Rattle.records.proofs.fits.variable.Tie as tie
+
+pub variable-spec : {M : Type 1} → statement M
+unfolding variableFits
+variable-spec =
+    tie.close
+    (tie.spec
+    (λ c. search (needs, guards) depth 12)
+    (λ c κs. search needs)
+    (λ c. search (needs, guards) depth 12)
+    (λ c κs. search needs)
+    (λ c. search (needs, guards) depth 12)
+    (λ c κs. search needs)
+    (λ c. search (needs, guards) depth 12))

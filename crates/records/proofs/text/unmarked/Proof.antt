@@ -1,0 +1,15 @@
+use borrow.Author.Needs.{needs}
+use Rattle.basis.specs.Guard.{guards}
+use Rattle.records.specs.Text.{firstPass}
+use Rattle.records.proofs.text.unmarked.Statement.{statement}
+use Rattle.records.proofs.text.unmarked.Tie as tie
+
+pub unmarked-spec : {M : Type 1} → statement M
+unfolding firstPass
+unmarked-spec =
+    tie.close
+    (tie.spec
+    (λ c κs. search needs)
+    (λ c. search (needs, guards) depth 12)
+    (λ c κs. search needs)
+    (λ c. search (needs, guards) depth 12))

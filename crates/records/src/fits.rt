@@ -1,0 +1,240 @@
+// A good record by the arm of its kind: all that is asked of it at once, on plain numbers. Where an arm says no, `check` says why.
+use crate::Allowed;
+use crate::Counts;
+use crate::Step;
+use crate::Table;
+use crate::check::check_record;
+use crate::check::mark_origin;
+use crate::fields::a_at;
+use crate::fields::b_at;
+use crate::fields::c_at;
+use crate::fields::kind_at;
+use crate::origins::allowed;
+use crate::origins::named_good;
+use crate::origins::named_zero;
+use crate::text::flagged;
+use crate::text::text_good;
+use crate::text::unmarked;
+use basis::wide16;
+ghost use mathlib.Core.Path.{_≡_};
+ghost use Prim.Native.Nat.{_<_};
+ghost use Rattle.records.specs.Shapes.{recordsOf};
+ghost use Rattle.records.specs.Tables.{at};
+ghost use Rattle.records.specs.Pass.{checkPass};
+ghost use Rattle.records.specs.Fits.{textedFits, namedFits, candidateFits, standsFits, variableFits, originFits, refersFits, saidBy, Sure};
+
+// Fields a and b as indices.
+fn wide_a(file: &[u8], i: usize) -> usize
+    ensures { λ r. ⌜ (r ≡ at (recordsOf (now (file .entry))) i .a) × (r < 65536) ⌝ }
+{
+    wide16(a_at(file, i))
+}
+
+fn wide_b(file: &[u8], i: usize) -> usize
+    ensures { λ r. ⌜ (r ≡ at (recordsOf (now (file .entry))) i .b) × (r < 65536) ⌝ }
+{
+    wide16(b_at(file, i))
+}
+
+// Number n of a table that holds l, with a text.
+fn texted(file: &[u8], i: usize, n: usize, l: usize) -> bool
+    ensures { λ r. ⌜ r ≡ textedFits (at (recordsOf (now (file .entry))) i) n l ⌝ }
+{
+    if l <= n {
+        return false;
+    }
+    if wide_a(file, i) != n {
+        return false;
+    }
+    if b_at(file, i) != 0 {
+        return false;
+    }
+    if c_at(file, i) != 0 {
+        return false;
+    }
+    text_good(file, i)
+}
+
+// The same with one of k names.
+fn named(file: &[u8], i: usize, n: usize, l: usize, k: usize) -> bool
+    ensures { λ r. ⌜ r ≡ namedFits (at (recordsOf (now (file .entry))) i) n l k ⌝ }
+{
+    if l <= n {
+        return false;
+    }
+    if wide_a(file, i) != n {
+        return false;
+    }
+    if k <= wide_b(file, i) {
+        return false;
+    }
+    if c_at(file, i) != 0 {
+        return false;
+    }
+    text_good(file, i)
+}
+
+// Candidate n, over k requirements and l solvables.
+fn candidate(file: &[u8], i: usize, n: usize, k: usize, l: usize) -> bool
+    ensures { λ r. ⌜ r ≡ candidateFits (at (recordsOf (now (file .entry))) i) n k l ⌝ }
+{
+    if 1024 <= n {
+        return false;
+    }
+    if k <= wide_a(file, i) {
+        return false;
+    }
+    if l <= wide_b(file, i) {
+        return false;
+    }
+    if c_at(file, i) != 0 {
+        return false;
+    }
+    unmarked(file, i)
+}
+
+// The origin of a variable, and what it names.
+fn stands(file: &[u8], i: usize, c: Counts) -> bool
+    ensures { λ r. ⌜ r ≡ standsFits c (at (recordsOf (now (file .entry))) i) ⌝ }
+{
+    let b = b_at(file, i);
+    if 5 < b {
+        return false;
+    }
+    let x = c_at(file, i);
+    if !named_zero(b, x) {
+        return false;
+    }
+    named_good(c, b, x)
+}
+
+// Variable n.
+fn variable(file: &[u8], i: usize, c: Counts, n: usize) -> bool
+    ensures { λ r. ⌜ r ≡ variableFits c (at (recordsOf (now (file .entry))) i) n ⌝ }
+{
+    if 1024 <= n {
+        return false;
+    }
+    if wide_a(file, i) != n {
+        return false;
+    }
+    if !stands(file, i, c) {
+        return false;
+    }
+    unmarked(file, i)
+}
+
+// One of v variables, of an origin that is allowed.
+fn origin_fits(m: &[u16], v: usize, o: Allowed, x: u16) -> bool
+    ensures { λ r. ⌜ r ≡ originFits (now (m .entry)) v o x ⌝ }
+{
+    if v <= wide16(x) {
+        return false;
+    }
+    let k = mark_origin(m, x);
+    allowed(o, k)
+}
+
+// Clause n of one of v variables, and of one of k requirements or reasons.
+fn refers(file: &[u8], i: usize, m: &[u16], n: usize, v: usize, k: usize, o: Allowed) -> bool
+    ensures { λ r. ⌜ r ≡ refersFits (now (m .entry)) (at (recordsOf (now (file .entry))) i) n v k o ⌝ }
+{
+    if 1024 <= n {
+        return false;
+    }
+    if k <= wide_b(file, i) {
+        return false;
+    }
+    if c_at(file, i) != 0 {
+        return false;
+    }
+    if !flagged(file, i) {
+        return false;
+    }
+    let a = a_at(file, i);
+    origin_fits(m, v, o, a)
+}
+
+// What an arm said; 0 for nothing.
+fn said(f: bool, t: Table) -> Step
+    ensures { λ r. ⌜ r ≡ saidBy f t ⌝ }
+{
+    if f {
+        return Step::Next(t);
+    }
+    Step::No(0)
+}
+
+// Record i by the arm of its kind.
+fn quick(file: &[u8], i: usize, c: Counts, m: &[u16]) -> Step
+    ensures { λ r. ⌜ Sure c (now (m .entry)) (at (recordsOf (now (file .entry))) i) r ⌝ }
+{
+    let kind = kind_at(file, i);
+    match kind {
+        1 => {
+            let n = c.names;
+            let f = texted(file, i, n, 128);
+            said(f, Table::Names)
+        }
+        2 => {
+            let n = c.solvables;
+            let k = c.names;
+            let f = named(file, i, n, 256, k);
+            said(f, Table::Solvables)
+        }
+        3 => {
+            let n = c.sets;
+            let k = c.names;
+            let f = named(file, i, n, 256, k);
+            said(f, Table::VersionSets)
+        }
+        4 => {
+            let n = c.requirements;
+            let f = texted(file, i, n, 256);
+            said(f, Table::Requirements)
+        }
+        5 => {
+            let n = c.candidates;
+            let k = c.requirements;
+            let l = c.solvables;
+            let f = candidate(file, i, n, k, l);
+            said(f, Table::Candidates)
+        }
+        6 => {
+            let n = c.reasons;
+            let f = texted(file, i, n, 64);
+            said(f, Table::Reasons)
+        }
+        7 => {
+            let n = c.variables;
+            let f = variable(file, i, c, n);
+            said(f, Table::Variables)
+        }
+        17 => {
+            let n = c.clauses;
+            let v = c.variables;
+            let k = c.reasons;
+            let f = refers(file, i, m, n, v, k, Allowed::Solvable);
+            said(f, Table::Clauses)
+        }
+        19 => {
+            let n = c.clauses;
+            let v = c.variables;
+            let k = c.requirements;
+            let f = refers(file, i, m, n, v, k, Allowed::Requirer);
+            said(f, Table::Clauses)
+        }
+        _ => Step::No(0),
+    }
+}
+
+// Record i: what `check_record` says of it.
+pub fn step(file: &[u8], i: usize, c: Counts, m: &[u16]) -> Step
+    ensures { λ r. ⌜ r ≡ checkPass c (now (m .entry)) (at (recordsOf (now (file .entry))) i) ⌝ }
+{
+    let q = quick(file, i, c, m);
+    let Step::Next(_) = q else {
+        return check_record(file, i, c, m);
+    };
+    q
+}
