@@ -19,10 +19,10 @@ use Rattle.records.specs.declared.Slot.the-variants as S
 use Rattle.records.specs.declared.Step.{Step}
 use Rattle.records.specs.declared.Step.the-variants.{Next, No}
 use Rattle.records.specs.declared.Table.{Table}
-use Rattle.records.specs.declared.Table.the-variants.{Names, Solvables, VersionSets, Requirements, Candidates, Reasons, Variables, Clauses}
+use Rattle.records.specs.declared.Table.the-variants.{Names, Solvables, VersionSets, Requirements, Candidates, Reasons, Variables, Assigned, Clauses}
 use Rattle.records.specs.Shapes.{Rec, shapeOf}
 use Rattle.records.specs.Text.{textPass, firstPass}
-use Rattle.records.specs.Pass.{foundAt, countPass, limitPass, isNext, isBefore, hasRoom, fieldPass, namedZero, shapePass, namedPass, numberPass, numbersPass, allowsPass, markOrigin, originPass, originsPass, admitPass, checkAt, checkPass}
+use Rattle.records.specs.Pass.{foundAt, countPass, limitPass, isNext, isBefore, hasRoom, fieldPass, namedZero, shapePass, namedPass, freePass, numberPass, numbersPass, allowsPass, markOrigin, originPass, originsPass, admitPass, checkAt, checkPass}
 
 -- ---- what the arms ask
 
@@ -81,6 +81,39 @@ refersFits m r n v k o =
     (guard (firstPass F.Flag r) false
     (originFits m v o (r .a)))))
 
+-- clause n that names nothing
+unfoldable pub aloneFits : Rec → ℕ → Bool
+aloneFits r n =
+    guard (ltb n 1024) false
+    (guard (eqb (r .a) 0) false
+    (guard (eqb (r .b) 0) false
+    (guard (eqb (r .c) 0) false
+    (firstPass F.Flag r))))
+
+-- two of v variables, and a flag
+unfoldable pub partiesFit : List ℕ → Rec → ℕ → Allowed → Allowed → Bool
+partiesFit m r v o p =
+    guard (originFits m v o (r .a)) false
+    (guard (originFits m v p (r .b)) false
+    (firstPass F.Flag r))
+
+-- clause n of two of v variables
+unfoldable pub pairFits : List ℕ → Rec → ℕ → ℕ → Allowed → Allowed → Bool
+pairFits m r n v o p = guard (ltb n 1024) false (guard (eqb (r .c) 0) false (partiesFit m r v o p))
+
+-- clause n of two of v variables and one of k version sets
+unfoldable pub boundedFits : List ℕ → Rec → ℕ → ℕ → ℕ → Allowed → Allowed → Bool
+boundedFits m r n v k o p = guard (ltb n 1024) false (guard (ltb (r .c) k) false (partiesFit m r v o p))
+
+-- record 8 number n, of one of k clauses
+unfoldable pub assignedFits : Counts → List ℕ → Rec → ℕ → ℕ → Bool
+assignedFits c m r n k =
+    guard (ltb n 1024) false
+    (guard (freePass c m (r .a)) false
+    (guard (ltb (r .b) k) false
+    (guard (eqb (r .c) 0) false
+    (firstPass F.Unused r))))
+
 -- what an arm said; No 0 for nothing
 unfoldable pub saidBy : Bool → Table → Step
 saidBy f t = cond f (Next t) (No 0)
@@ -99,6 +132,9 @@ named-via c b x d z t q e f = rw (e, f) at q
 
 pub origin-fits-via : (m : List ℕ) (v : ℕ) (o : Allowed) (x z : ℕ) (t : Bool) → t ≡ originFits m v o x → x ≡ z → t ≡ originFits m v o z
 origin-fits-via m v o x z t q e = rw e at q
+
+pub free-via : (c : Counts) (m : List ℕ) (x z : ℕ) (t : Bool) → t ≡ freePass c m x → x ≡ z → t ≡ freePass c m z
+free-via c m x z t q e = rw e at q
 
 pub said-yes : (f : Bool) (t : Table) → f ≡ true → Next t ≡ saidBy f t
 unfolding saidBy
@@ -139,6 +175,10 @@ module _ (c : Counts) (m : List ℕ) (t : Table) (r : Rec) (x : ℕ) where
   named-fits : namedZero (r .b) x ≡ true → namedPass c (r .b) x ≡ true → SlotFits c m t S.Named r x
   unfolding fieldPass numberPass originPass namedZero
   named-fits e q = record { field = e; number = q; origin = refl }
+
+  free-fits : freePass c m x ≡ true → SlotFits c m t S.Unassigned r x
+  unfolding fieldPass numberPass originPass
+  free-fits e = record { field = refl; number = e; origin = refl }
 
 -- ---- one record
 
@@ -213,6 +253,43 @@ module _ (c : Counts) (m : List ℕ) (r : Rec) where
       all-fit (record { table = Clauses; first = F.Flag; a = S.Variable o; b = S.Names u; c = S.Unused }) first room
       (variable-fits c m Clauses r (r .a) o before origin) (names-fits c m Clauses r (r .b) u (rw w at nb)) (unused-fits c m Clauses r (r .c) zc))))))
 
+  alone-fits : aloneFits r (c .clauses) ≡ true
+      → Next Clauses ≡ admitPass c m (record { table = Clauses; first = F.Flag; a = S.Unused; b = S.Unused; c = S.Unused }) r
+  unfolding aloneFits hasRoom countPass limitPass
+  alone-fits h =
+      both _ _ h (λ room h1. both _ _ h1 (λ za h2. both _ _ h2 (λ zb h3. both _ _ h3 (λ zc first.
+      all-fit (record { table = Clauses; first = F.Flag; a = S.Unused; b = S.Unused; c = S.Unused }) first room
+      (unused-fits c m Clauses r (r .a) za) (unused-fits c m Clauses r (r .b) zb) (unused-fits c m Clauses r (r .c) zc)))))
+
+  -- two variables, whatever c is
+  parties-fit : (o p : Allowed) (s : Slot) → hasRoom Clauses c ≡ true → SlotFits c m Clauses s r (r .c) → partiesFit m r (c .variables) o p ≡ true
+      → Next Clauses ≡ admitPass c m (record { table = Clauses; first = F.Flag; a = S.Variable o; b = S.Variable p; c = s }) r
+  unfolding partiesFit originFits countPass
+  parties-fit o p s room z h =
+      both _ _ h (λ ha h1. both _ _ h1 (λ hb first. both _ _ ha (λ va oa. both _ _ hb (λ vb ob.
+      all-fit (record { table = Clauses; first = F.Flag; a = S.Variable o; b = S.Variable p; c = s }) first room
+      (variable-fits c m Clauses r (r .a) o va oa) (variable-fits c m Clauses r (r .b) p vb ob) z))))
+
+  pair-fits : (o p : Allowed) → pairFits m r (c .clauses) (c .variables) o p ≡ true
+      → Next Clauses ≡ admitPass c m (record { table = Clauses; first = F.Flag; a = S.Variable o; b = S.Variable p; c = S.Unused }) r
+  unfolding pairFits hasRoom countPass limitPass
+  pair-fits o p h =
+      both _ _ h (λ room h1. both _ _ h1 (λ zc h2. parties-fit o p S.Unused room (unused-fits c m Clauses r (r .c) zc) h2))
+
+  bounded-fits : (o p : Allowed) → boundedFits m r (c .clauses) (c .variables) (c .sets) o p ≡ true
+      → Next Clauses ≡ admitPass c m (record { table = Clauses; first = F.Flag; a = S.Variable o; b = S.Variable p; c = S.Names VersionSets }) r
+  unfolding boundedFits hasRoom countPass limitPass
+  bounded-fits o p h =
+      both _ _ h (λ room h1. both _ _ h1 (λ set h2. parties-fit o p (S.Names VersionSets) room (names-fits c m Clauses r (r .c) VersionSets set) h2))
+
+  assigned-fits : assignedFits c m r (c .assigned) (c .clauses) ≡ true
+      → Next Assigned ≡ admitPass c m (record { table = Assigned; first = F.Unused; a = S.Unassigned; b = S.Names Clauses; c = S.Unused }) r
+  unfolding assignedFits hasRoom countPass limitPass
+  assigned-fits h =
+      both _ _ h (λ room h1. both _ _ h1 (λ free h2. both _ _ h2 (λ nb h3. both _ _ h3 (λ zc first.
+      all-fit (record { table = Assigned; first = F.Unused; a = S.Unassigned; b = S.Names Clauses; c = S.Unused }) first room
+      (free-fits c m Assigned r (r .a) free) (names-fits c m Assigned r (r .b) Clauses nb) (unused-fits c m Assigned r (r .c) zc)))))
+
   -- ---- one law a kind
 
   module _ (k : ℕ) (f : Bool) (q : Step) where
@@ -251,3 +328,39 @@ module _ (c : Counts) (m : List ℕ) (r : Rec) where
     pub sure-requires : k ≡ 19 → q ≡ saidBy f Clauses → f ≡ refersFits m r (c .clauses) (c .variables) (c .requirements) A.Requirer → k ≡ r .kind → Sure c m r q
     unfolding foundAt shapeOf countPass
     sure-requires e p h w = by-arm k 19 _ f q e w refl p (λ y. refers-fits Requirements (c .requirements) A.Requirer refl (sym h ∙ y))
+
+    pub sure-assigned : k ≡ 8 → q ≡ saidBy f Assigned → f ≡ assignedFits c m r (c .assigned) (c .clauses) → k ≡ r .kind → Sure c m r q
+    unfolding foundAt shapeOf
+    sure-assigned e p h w = by-arm k 8 _ f q e w refl p (λ y. assigned-fits (sym h ∙ y))
+
+    pub sure-root : k ≡ 16 → q ≡ saidBy f Clauses → f ≡ aloneFits r (c .clauses) → k ≡ r .kind → Sure c m r q
+    unfolding foundAt shapeOf
+    sure-root e p h w = by-arm k 16 _ f q e w refl p (λ y. alone-fits (sym h ∙ y))
+
+    pub sure-learnt : k ≡ 18 → q ≡ saidBy f Clauses → f ≡ aloneFits r (c .clauses) → k ≡ r .kind → Sure c m r q
+    unfolding foundAt shapeOf
+    sure-learnt e p h w = by-arm k 18 _ f q e w refl p (λ y. alone-fits (sym h ∙ y))
+
+    pub sure-lock : k ≡ 20 → q ≡ saidBy f Clauses → f ≡ pairFits m r (c .clauses) (c .variables) A.Solvable A.Solvable → k ≡ r .kind → Sure c m r q
+    unfolding foundAt shapeOf
+    sure-lock e p h w = by-arm k 20 _ f q e w refl p (λ y. pair-fits A.Solvable A.Solvable (sym h ∙ y))
+
+    pub sure-forbid : k ≡ 21 → q ≡ saidBy f Clauses → f ≡ pairFits m r (c .clauses) (c .variables) A.Solvable A.ForbidMultiple → k ≡ r .kind → Sure c m r q
+    unfolding foundAt shapeOf
+    sure-forbid e p h w = by-arm k 21 _ f q e w refl p (λ y. pair-fits A.Solvable A.ForbidMultiple (sym h ∙ y))
+
+    pub sure-constrains : k ≡ 22 → q ≡ saidBy f Clauses → f ≡ boundedFits m r (c .clauses) (c .variables) (c .sets) A.SolvableOrRoot A.Solvable → k ≡ r .kind → Sure c m r q
+    unfolding foundAt shapeOf
+    sure-constrains e p h w = by-arm k 22 _ f q e w refl p (λ y. bounded-fits A.SolvableOrRoot A.Solvable (sym h ∙ y))
+
+    pub sure-parent : k ≡ 23 → q ≡ saidBy f Clauses → f ≡ boundedFits m r (c .clauses) (c .variables) (c .sets) A.SolvableOrRoot A.Auxiliary → k ≡ r .kind → Sure c m r q
+    unfolding foundAt shapeOf
+    sure-parent e p h w = by-arm k 23 _ f q e w refl p (λ y. bounded-fits A.SolvableOrRoot A.Auxiliary (sym h ∙ y))
+
+    pub sure-barred : k ≡ 24 → q ≡ saidBy f Clauses → f ≡ boundedFits m r (c .clauses) (c .variables) (c .sets) A.Solvable A.Auxiliary → k ≡ r .kind → Sure c m r q
+    unfolding foundAt shapeOf
+    sure-barred e p h w = by-arm k 24 _ f q e w refl p (λ y. bounded-fits A.Solvable A.Auxiliary (sym h ∙ y))
+
+    pub sure-any : k ≡ 25 → q ≡ saidBy f Clauses → f ≡ pairFits m r (c .clauses) (c .variables) A.Any A.Any → k ≡ r .kind → Sure c m r q
+    unfolding foundAt shapeOf
+    sure-any e p h w = by-arm k 25 _ f q e w refl p (λ y. pair-fits A.Any A.Any (sym h ∙ y))

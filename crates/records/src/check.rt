@@ -14,6 +14,7 @@ use crate::kinds::is_before;
 use crate::kinds::is_next;
 use crate::kinds::shape_of;
 use crate::origins::allowed;
+use crate::origins::is_free;
 use crate::origins::named_good;
 use crate::origins::named_zero;
 use crate::text::first_good;
@@ -23,7 +24,7 @@ ghost use mathlib.Core.Path.{_≡_};
 ghost use Prim.Native.Nat.{_<_};
 ghost use Rattle.records.specs.Shapes.{recordsOf};
 ghost use Rattle.records.specs.Tables.{at};
-ghost use Rattle.records.specs.Pass.{fieldPass, shapePass, freePass, numberPass, numbersPass, markOrigin, originPass, originsPass, admitPass, checkPass};
+ghost use Rattle.records.specs.Pass.{fieldPass, shapePass, numberPass, numbersPass, markOrigin, originPass, originsPass, admitPass, checkPass};
 
 // A field by itself: "Unused fields are 0", origins are 0 to 5.
 fn field_good(file: &[u8], i: usize, s: Slot, x: u16) -> bool
@@ -64,17 +65,6 @@ fn shape_good(file: &[u8], i: usize, s: Shape) -> bool
     let sc = s.c;
     let c = c_at(file, i);
     field_good(file, i, sc, c)
-}
-
-// A variable that no record 8 names yet.
-fn is_free(c: Counts, m: &[u16], x: u16) -> bool
-    ensures { λ r. ⌜ r ≡ freePass c (now (m .entry)) x ⌝ }
-{
-    if !is_before(Table::Variables, c, x) {
-        return false;
-    }
-    let v = wide16(x);
-    get16(m, v) < 8
 }
 
 // A field of a record of table t against the numbers given so far; b is the record's field b.

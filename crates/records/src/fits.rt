@@ -10,6 +10,7 @@ use crate::fields::b_at;
 use crate::fields::c_at;
 use crate::fields::kind_at;
 use crate::origins::allowed;
+use crate::origins::is_free;
 use crate::origins::named_good;
 use crate::origins::named_zero;
 use crate::text::flagged;
@@ -21,9 +22,9 @@ ghost use Prim.Native.Nat.{_<_};
 ghost use Rattle.records.specs.Shapes.{recordsOf};
 ghost use Rattle.records.specs.Tables.{at};
 ghost use Rattle.records.specs.Pass.{checkPass};
-ghost use Rattle.records.specs.Fits.{textedFits, namedFits, candidateFits, standsFits, variableFits, originFits, refersFits, saidBy, Sure};
+ghost use Rattle.records.specs.Fits.{textedFits, namedFits, candidateFits, standsFits, variableFits, originFits, refersFits, aloneFits, partiesFit, pairFits, boundedFits, assignedFits, saidBy, Sure};
 
-// Fields a and b as indices.
+// Fields a, b and c as indices.
 fn wide_a(file: &[u8], i: usize) -> usize
     ensures { λ r. ⌜ (r ≡ at (recordsOf (now (file .entry))) i .a) × (r < 65536) ⌝ }
 {
@@ -34,6 +35,12 @@ fn wide_b(file: &[u8], i: usize) -> usize
     ensures { λ r. ⌜ (r ≡ at (recordsOf (now (file .entry))) i .b) × (r < 65536) ⌝ }
 {
     wide16(b_at(file, i))
+}
+
+fn wide_c(file: &[u8], i: usize) -> usize
+    ensures { λ r. ⌜ (r ≡ at (recordsOf (now (file .entry))) i .c) × (r < 65536) ⌝ }
+{
+    wide16(c_at(file, i))
 }
 
 // Number n of a table that holds l, with a text.
@@ -155,6 +162,95 @@ fn refers(file: &[u8], i: usize, m: &[u16], n: usize, v: usize, k: usize, o: All
     origin_fits(m, v, o, a)
 }
 
+// Clause n that names nothing.
+fn alone(file: &[u8], i: usize, n: usize) -> bool
+    ensures { λ r. ⌜ r ≡ aloneFits (at (recordsOf (now (file .entry))) i) n ⌝ }
+{
+    if 1024 <= n {
+        return false;
+    }
+    if a_at(file, i) != 0 {
+        return false;
+    }
+    if b_at(file, i) != 0 {
+        return false;
+    }
+    if c_at(file, i) != 0 {
+        return false;
+    }
+    flagged(file, i)
+}
+
+// Two of v variables, and a flag.
+fn parties(file: &[u8], i: usize, m: &[u16], v: usize, o: Allowed, p: Allowed) -> bool
+    ensures { λ r. ⌜ r ≡ partiesFit (now (m .entry)) (at (recordsOf (now (file .entry))) i) v o p ⌝ }
+{
+    let a = a_at(file, i);
+    if !origin_fits(m, v, o, a) {
+        return false;
+    }
+    let b = b_at(file, i);
+    if !origin_fits(m, v, p, b) {
+        return false;
+    }
+    flagged(file, i)
+}
+
+// Clause n of two of v variables.
+fn pair(file: &[u8], i: usize, m: &[u16], n: usize, v: usize, o: Allowed, p: Allowed) -> bool
+    ensures { λ r. ⌜ r ≡ pairFits (now (m .entry)) (at (recordsOf (now (file .entry))) i) n v o p ⌝ }
+{
+    if 1024 <= n {
+        return false;
+    }
+    if c_at(file, i) != 0 {
+        return false;
+    }
+    parties(file, i, m, v, o, p)
+}
+
+// Clause n of two of v variables and one of k version sets.
+fn bounded(
+    file: &[u8],
+    i: usize,
+    m: &[u16],
+    n: usize,
+    v: usize,
+    k: usize,
+    o: Allowed,
+    p: Allowed,
+) -> bool
+    ensures { λ r. ⌜ r ≡ boundedFits (now (m .entry)) (at (recordsOf (now (file .entry))) i) n v k o p ⌝ }
+{
+    if 1024 <= n {
+        return false;
+    }
+    if k <= wide_c(file, i) {
+        return false;
+    }
+    parties(file, i, m, v, o, p)
+}
+
+// Record 8 number n, of one of k clauses.
+fn assigned(file: &[u8], i: usize, c: Counts, m: &[u16], n: usize, k: usize) -> bool
+    ensures { λ r. ⌜ r ≡ assignedFits c (now (m .entry)) (at (recordsOf (now (file .entry))) i) n k ⌝ }
+{
+    if 1024 <= n {
+        return false;
+    }
+    let a = a_at(file, i);
+    if !is_free(c, m, a) {
+        return false;
+    }
+    if k <= wide_b(file, i) {
+        return false;
+    }
+    if c_at(file, i) != 0 {
+        return false;
+    }
+    unmarked(file, i)
+}
+
 // What an arm said; 0 for nothing.
 fn said(f: bool, t: Table) -> Step
     ensures { λ r. ⌜ r ≡ saidBy f t ⌝ }
@@ -210,6 +306,17 @@ fn quick(file: &[u8], i: usize, c: Counts, m: &[u16]) -> Step
             let f = variable(file, i, c, n);
             said(f, Table::Variables)
         }
+        8 => {
+            let n = c.assigned;
+            let k = c.clauses;
+            let f = assigned(file, i, c, m, n, k);
+            said(f, Table::Assigned)
+        }
+        16 => {
+            let n = c.clauses;
+            let f = alone(file, i, n);
+            said(f, Table::Clauses)
+        }
         17 => {
             let n = c.clauses;
             let v = c.variables;
@@ -217,11 +324,73 @@ fn quick(file: &[u8], i: usize, c: Counts, m: &[u16]) -> Step
             let f = refers(file, i, m, n, v, k, Allowed::Solvable);
             said(f, Table::Clauses)
         }
+        18 => {
+            let n = c.clauses;
+            let f = alone(file, i, n);
+            said(f, Table::Clauses)
+        }
         19 => {
             let n = c.clauses;
             let v = c.variables;
             let k = c.requirements;
             let f = refers(file, i, m, n, v, k, Allowed::Requirer);
+            said(f, Table::Clauses)
+        }
+        20 => {
+            let n = c.clauses;
+            let v = c.variables;
+            let f = pair(file, i, m, n, v, Allowed::Solvable, Allowed::Solvable);
+            said(f, Table::Clauses)
+        }
+        21 => {
+            let n = c.clauses;
+            let v = c.variables;
+            let f = pair(file, i, m, n, v, Allowed::Solvable, Allowed::ForbidMultiple);
+            said(f, Table::Clauses)
+        }
+        22 => {
+            let n = c.clauses;
+            let v = c.variables;
+            let k = c.sets;
+            let f = bounded(
+                file,
+                i,
+                m,
+                n,
+                v,
+                k,
+                Allowed::SolvableOrRoot,
+                Allowed::Solvable,
+            );
+            said(f, Table::Clauses)
+        }
+        23 => {
+            let n = c.clauses;
+            let v = c.variables;
+            let k = c.sets;
+            let f = bounded(
+                file,
+                i,
+                m,
+                n,
+                v,
+                k,
+                Allowed::SolvableOrRoot,
+                Allowed::Auxiliary,
+            );
+            said(f, Table::Clauses)
+        }
+        24 => {
+            let n = c.clauses;
+            let v = c.variables;
+            let k = c.sets;
+            let f = bounded(file, i, m, n, v, k, Allowed::Solvable, Allowed::Auxiliary);
+            said(f, Table::Clauses)
+        }
+        25 => {
+            let n = c.clauses;
+            let v = c.variables;
+            let f = pair(file, i, m, n, v, Allowed::Any, Allowed::Any);
             said(f, Table::Clauses)
         }
         _ => Step::No(0),

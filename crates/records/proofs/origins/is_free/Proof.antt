@@ -1,8 +1,8 @@
 use borrow.Author.Needs.{needs}
 use Rattle.basis.specs.Guard.{guards}
 use Rattle.records.specs.Pass.{freePass, free-is}
-use Rattle.records.proofs.check.is_free.Statement.{statement}
-use Rattle.records.proofs.check.is_free.Tie as tie
+use Rattle.records.proofs.origins.is_free.Statement.{statement}
+use Rattle.records.proofs.origins.is_free.Tie as tie
 
 pub is-free-spec : {M : Type 1} → statement M
 unfolding freePass

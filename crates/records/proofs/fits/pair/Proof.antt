@@ -1,0 +1,16 @@
+use borrow.Author.Needs.{needs}
+use Rattle.basis.specs.Guard.{guards}
+use Rattle.records.specs.Fits.{pairFits}
+use Rattle.records.proofs.fits.pair.Statement.{statement}
+use Rattle.records.proofs.fits.pair.Tie as tie
+
+pub pair-spec : {M : Type 1} → statement M
+unfolding pairFits
+pair-spec =
+    tie.close
+    (tie.spec
+    (λ c. search (needs, guards) depth 12)
+    (λ c κs. search needs)
+    (λ c. search (needs, guards) depth 12)
+    (λ c κs. search needs)
+    (λ c. search (needs, guards) depth 12))
