@@ -41,6 +41,10 @@ missAt ms t = ltb 1 (getD ms t 0)
 unfoldable pub nodeMark : Graph → List ℕ → ℕ → ℕ
 nodeMark G ms n = bitsOf (canInstall G (instAt ms) n || instAt ms n) (isLacking G (missAt ms) n || missAt ms n)
 
+-- node n's mark by the rules alone, whatever mark it has (document 02, order 10)
+unfoldable pub anew : Graph → List ℕ → ℕ → ℕ
+anew G ms n = bitsOf (canInstall G (instAt ms) n) (isLacking G (missAt ms) n)
+
 unfoldable pub marksAlong : Graph → List ℕ → List ℕ → List ℕ
 unfolding nodeMark
 marksAlong G [] ms = ms

@@ -25,7 +25,7 @@ use Rattle.labels.specs.declared.passes.Verdict.{Verdict}
 use Rattle.labels.specs.Runs.{runsOf, everyRun, someRun}
 use Rattle.labels.specs.Labels.{orderOf, conflicts, excludes, canInstall, isLacking, hasUnresolved}
 use Rattle.labels.specs.Scan.{scanStart, scanEnd, stepOf, refused, verdict, verdict-is}
-use Rattle.labels.specs.Marks.{bitsOf, instAt, missAt, nodeMark, marksAlong, marksOf, marks-end}
+use Rattle.labels.specs.Marks.{bitsOf, instAt, missAt, nodeMark, anew, marksAlong, marksOf, marks-end}
 use Rattle.labels.specs.Frames.{Listed}
 use Rattle.labels.specs.Bounds.{sound, order-below}
 
@@ -156,6 +156,15 @@ mark-via g s ls ms n v c i m a b r qv qc qi qm qa qb qr =
     let z : v ≡ record { every = not (any conflicts (out (graphIn g s) n)) && everyRun (instAt ms) (runsOf (out (graphIn g s) n)); some = not (any conflicts (out (graphIn g s) n)) && someRun (missAt ms) (runsOf (out (graphIn g s) n)) } =
     qv ∙ verdict-is (instAt ms) (missAt ms) (out (graphIn g s) n) in
     qr ∙ rw (qa, qb, qc, qi, qm, z)
+
+-- the mark by the rules alone, from the verdict on the outgoing edges
+pub again-via : (g : List ℕ) (s : Size) (ls ms : List ℕ) (n : ℕ) (v : Verdict) (c : Bool) (r : ℕ) → v ≡ verdictOf (graphIn g s) ms n → c ≡ installing g s ls n (v .every) → r ≡ bitsOf c (v .some)
+    → r ≡ anew (graphIn g s) ms n
+unfolding verdictOf installing anew canInstall isLacking
+again-via g s ls ms n v c r qv qc qr =
+    let z : v ≡ record { every = not (any conflicts (out (graphIn g s) n)) && everyRun (instAt ms) (runsOf (out (graphIn g s) n)); some = not (any conflicts (out (graphIn g s) n)) && someRun (missAt ms) (runsOf (out (graphIn g s) n)) } =
+    qv ∙ verdict-is (instAt ms) (missAt ms) (out (graphIn g s) n) in
+    qr ∙ rw (qc, z)
 
 -- ---- along the order
 

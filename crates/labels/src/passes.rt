@@ -10,7 +10,7 @@ ghost use Rattle.store.specs.Table.{graphIn, edgeIn, nodeIn, Stored};
 ghost use Rattle.links.specs.Build.{Chains};
 ghost use Rattle.labels.specs.Labels.{orderOf, excludes, hasUnresolved};
 ghost use Rattle.labels.specs.Scan.{stepOf};
-ghost use Rattle.labels.specs.Marks.{bitsOf, instAt, missAt, nodeMark, marksAlong};
+ghost use Rattle.labels.specs.Marks.{bitsOf, instAt, missAt, nodeMark, anew, marksAlong};
 ghost use Rattle.labels.specs.Frames.{Listed};
 ghost use Rattle.labels.specs.Passes.{verdictOf, installing};
 use store::ConflictNode;
@@ -185,6 +185,17 @@ fn node_mark(g: &[u64; 1152], s: Size, ls: &[u16; 3456], marks: &[u16; 128], n: 
     let i = inst_at(marks, n);
     let m = miss_at(marks, n);
     bits(either(c, i), either(v.some, m))
+}
+
+// Node n's mark by the rules alone, whatever mark it has (order 10).
+pub fn mark_again(g: &[u64; 1152], s: Size, ls: &[u16; 3456], marks: &[u16; 128], n: usize) -> u16
+    requires { ⌜ Chains (now g) s (now ls) ⌝ }
+    requires { ⌜ n < s .nodes ⌝ }
+    ensures { λ r. ⌜ r ≡ anew (graphIn (now (g .entry)) s) (now (marks .entry)) n ⌝ }
+{
+    let v = scan_out(g, s, ls, marks, n);
+    let c = can_install(g, s, ls, n, v.every);
+    bits(c, v.some)
 }
 
 // Before the pass: the unresolved node is missing, where there is one.

@@ -22,7 +22,7 @@ use Rattle.store.specs.Direct.{entryAt, Direct, entered, more, withNodes
 use Rattle.store.specs.Laws.Direct.{edge-same, under-low, under-entry, under-edge, entered-length, entered-node, entered-nodes, entered-edges, entered-low, entered-own, entered-other, direct-same}
 use Rattle.store.specs.Graph.{Graph, Added, added, full, sameNode, startGraph, withNode, withEdge, addNode, addEdge, addLink}
 use Rattle.store.specs.Words.{wordOf, nodeOf, firstOf, edgeWord, edgeOf, nodeNumber, EdgeWord, NodeWord, node-back, node-low, first-back, low-back, low-word, same-word}
-use Rattle.store.specs.Table.{nodeWords, graphIn, Growing, addedIn, sizeOf, placeOf, taken-growing, nodes-count, edges-count}
+use Rattle.store.specs.Table.{nodeWords, graphIn, Stored, Growing, addedIn, sizeOf, placeOf, taken-growing, nodes-count, edges-count}
 
 -- ---- finding a word among the nodes' words
 
@@ -70,16 +70,20 @@ find-end g k w i W inv l m q =
 
 pub ruleset finds = (find-start, find-hit, find-next, find-end)
 
--- a word that stands once is found where it stands
-module _ (g : List ℕ) (s : Size) (w n : ℕ) (P : Growing g s) (h : n < s .nodes) (e : getD g (1024 + n) 0 % 262144 ≡ w) where
+-- a word that stands nowhere before place n is found there
+module _ (g : List ℕ) (s : Size) (w n : ℕ) (S : Stored g s) (h : n < s .nodes) (e : getD g (1024 + n) 0 % 262144 ≡ w) (u : (i : ℕ) → i < n → getD g (1024 + i) 0 % 262144 ≡ w → ⊥) where
   near-left : (i : ℕ) → i ≤ n → findLeft g (s .nodes) w i ≡ findOf g (s .nodes) w
   near-left zero l = find-start g (s .nodes) w
   near-left (suc i) l =
-      let z : findLeft g (s .nodes) w (i + 1) ≡ findOf g (s .nodes) w = find-next g (s .nodes) w i (findOf g (s .nodes) w) (near-left i (omega arith)) (omega arith) (P .stored .nodes-most) (P .stored .long) (λ q. P .unlike i n (omega arith) h (q ∙ sym e)) in
+      let z : findLeft g (s .nodes) w (i + 1) ≡ findOf g (s .nodes) w = find-next g (s .nodes) w i (findOf g (s .nodes) w) (near-left i (omega arith)) (omega arith) (S .nodes-most) (S .long) (u i (omega arith)) in
       rw add-one at z
 
-  pub find-near : n ≡ findOf g (s .nodes) w
-  find-near = find-hit g (s .nodes) w n (findOf g (s .nodes) w) (near-left n (omega arith)) h (P .stored .nodes-most) (P .stored .long) e
+  first-near : n ≡ findOf g (s .nodes) w
+  first-near = find-hit g (s .nodes) w n (findOf g (s .nodes) w) (near-left n (omega arith)) h (S .nodes-most) (S .long) e
+
+-- a word that stands once is found where it stands
+pub find-near : (g : List ℕ) (s : Size) (w n : ℕ) → Growing g s → n < s .nodes → getD g (1024 + n) 0 % 262144 ≡ w → n ≡ findOf g (s .nodes) w
+find-near g s w n P h e = first-near g s w n (P .stored) h e (λ i l q. P .unlike i n l h (q ∙ sym e))
 
 -- a word that stands nowhere is not found
 module _ (g : List ℕ) (k w : ℕ) (m : k ≤ 128) (l : length g ≡ 1152) (none-is : (i : ℕ) → i < k → getD g (1024 + i) 0 % 262144 ≡ w → ⊥) where
@@ -92,23 +96,34 @@ module _ (g : List ℕ) (k w : ℕ) (m : k ≤ 128) (l : length g ≡ 1152) (non
   find-none : k ≡ findOf g k w
   find-none = find-end g k w k (findOf g k w) (none-left k (omega arith)) (omega arith) m l
 
--- ---- what the direct table answers; e is the entry read
+-- ---- what the direct table answers, while the graph grows and once it is settled; e is the entry read
 
-module _ (g : List ℕ) (s : Size) (w e : ℕ) (P : Growing g s) (q : e ≡ getD g (w / 2) 0 / 72057594037927936) (o : w % 2 ≡ 1) (h : w < 2048) where
-  pub direct-found : (e ≡ 0 → ⊥) → (e - 1) ≡ findOf g (s .nodes) w
-  direct-found d =
+module _ (g : List ℕ) (s : Size) (w e : ℕ) (S : Stored g s) (q : e ≡ getD g (w / 2) 0 / 72057594037927936) (o : w % 2 ≡ 1) (h : w < 2048) where
+  pub settled-found : (e ≡ 0 → ⊥) → (e - 1) ≡ findOf g (s .nodes) w
+  settled-found d =
       let a : entryAt g (w / 2) ≡ (e - 1) + 1 = sym q ∙ back e d in
-      let z : ((e - 1) < s .nodes) × (getD g (1024 + (e - 1)) 0 % 262144 ≡ 1 + 2 * (w / 2)) = P .stored .direct .stands (e - 1) (w / 2) (omega arith) a in
-      find-near g s w (e - 1) P (z .0) (z .1 ∙ omega arith)
+      let z : ((e - 1) < s .nodes) × (getD g (1024 + (e - 1)) 0 % 262144 ≡ 1 + 2 * (w / 2)) = S .direct .stands (e - 1) (w / 2) (omega arith) a in
+      first-near g s w (e - 1) S (z .0) (z .1 ∙ omega arith)
+      (λ i l y. let b : entryAt g (w / 2) ≡ i + 1 = S .direct .told i (w / 2) (omega (arith, z .0)) (omega arith) (y ∙ omega arith) in
+      let c : (e - 1) + 1 ≡ i + 1 = sym a ∙ b in omega arith)
     where
       back : (e : ℕ) → (e ≡ 0 → ⊥) → e ≡ (e - 1) + 1
       back e d = omega (arith, d)
 
-  pub direct-none : e ≡ 0 → s .nodes ≡ findOf g (s .nodes) w
-  direct-none z =
-      find-none g (s .nodes) w (P .stored .nodes-most) (P .stored .long)
-      (λ i l y. let a : entryAt g (w / 2) ≡ i + 1 = P .stored .direct .told i (w / 2) l (omega arith) (y ∙ omega arith) in
+  pub settled-none : e ≡ 0 → s .nodes ≡ findOf g (s .nodes) w
+  settled-none z =
+      find-none g (s .nodes) w (S .nodes-most) (S .long)
+      (λ i l y. let a : entryAt g (w / 2) ≡ i + 1 = S .direct .told i (w / 2) l (omega arith) (y ∙ omega arith) in
       let b : _≡_ {A = ℕ} 0 (i + 1) = sym z ∙ q ∙ a in omega arith)
+
+pub ruleset settled-directs = (settled-found, settled-none)
+
+module _ (g : List ℕ) (s : Size) (w e : ℕ) (P : Growing g s) (q : e ≡ getD g (w / 2) 0 / 72057594037927936) (o : w % 2 ≡ 1) (h : w < 2048) where
+  pub direct-found : (e ≡ 0 → ⊥) → (e - 1) ≡ findOf g (s .nodes) w
+  direct-found d = settled-found g s w e (P .stored) q o h d
+
+  pub direct-none : e ≡ 0 → s .nodes ≡ findOf g (s .nodes) w
+  direct-none z = settled-none g s w e (P .stored) q o h z
 
 -- root and unresolved
 pub direct-few : (g : List ℕ) (s : Size) (w : ℕ) → Growing g s → w ≤ 2 → (w % 2 ≡ 1 → ⊥) → w / 2 ≡ findOf g (s .nodes) w
@@ -160,16 +175,22 @@ oneNode s = record { nodes = s .nodes + 1; edges = s .edges; hand = s .hand }
 abbrev pub oneEdge : Size → Size
 oneEdge s = record { nodes = s .nodes; edges = s .edges + 1; hand = s .hand }
 
-module _ (g : List ℕ) (s : Size) (x : ConflictNode) (w : ℕ) (P : Growing g s) (e : NodeWord x w) where
+-- h is table g with one more node, of word w
+pub record OneMore (g h : List ℕ) (s : Size) (w : ℕ) : Type 0 where
+  pub stored : Stored h (oneNode s)
+  pub old : (j : ℕ) → j < s .nodes → getD h (1024 + j) 0 ≡ getD g (1024 + j) 0
+  pub new : getD h (1024 + s .nodes) 0 % 262144 ≡ w
+
+module _ (g : List ℕ) (s : Size) (x : ConflictNode) (w : ℕ) (S : Stored g s) (e : NodeWord x w) where
   wide : s .nodes ≤ length (drop 1024 g)
-  wide = rw length-drop (omega (arith, P .stored .long, P .stored .nodes-most))
+  wide = rw length-drop (omega (arith, S .long, S .nodes-most))
 
   each : (j : ℕ) → j < length (nodeWords g (s .nodes)) → wordOf (nodeOf (getD (nodeWords g (s .nodes)) j 0)) ≡ getD (nodeWords g (s .nodes)) j 0 % 262144
   each j h =
       let q : j < s .nodes = rw (length-take-le (s .nodes) (drop 1024 g) wide) at h in
-      rw (getD-take (s .nodes) (drop 1024 g) j 0 q, getD-drop 1024 g j 0) (low-word (getD g (1024 + j) 0) (P .stored .word j q))
+      rw (getD-take (s .nodes) (drop 1024 g) j 0 q, getD-drop 1024 g j 0) (low-word (getD g (1024 + j) 0) (S .word j q))
 
-  sought : place (sameNode x) (graphIn g s .nodes) 0 ≡ place (is w) (nodeWords g (s .nodes)) 0
+  pub sought : place (sameNode x) (graphIn g s .nodes) 0 ≡ place (is w) (nodeWords g (s .nodes)) 0
   unfolding graphIn
   sought = rw (e .is) (sym (place-word x (nodeWords g (s .nodes)) 0 (e .fits) each))
 
@@ -193,25 +214,6 @@ module _ (g : List ℕ) (s : Size) (x : ConflictNode) (w : ℕ) (P : Growing g s
         (λ j q. let b : j < 0 + length (nodeWords g (s .nodes)) = place-below (is w) (nodeWords g (s .nodes)) 0 j q in
         omega (arith, length-take-le (s .nodes) (drop 1024 g) wide))
 
-    -- the number of a node that is there
-    pub add-old : i < s .nodes → addedIn g (putAt s i) ≡ addNode (graphIn g s) x
-    unfolding addNode putAt graphIn
-    add-old h =
-        let z : graphIn g s ≡ graphIn g (withNodes s (s .nodes)) = refl in
-        rw (lt-leb 128 i (omega (arith, P .stored .nodes-most)), lt-ltb i (s .nodes) h, found h, addNode)
-
-    pub held-old : i < s .nodes → Growing g (sizeOf (putAt s i))
-    unfolding putAt
-    held-old h = rw (lt-leb 128 i (omega (arith, P .stored .nodes-most)), lt-ltb i (s .nodes) h) (taken-growing g s (s .hand) P)
-
-    pub below-old : i < s .nodes → placeOf (putAt s i) < sizeOf (putAt s i) .nodes
-    unfolding putAt
-    below-old h = rw (lt-leb 128 i (omega (arith, P .stored .nodes-most)), lt-ltb i (s .nodes) h) h
-
-    pub add-full : s .nodes ≤ i → 128 ≤ s .nodes → addedIn g (putAt s 128) ≡ addNode (graphIn g s) x
-    unfolding addNode putAt
-    add-full h l = rw (missed h, addNode, nodes-count g s (P .stored), le-ltb (s .nodes) 128 l)
-
     -- the word with the clause at hand, and the table with it and its entry
     abbrev v : ℕ
     v = w + 262144 * s .hand
@@ -228,19 +230,15 @@ module _ (g : List ℕ) (s : Size) (x : ConflictNode) (w : ℕ) (P : Growing g s
     v-first : s .hand < 65536 → firstOf v ≡ s .hand
     v-first b = first-back w (s .hand) (e .small) b
 
-    wider : s .nodes < 128 → s .hand < 65536 → graphIn both (oneNode s) ≡ withNode (graphIn g s) x
+    pub wider : s .nodes < 128 → s .hand < 65536 → graphIn both (oneNode s) ≡ withNode (graphIn g s) x
     unfolding graphIn
     wider l f =
-        let a : s .nodes < length (drop 1024 g) = rw length-drop (omega (arith, P .stored .long)) in
-        let b : s .edges ≤ 1024 + s .nodes = omega (arith, P .stored .edges-most) in
+        let a : s .nodes < length (drop 1024 g) = rw length-drop (omega (arith, S .long)) in
+        let b : s .edges ≤ 1024 + s .nodes = omega (arith, S .edges-most) in
         let c : nodeOf v ≡ x = v-node f in
         let d : firstOf v ≡ s .hand = v-first f in
         rw (entered-nodes one w (s .nodes + 1), entered-edges one w (s .nodes + 1) (s .edges))
         (rw (add-one (s .nodes), drop-set-add 1024 g (s .nodes) v, take-suc-set (drop 1024 g) (s .nodes) v a, map-append nodeOf, map-append firstOf, take-set-le (s .edges) g (1024 + s .nodes) v b, c, d))
-
-    put-new : s .nodes < 128 → putAt s (s .nodes) ≡ At (s .nodes) (oneNode s)
-    unfolding putAt
-    put-new l = rw (lt-leb 128 (s .nodes) l, le-ltb (s .nodes) (s .nodes) (omega arith))
 
     -- no node has the word that was not found
     fresh : s .nodes ≤ i → (j : ℕ) → j < s .nodes → getD g (1024 + j) 0 % 262144 ≡ w → ⊥
@@ -250,18 +248,18 @@ module _ (g : List ℕ) (s : Size) (x : ConflictNode) (w : ℕ) (P : Growing g s
         let y : eqb w (getD g (1024 + j) 0 % 262144) ≡ false = rw (getD-take (s .nodes) (drop 1024 g) j 0 b, getD-drop 1024 g j 0) at z in
         eqb-false w (getD g (1024 + j) 0 % 262144) y (sym q)
 
-    grow-node : s .nodes ≤ i → s .nodes < 128 → s .hand < 65536 → Growing both (oneNode s)
-    grow-node h l f =
-        record { stored = record { long = entered-length one w (s .nodes + 1) ∙ one-long; some = omega arith; nodes-most = omega arith; edges-most = P .stored .edges-most; root = old 0 (omega (arith, P .two)) ∙ P .stored .root; word = words; no-node = no-node; packed = packed; no-edge = λ k h l. under k l ∙ P .stored .no-edge k h l; source = sources; target = targets; direct = record { told = told; stands = stands } }; two = omega (arith, P .two); second = old 1 (P .two) ∙ P .second; unlike = unlike }
+    pub keep-node : s .nodes ≤ i → s .nodes < 128 → s .hand < 65536 → OneMore g both s w
+    keep-node h l f =
+        record { stored = record { long = entered-length one w (s .nodes + 1) ∙ one-long; some = omega arith; nodes-most = omega arith; edges-most = S .edges-most; root = old 0 (S .some) ∙ S .root; word = words; no-node = no-node; packed = packed; no-edge = λ k h l. under k l ∙ S .no-edge k h l; source = sources; target = targets; direct = record { told = told; stands = stands } }; old = old; new = new }
       where
         low : ℕ → ℕ
         low n = n % 262144
 
         one-long : length one ≡ 1152
-        one-long = length-set g (1024 + s .nodes) v ∙ P .stored .long
+        one-long = length-set g (1024 + s .nodes) v ∙ S .long
 
         here : getD both (1024 + s .nodes) 0 ≡ v
-        here = entered-node one w (s .nodes + 1) (s .nodes) ∙ getD-set-same g (1024 + s .nodes) v 0 (omega (arith, P .stored .long))
+        here = entered-node one w (s .nodes + 1) (s .nodes) ∙ getD-set-same g (1024 + s .nodes) v 0 (omega (arith, S .long))
 
         there : (j : ℕ) → (j ≡ s .nodes → ⊥) → getD both (1024 + j) 0 ≡ getD g (1024 + j) 0
         there j d = entered-node one w (s .nodes + 1) j ∙ getD-set-other g (1024 + s .nodes) (1024 + j) v 0 (λ q. d (omega arith))
@@ -274,7 +272,7 @@ module _ (g : List ℕ) (s : Size) (x : ConflictNode) (w : ℕ) (P : Growing g s
             split (eqb j (s .nodes))
             (λ t. rw (eqb-true j (s .nodes) t, here, v-node f, v-first f) (ap (λ (n : ℕ). n + 262144 * s .hand) (sym (e .is))))
             (λ t. let d : j ≡ s .nodes → ⊥ = eqb-false j (s .nodes) t in
-            rw (there j d) (P .stored .word j (omega (arith, d))))
+            rw (there j d) (S .word j (omega (arith, d))))
 
         apart : (k : ℕ) → k < 1024 → getD one k 0 ≡ getD g k 0
         apart k h = getD-set-other g (1024 + s .nodes) k v 0 (λ q. omega arith)
@@ -283,29 +281,22 @@ module _ (g : List ℕ) (s : Size) (x : ConflictNode) (w : ℕ) (P : Growing g s
         under k h = entered-low one w (s .nodes + 1) one-long k ∙ ap (λ (n : ℕ). n % 72057594037927936) (apart k h)
 
         edge : (k : ℕ) → k < s .edges → edgeOf (getD both k 0) ≡ edgeOf (getD g k 0)
-        edge k h = edge-same (getD both k 0) (getD g k 0) (under k (omega (arith, P .stored .edges-most)))
+        edge k h = edge-same (getD both k 0) (getD g k 0) (under k (omega (arith, S .edges-most)))
 
         no-node : (i : ℕ) → s .nodes + 1 ≤ i → i < 128 → getD both (1024 + i) 0 ≡ 0
-        no-node i h m = there i (λ q. omega arith) ∙ P .stored .no-node i (omega arith) m
+        no-node i h m = there i (λ q. omega arith) ∙ S .no-node i (omega arith) m
 
         packed : (k : ℕ) → k < s .edges → edgeWord (edgeOf (getD both k 0)) ≡ getD both k 0 % 72057594037927936
-        packed k h = ap edgeWord (edge k h) ∙ P .stored .packed k h ∙ sym (under k (omega (arith, P .stored .edges-most)))
+        packed k h = ap edgeWord (edge k h) ∙ S .packed k h ∙ sym (under k (omega (arith, S .edges-most)))
 
         sources : (k : ℕ) → k < s .edges → getD both k 0 % 256 < 128
-        sources k h = let z : getD both k 0 % 256 ≡ getD g k 0 % 256 = ap (λ (r : Edge). r .source) (edge k h) in rw z (P .stored .source k h)
+        sources k h = let z : getD both k 0 % 256 ≡ getD g k 0 % 256 = ap (λ (r : Edge). r .source) (edge k h) in rw z (S .source k h)
 
         targets : (k : ℕ) → k < s .edges → getD both k 0 / 256 % 256 < s .nodes + 1
-        targets k h = let z : getD both k 0 / 256 % 256 ≡ getD g k 0 / 256 % 256 = ap (λ (r : Edge). r .target) (edge k h) in rw z (omega (arith, P .stored .target k h))
+        targets k h = let z : getD both k 0 / 256 % 256 ≡ getD g k 0 / 256 % 256 = ap (λ (r : Edge). r .target) (edge k h) in rw z (omega (arith, S .target k h))
 
         new : getD both (1024 + s .nodes) 0 % 262144 ≡ w
         new = ap low here ∙ low-back w (s .hand) (e .small) f
-
-        unlike : (j k : ℕ) → j < k → k < s .nodes + 1 → getD both (1024 + j) 0 % 262144 ≡ getD both (1024 + k) 0 % 262144 → ⊥
-        unlike j k b c q =
-            let u : getD g (1024 + j) 0 % 262144 ≡ getD both (1024 + k) 0 % 262144 = ap low (sym (old j (omega arith))) ∙ q in
-            split (eqb k (s .nodes))
-            (λ t. let y : getD both (1024 + k) 0 % 262144 ≡ w = rw (eqb-true k (s .nodes) t) new in fresh h j (omega arith) (u ∙ y))
-            (λ t. let d : k ≡ s .nodes → ⊥ = eqb-false k (s .nodes) t in P .unlike j k b (omega (arith, d)) (u ∙ ap low (old k (omega (arith, d)))))
 
         entry : (k : ℕ) → k < 1024 → (w ≡ 1 + 2 * k → ⊥) → entryAt both k ≡ entryAt g k
         entry k m d = entered-other one w (s .nodes + 1) k d ∙ ap (λ (n : ℕ). n / 72057594037927936) (apart k m)
@@ -319,7 +310,7 @@ module _ (g : List ℕ) (s : Size) (x : ConflictNode) (w : ℕ) (P : Growing g s
             (λ t. let d : i ≡ s .nodes → ⊥ = eqb-false i (s .nodes) t in
             let c : i < s .nodes = omega (arith, d) in
             let z : getD g (1024 + i) 0 % 262144 ≡ 1 + 2 * k = ap low (sym (old i c)) ∙ q in
-            entry k m (λ y. fresh h i c (z ∙ sym y)) ∙ P .stored .direct .told i k c m z)
+            entry k m (λ y. fresh h i c (z ∙ sym y)) ∙ S .direct .told i k c m z)
 
         stands : (i k : ℕ) → k < 1024 → entryAt both k ≡ i + 1 → (i < s .nodes + 1) × (getD both (1024 + i) 0 % 262144 ≡ 1 + 2 * k)
         stands i k m q =
@@ -329,17 +320,57 @@ module _ (g : List ℕ) (s : Size) (x : ConflictNode) (w : ℕ) (P : Growing g s
             let u : i ≡ s .nodes = omega arith in
             (omega arith, rw u (new ∙ y)))
             (λ t. let d : w ≡ 1 + 2 * k → ⊥ = eqb-false w (1 + 2 * k) t in
-            let z : (i < s .nodes) × (getD g (1024 + i) 0 % 262144 ≡ 1 + 2 * k) = P .stored .direct .stands i k m (sym (entry k m d) ∙ q) in
+            let z : (i < s .nodes) × (getD g (1024 + i) 0 % 262144 ≡ 1 + 2 * k) = S .direct .stands i k m (sym (entry k m d) ∙ q) in
             (omega (arith, z .0), ap low (old i (z .0)) ∙ z .1))
+
+module _ (g : List ℕ) (s : Size) (x : ConflictNode) (w : ℕ) (P : Growing g s) (e : NodeWord x w) where
+  module _ (i : ℕ) (f : i ≡ findOf g (s .nodes) w) where
+    -- the number of a node that is there
+    pub add-old : i < s .nodes → addedIn g (putAt s i) ≡ addNode (graphIn g s) x
+    unfolding addNode putAt graphIn
+    add-old h =
+        let z : graphIn g s ≡ graphIn g (withNodes s (s .nodes)) = refl in
+        rw (lt-leb 128 i (omega (arith, P .stored .nodes-most)), lt-ltb i (s .nodes) h, found g s x w (P .stored) e i f h, addNode)
+
+    pub held-old : i < s .nodes → Growing g (sizeOf (putAt s i))
+    unfolding putAt
+    held-old h = rw (lt-leb 128 i (omega (arith, P .stored .nodes-most)), lt-ltb i (s .nodes) h) (taken-growing g s (s .hand) P)
+
+    pub below-old : i < s .nodes → placeOf (putAt s i) < sizeOf (putAt s i) .nodes
+    unfolding putAt
+    below-old h = rw (lt-leb 128 i (omega (arith, P .stored .nodes-most)), lt-ltb i (s .nodes) h) h
+
+    pub add-full : s .nodes ≤ i → 128 ≤ s .nodes → addedIn g (putAt s 128) ≡ addNode (graphIn g s) x
+    unfolding addNode putAt
+    add-full h l = rw (missed g s x w (P .stored) e i f h, addNode, nodes-count g s (P .stored), le-ltb (s .nodes) 128 l)
+
+    grow-node : s .nodes ≤ i → s .nodes < 128 → s .hand < 65536 → Growing (both g s x w (P .stored) e i f) (oneNode s)
+    grow-node h l b =
+        let k : OneMore g (both g s x w (P .stored) e i f) s w = keep-node g s x w (P .stored) e i f h l b in
+        record { stored = k .stored; two = omega (arith, P .two); second = k .old 1 (P .two) ∙ P .second; unlike = unlike k }
+      where
+        low : ℕ → ℕ
+        low n = n % 262144
+
+        unlike : OneMore g (both g s x w (P .stored) e i f) s w → (j k : ℕ) → j < k → k < s .nodes + 1 → getD (both g s x w (P .stored) e i f) (1024 + j) 0 % 262144 ≡ getD (both g s x w (P .stored) e i f) (1024 + k) 0 % 262144 → ⊥
+        unlike K j k b c q =
+            let u : getD g (1024 + j) 0 % 262144 ≡ getD (both g s x w (P .stored) e i f) (1024 + k) 0 % 262144 = ap low (sym (K .old j (omega arith))) ∙ q in
+            split (eqb k (s .nodes))
+            (λ t. let y : getD (both g s x w (P .stored) e i f) (1024 + k) 0 % 262144 ≡ w = rw (eqb-true k (s .nodes) t) (K .new) in fresh g s x w (P .stored) e i f h j (omega arith) (u ∙ y))
+            (λ t. let d : k ≡ s .nodes → ⊥ = eqb-false k (s .nodes) t in P .unlike j k b (omega (arith, d)) (u ∙ ap low (K .old k (omega (arith, d)))))
+
+    put-new : s .nodes < 128 → putAt s (s .nodes) ≡ At (s .nodes) (oneNode s)
+    unfolding putAt
+    put-new l = rw (lt-leb 128 (s .nodes) l, le-ltb (s .nodes) (s .nodes) (omega arith))
 
     -- h is the table that the entry left
     module _ (h : List ℕ) (q : h ≡ entered (set g (1024 + s .nodes) (w + 262144 * s .hand)) w (s .nodes + 1)) where
       pub add-new : s .nodes ≤ i → s .nodes < 128 → s .hand < 65536 → addedIn h (putAt s (s .nodes)) ≡ addNode (graphIn g s) x
       unfolding addNode
-      add-new a l f = rw (put-new l, missed a, addNode, nodes-count g s (P .stored), lt-ltb (s .nodes) 128 l, q) (ap (added (s .nodes)) (wider l f))
+      add-new a l b = rw (put-new l, missed g s x w (P .stored) e i f a, addNode, nodes-count g s (P .stored), lt-ltb (s .nodes) 128 l, q) (ap (added (s .nodes)) (wider g s x w (P .stored) e i f l b))
 
       pub held-new : s .nodes ≤ i → s .nodes < 128 → s .hand < 65536 → Growing h (sizeOf (putAt s (s .nodes)))
-      held-new a l f = rw (put-new l, q) (grow-node a l f)
+      held-new a l b = rw (put-new l, q) (grow-node a l b)
 
       pub below-new : s .nodes < 128 → placeOf (putAt s (s .nodes)) < sizeOf (putAt s (s .nodes)) .nodes
       below-new l = rw (put-new l) (omega arith)
@@ -360,7 +391,7 @@ pub edge-full : (g : List ℕ) (s : Size) (e : Edge) → Growing g s → 1024 �
 unfolding addEdge
 edge-full g s e P l = rw (edges-count g s (P .stored), le-ltb (s .edges) 1024 l)
 
-module _ (g : List ℕ) (s : Size) (e : Edge) (w : ℕ) (P : Growing g s) (E : EdgeWord e w) where
+module _ (g : List ℕ) (s : Size) (e : Edge) (w : ℕ) (S : Stored g s) (E : EdgeWord e w) where
   -- the word below the entry that stands at its place
   abbrev u : ℕ
   u = w + 72057594037927936 * (getD g (s .edges) 0 / 72057594037927936)
@@ -368,30 +399,27 @@ module _ (g : List ℕ) (s : Size) (e : Edge) (w : ℕ) (P : Growing g s) (E : E
   q : edgeOf u ≡ e
   q = under-edge w (getD g (s .edges) 0 / 72057594037927936) ∙ E .back
 
-  more-edges : s .edges < 1024 → graphIn (set g (s .edges) u) (oneEdge s) ≡ withEdge (graphIn g s) e
+  pub more-edges : s .edges < 1024 → graphIn (set g (s .edges) u) (oneEdge s) ≡ withEdge (graphIn g s) e
   unfolding graphIn
   more-edges l =
-      rw (add-one (s .edges), take-suc-set g (s .edges) u (omega (arith, P .stored .long)), map-append, drop-set-lt 1024 g (s .edges) u l, q)
+      rw (add-one (s .edges), take-suc-set g (s .edges) u (omega (arith, S .long)), map-append, drop-set-lt 1024 g (s .edges) u l, q)
 
   edge-more : s .edges < 1024 → added (s .edges) (graphIn (set g (s .edges) (w + 72057594037927936 * (getD g (s .edges) 0 / 72057594037927936))) (oneEdge s)) ≡ addEdge (graphIn g s) e
   unfolding addEdge
-  edge-more l = rw (edges-count g s (P .stored), lt-ltb (s .edges) 1024 l) (ap (added (s .edges)) (more-edges l))
+  edge-more l = rw (edges-count g s (S), lt-ltb (s .edges) 1024 l) (ap (added (s .edges)) (more-edges l))
 
-  edge-grows : s .edges < 1024 → e .source < 128 → e .target < s .nodes → Growing (set g (s .edges) (w + 72057594037927936 * (getD g (s .edges) 0 / 72057594037927936))) (oneEdge s)
-  edge-grows l hs ht =
-      record { stored = record { long = rw length-set (P .stored .long); some = P .stored .some; nodes-most = P .stored .nodes-most; edges-most = omega arith; root = rw (apart 0) (P .stored .root); word = words; no-node = λ i h m. apart i ∙ P .stored .no-node i h m; packed = packed; no-edge = λ k h m. ap (λ (n : ℕ). n % 72057594037927936) (there k (λ z. omega arith)) ∙ P .stored .no-edge k (omega arith) m; source = sources; target = targets; direct = direct-same g (set g (s .edges) u) (s .nodes) (P .stored .direct) entry apart }; two = P .two; second = apart 1 ∙ P .second; unlike = λ i j b c z. P .unlike i j b c (ap low (sym (apart i)) ∙ z ∙ ap low (apart j)) }
+  apart : (j : ℕ) → s .edges < 1024 → getD (set g (s .edges) u) (1024 + j) 0 ≡ getD g (1024 + j) 0
+  apart j l = getD-set-other g (s .edges) (1024 + j) u 0 (λ z. omega arith)
+
+  pub edge-keeps : s .edges < 1024 → e .source < 128 → e .target < s .nodes → Stored (set g (s .edges) (w + 72057594037927936 * (getD g (s .edges) 0 / 72057594037927936))) (oneEdge s)
+  edge-keeps l hs ht =
+      record { long = rw length-set (S .long); some = S .some; nodes-most = S .nodes-most; edges-most = omega arith; root = rw (apart 0 l) (S .root); word = words; no-node = λ i h m. apart i l ∙ S .no-node i h m; packed = packed; no-edge = λ k h m. ap (λ (n : ℕ). n % 72057594037927936) (there k (λ z. omega arith)) ∙ S .no-edge k (omega arith) m; source = sources; target = targets; direct = direct-same g (set g (s .edges) u) (s .nodes) (S .direct) entry (λ j. apart j l) }
     where
-      low : ℕ → ℕ
-      low n = n % 262144
-
-      apart : (j : ℕ) → getD (set g (s .edges) u) (1024 + j) 0 ≡ getD g (1024 + j) 0
-      apart j = getD-set-other g (s .edges) (1024 + j) u 0 (λ z. omega arith)
-
       words : (j : ℕ) → j < s .nodes → wordOf (nodeOf (getD (set g (s .edges) u) (1024 + j) 0)) + 262144 * firstOf (getD (set g (s .edges) u) (1024 + j) 0) ≡ getD (set g (s .edges) u) (1024 + j) 0
-      words j h = rw (apart j) (P .stored .word j h)
+      words j h = rw (apart j l) (S .word j h)
 
       here : getD (set g (s .edges) u) (s .edges) 0 ≡ u
-      here = getD-set-same g (s .edges) u 0 (omega (arith, P .stored .long))
+      here = getD-set-same g (s .edges) u 0 (omega (arith, S .long))
 
       there : (k : ℕ) → (k ≡ s .edges → ⊥) → getD (set g (s .edges) u) k 0 ≡ getD g k 0
       there k d = getD-set-other g (s .edges) k u 0 d
@@ -400,7 +428,7 @@ module _ (g : List ℕ) (s : Size) (e : Edge) (w : ℕ) (P : Growing g s) (E : E
       packed k h =
           split (eqb k (s .edges))
           (λ t. rw (eqb-true k (s .edges) t, here) (ap edgeWord q ∙ sym (E .is) ∙ sym (under-low w (getD g (s .edges) 0 / 72057594037927936) (E .small))))
-          (λ t. let d : k ≡ s .edges → ⊥ = eqb-false k (s .edges) t in rw (there k d) (P .stored .packed k (omega (arith, d))))
+          (λ t. let d : k ≡ s .edges → ⊥ = eqb-false k (s .edges) t in rw (there k d) (S .packed k (omega (arith, d))))
 
       entry : (k : ℕ) → k < 1024 → entryAt (set g (s .edges) u) k ≡ entryAt g k
       entry k h =
@@ -412,18 +440,25 @@ module _ (g : List ℕ) (s : Size) (e : Edge) (w : ℕ) (P : Growing g s) (E : E
       sources k h =
           split (eqb k (s .edges))
           (λ t. let z : u % 256 ≡ e .source = ap (λ (f : Edge). f .source) q in rw (eqb-true k (s .edges) t, here, z) hs)
-          (λ t. let d : k ≡ s .edges → ⊥ = eqb-false k (s .edges) t in rw (there k d) (P .stored .source k (omega (arith, d))))
+          (λ t. let d : k ≡ s .edges → ⊥ = eqb-false k (s .edges) t in rw (there k d) (S .source k (omega (arith, d))))
 
       targets : (k : ℕ) → k < s .edges + 1 → getD (set g (s .edges) u) k 0 / 256 % 256 < s .nodes
       targets k h =
           split (eqb k (s .edges))
           (λ t. let z : u / 256 % 256 ≡ e .target = ap (λ (f : Edge). f .target) q in rw (eqb-true k (s .edges) t, here, z) ht)
-          (λ t. let d : k ≡ s .edges → ⊥ = eqb-false k (s .edges) t in rw (there k d) (P .stored .target k (omega (arith, d))))
+          (λ t. let d : k ≡ s .edges → ⊥ = eqb-false k (s .edges) t in rw (there k d) (S .target k (omega (arith, d))))
+
+edge-grows : (g : List ℕ) (s : Size) (e : Edge) (w : ℕ) (P : Growing g s) (E : EdgeWord e w) → s .edges < 1024 → e .source < 128 → e .target < s .nodes → Growing (set g (s .edges) (w + 72057594037927936 * (getD g (s .edges) 0 / 72057594037927936))) (oneEdge s)
+edge-grows g s e w P E l hs ht =
+    record { stored = edge-keeps g s e w (P .stored) E l hs ht; two = P .two; second = apart g s e w (P .stored) E 1 l ∙ P .second; unlike = λ i j b c z. P .unlike i j b c (ap low (sym (apart g s e w (P .stored) E i l)) ∙ z ∙ ap low (apart g s e w (P .stored) E j l)) }
+  where
+    low : ℕ → ℕ
+    low n = n % 262144
 
 -- n, the entry that stands at the new edge's place
 module _ (g : List ℕ) (s : Size) (e : Edge) (w n : ℕ) (E : EdgeWord e w) (P : Growing g s) (b : n ≡ getD g (s .edges) 0 / 72057594037927936) where
   pub edge-new : s .edges < 1024 → added (s .edges) (graphIn (set g (s .edges) (w + 72057594037927936 * n)) (oneEdge s)) ≡ addEdge (graphIn g s) e
-  edge-new l = rw b (edge-more g s e w P E l)
+  edge-new l = rw b (edge-more g s e w (P .stored) E l)
 
   pub grow-edge : s .edges < 1024 → e .source < 128 → e .target < s .nodes → Growing (set g (s .edges) (w + 72057594037927936 * n)) (oneEdge s)
   grow-edge l hs ht = rw b (edge-grows g s e w P E l hs ht)

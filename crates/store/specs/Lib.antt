@@ -1,4 +1,5 @@
 pub mod Graph
+pub mod Numbers
 pub mod Words
 pub mod Direct
 pub mod Laws
