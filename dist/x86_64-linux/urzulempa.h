@@ -43,7 +43,8 @@ typedef struct {
     uint64_t number, place, bytes, replaced, dropped;
 } urzulempa_salvaged;
 
-/* The explanation; option 1 indents the top level. */
+/* The explanation; option 1 indents the top level. Packages that are alike share a line: up to six show all their versions, more of them
+ * the first three, " | ... | " and the last, here and in the other explanations. */
 urzulempa_answer urzulempa_explain(const uint8_t *file, size_t file_len, uint64_t option, uint8_t *room, size_t room_len);
 /* The same with option 0. */
 urzulempa_answer urzulempa_explain_plain(const uint8_t *file, size_t file_len, uint8_t *room, size_t room_len);

@@ -53,21 +53,21 @@ pub record Right (c : Case) : Type 0 where
 -- ---- what is computed of a row
 
 -- 100,000 turns of the machine are more than any row takes
-unfoldable told : List ℕ → ℕ → ℕ → Option Result
+unfoldable pub told : List ℕ → ℕ → ℕ → Option Result
 unfolding cut shapeOf readFrom readOf graphOf shownOf indent
 told file opt room = explainFile 100000 file opt room
 
 -- in longer rooms the same: not cut short
-abbrev uncut : Rooms → ℕ → Bool
+abbrev pub uncut : Rooms → ℕ → Bool
 uncut (atLeast n) k = not (eqb k 10)
 uncut (exactly n) k = true
 
-record Computed (c : Case) : Type 0 where
-  tells : told (c .file) (c .option) (shortest (c .rooms)) ≡ some (resultBy (c .answer) (c .text))
-  longer : uncut (c .rooms) (c .answer .number) ≡ true
-  listed : nodesOf (c .file) ≡ c .nodes
-  bounded : boundOf (c .file) ≡ c .bound
-  within : leb (c .answer .depth) (c .bound) ≡ true
+pub record Computed (c : Case) : Type 0 where
+  pub tells : told (c .file) (c .option) (shortest (c .rooms)) ≡ some (resultBy (c .answer) (c .text))
+  pub longer : uncut (c .rooms) (c .answer .number) ≡ true
+  pub listed : nodesOf (c .file) ≡ c .nodes
+  pub bounded : boundOf (c .file) ≡ c .bound
+  pub within : leb (c .answer .depth) (c .bound) ≡ true
 
 row-p1 : Computed p1
 unfolding told boundOf nodesOf cut shapeOf readFrom
@@ -166,7 +166,7 @@ module _ (c : Case) (x : Computed c) where
       let e = fits-room (c .file) (c .option) (resultBy (c .answer) (c .text)) (c .rooms) (x .tells) (x .longer) (length out) h in
       record { text = c .text; is = record { turns = 100000; so = e }; room = refl }
 
-  row-right : Right c
+  pub row-right : Right c
   unfolding nodesAnswer nodesLeft
   row-right =
       record {

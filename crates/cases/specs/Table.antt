@@ -9,7 +9,7 @@ use Rattle.nodelist.specs.Nodes.{Nodes, entered, denied}
 use Rattle.urzulempa.specs.declared.Answer.{Answer}
 use Rattle.urzulempa.specs.Answers.{refusalOf}
 use Rattle.cases.specs.Files.{badLength, replay, deckPanel, mergedPair, lone, withLearnt, wide, lost, apart, panelDeck, desk}
-use Rattle.cases.specs.Texts.{printed, replayLines, indentedLines, deckLines, pairLines, loneLines, wideText, deskLines}
+use Rattle.cases.specs.Texts.{printed, replayLines, indentedLines, deckLines, pairLines, loneLines, wideLines, deskLines}
 
 -- the rooms that a row speaks of, by their length
 pub data Rooms : Type 0 where
@@ -37,11 +37,11 @@ pub record Case : Type 0 where
   pub bound : ℕ
 
 -- number, place, bytes, units, depth
-abbrev answer : ℕ → ℕ → ℕ → ℕ → ℕ → Answer
+abbrev pub answer : ℕ → ℕ → ℕ → ℕ → ℕ → Answer
 answer n p b u d = record { number = n; place = p; bytes = b; units = u; depth = d }
 
 -- kind (0 root, 1 solvable, 2 unresolved), number, group, installable, missing, clause
-abbrev node : ℕ → ℕ → ℕ → ℕ → ℕ → ℕ → NodeEntry
+abbrev pub node : ℕ → ℕ → ℕ → ℕ → ℕ → ℕ → NodeEntry
 node k n g i m c = record { kind = k; number = n; group = g; installable = i; missing = m; clause = c }
 
 -- refused by 1 to 9, whatever the room
@@ -78,9 +78,9 @@ p4-most =
     record {
       file = wide 126;
       option = 0;
-      rooms = atLeast 709;
-      answer = answer 0 0 709 2 0;
-      text = wideText;
+      rooms = atLeast 89;
+      answer = answer 0 0 89 2 0;
+      text = printed wideLines;
       nodes = entered (node 0 0 0 1 0 65535 ∷ node 1 125 1 1 0 1 ∷ map (λ i. node 1 i 1 1 0 1) (upto 125 0));
       bound = 1;
     }

@@ -2,9 +2,8 @@
 use mathlib.Core.List.{List, [], _∷_, _++_}
 use Prim.Native.Nat.{ℕ}
 use Prim.Native.String.{String}
-use Rattle.basis.specs.Lists.{concatMap, upto}
+use Rattle.basis.specs.Lists.{concatMap}
 use Rattle.basis.specs.Quote.{utf8}
-use Rattle.cases.specs.Files.{digits}
 
 -- lines as bytes, each with its newline
 abbrev pub printed : List String → List ℕ
@@ -52,10 +51,19 @@ pairLines =
 abbrev pub loneLines : List String
 loneLines = "x * can be installed with any of the following options:" ∷ "└─ x 1" ∷ []
 
--- P4: 126 candidates, all of one group; the last took number 1 when unresolved went
-abbrev pub wideText : List ℕ
-wideText =
-    printed ("x * can be installed with any of the following options:" ∷ []) ++ utf8 "└─ x 125" ++ concatMap (λ i. utf8 " | " ++ digits i) (upto 125 0) ++ utf8 "\n"
+-- P4: 126 candidates, all of one group, which order 6 shortens; the last took number 1 when unresolved went
+abbrev pub wideLines : List String
+wideLines = "x * can be installed with any of the following options:" ∷ "└─ x 125 | 0 | 1 | ... | 124" ∷ []
+
+-- order 6: the same with 6, 7 and 8 candidates
+abbrev pub sixLines : List String
+sixLines = "x * can be installed with any of the following options:" ∷ "└─ x 5 | 0 | 1 | 2 | 3 | 4" ∷ []
+
+abbrev pub sevenLines : List String
+sevenLines = "x * can be installed with any of the following options:" ∷ "└─ x 6 | 0 | 1 | ... | 5" ∷ []
+
+abbrev pub eightLines : List String
+eightLines = "x * can be installed with any of the following options:" ∷ "└─ x 7 | 0 | 1 | ... | 6" ∷ []
 
 -- two runs below one package
 abbrev pub deskLines : List String

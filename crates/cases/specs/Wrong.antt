@@ -57,11 +57,11 @@ row-twoRuns : Right twoRuns
 row-twoRuns = right .1 .1 .1 .1 .1 .1 .1 .1 .1 .1 .1 .1 .1 .1 .1 .1 .0
 
 -- a room of n zeros
-abbrev zeros : ℕ → List ℕ
+abbrev pub zeros : ℕ → List ℕ
 zeros n = replicate n 0
 
 module _ (f : Program) (m : Meets f) (c : Case) (R : Right c) (out : List ℕ) (h : Fits (c .rooms) (length out)) where
-  answers : f (c .file) (c .option) out .0 ≡ c .answer
+  pub answers : f (c .file) (c .option) out .0 ≡ c .answer
   answers = R .says out (f (c .file) (c .option) out .1) (f (c .file) (c .option) out .0) h (m (c .file) (c .option) out) .0
 
   leaves : f (c .file) (c .option) out .1 ≡ over (c .text) out

@@ -22,7 +22,8 @@ use Rattle.texts.specs.Marks.{upper}
 use Rattle.texts.specs.Levels.{marks-count, upper-whole, upper-own, upper-under}
 use Rattle.texts.specs.declared.Indenter.{Indenter}
 use Rattle.plan.specs.Fields.{planIn, opensIn, tagIn, runsIn, kidsIn, runFirst, runEnd, kidFirst, kidEnd, kidAt, textLength, reasonIn, setsIn, requirementIn, wordingIn, runsFrom, runs-none, runs-more, kidsFrom, kids-none, kids-more}
-use Rattle.lines.specs.Said.{runSaid, packageSaid, setsSaid, packageIn, packageAll, linesIn}
+use Rattle.plan.specs.Texts.{packageIn}
+use Rattle.lines.specs.Said.{runSaid, packageSaid, setsSaid, packageAll, linesIn}
 use Rattle.lines.specs.Tried.{Tried, textAll, Whole, Broken, Lined}
 use Rattle.lines.specs.PackageLaws as L
 use Rattle.lines.specs.RunLaws as N

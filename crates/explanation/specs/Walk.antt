@@ -27,7 +27,8 @@ use Rattle.texts.specs.Wrote.{Wrote, over, wrote-none, wrote-length, behind}
 use Rattle.texts.specs.Marks as M
 use Rattle.texts.specs.declared.Indenter.{Indenter}
 use Rattle.plan.specs.Fields.{planIn, startIn, opensIn, kidsIn, runsIn, runFirst, runEnd, runsFrom, kidsFrom, kidAt, kids-none, kids-more, solvableIn, textLength}
-use Rattle.lines.specs.Said.{linesIn, packageIn}
+use Rattle.plan.specs.Texts.{packageIn}
+use Rattle.lines.specs.Said.{linesIn}
 use Rattle.lines.specs.SetLaws.{part-back}
 use Rattle.explanation.specs.Deep.{kid-within}
 use Rattle.explanation.specs.Frames.{ownerIn, framesIn, frames-length}

@@ -17,7 +17,7 @@ ghost use Rattle.machine.specs.Frames as F;
 ghost use Rattle.machine.specs.Frames.{kidMarks};
 ghost use Rattle.texts.specs.Marks.{marksOf};
 ghost use Rattle.plan.specs.Fields.{textLength, runsFrom};
-ghost use Rattle.lines.specs.Said.{packageIn};
+ghost use Rattle.plan.specs.Texts.{packageIn};
 ghost use Rattle.explanation.specs.Stand.{indenterAt, nextKid, nextRun, Small, Level, Stepped, runsAt, kidsAt, framesAt};
 ghost use Rattle.explanation.specs.Turned.{Settled, Shown, Known, Turned};
 

@@ -15,8 +15,10 @@ use Rattle.records.specs.Tables.{Tables}
 use Rattle.records.specs.Views.{nameText, solvableName, versionText, reasonText}
 use Rattle.texts.specs.Wrote.{Wrote, wrote-none, wrote-length, behind}
 use Rattle.texts.specs.Indent.{indent}
-use Rattle.plan.specs.Fields.{solvableIn, membersIn, leadIn, mateIn, matesFrom, mates-none, mates-more, mates-less, tagIn, reasonIn, textLength}
-use Rattle.lines.specs.Said.{nextVersion, versionsIn, joinedIn, packageIn, packageTail, tailSize, packageSaid}
+use Rattle.plan.specs.Fields.{solvableIn, leadIn, mateIn, matesFrom, mates-none, mates-more, mates-less, tagIn, reasonIn, textLength}
+use Rattle.plan.specs.Texts.{nextVersion, endsText, lastOfMany, versionsIn, furtherIn, packageIn}
+use Rattle.plan.specs.Laws.Texts.{package-is, rest-is, ends-are}
+use Rattle.lines.specs.Said.{packageTail, tailSize, packageSaid}
 use Rattle.lines.specs.Tried.{Tried, tried-wrote, tried-full}
 
 -- ---- a text that is written piece by piece: what is done, and what is left
@@ -57,8 +59,14 @@ module _ (whole rest o d : List ℕ) (n : ℕ) (w : Along whole rest o d n) wher
 pub version-room : (t v : List ℕ) (n : ℕ) → t ≡ v → 3 + length v ≤ n → 3 + length t ≤ n
 version-room t v n e h = rw e h
 
+pub version-count : (T : Tables) (s r : ℕ) (t : List ℕ) → t ≡ versionText T s → r ≡ 3 + length t → r ≡ 3 + length (versionText T s)
+version-count T s r t e q = rw (← e) q
+
 pub version-wrote : (T : Tables) (s : ℕ) (t o d : List ℕ) (r : ℕ) → t ≡ versionText T s → Wrote (utf8 " | " ++ t) o d r → Wrote (nextVersion T s) o d r
 version-wrote T s t o d r e w = rw e at w
+
+ends-size : (T : Tables) (a b z : ℕ) → length (endsText T a b z) ≡ 15 + length (versionText T a) + length (versionText T b) + length (versionText T z)
+ends-size T a b z = simp length-append (omega arith)
 
 -- how many members are left
 unfoldable pub matesLeft : List ℕ → ℕ → ℕ
@@ -96,30 +104,40 @@ module _ (T : Tables) (p : List ℕ) where
     pub versions-end : y ≤ 0 → Wrote whole o d n
     versions-end h = along-end whole (versionsIn T p (matesFrom p y)) o d n w (versions-none y h)
 
-  lead-below : (n : ℕ) → leadIn p n < 128
-  unfolding leadIn
-  lead-below n = omega arith
+  -- ---- what stands behind the first version; l: the last member of a long group, by its number plus one
+
+  module _ (x l : ℕ) (e : l ≡ lastOfMany (matesFrom p x)) where
+    pub rest-room : (n : ℕ) → l ≡ 0 → length (furtherIn T p (matesFrom p x)) ≤ n → length (versionsIn T p (matesFrom p x)) ≤ n
+    rest-room n z h = rw (rest-is p x l e T z) at h
+
+    pub rest-wrote : (o d : List ℕ) (r : ℕ) → l ≡ 0 → Wrote (versionsIn T p (matesFrom p x)) o d r → Wrote (furtherIn T p (matesFrom p x)) o d r
+    rest-wrote o d r z w = rw (rest-is p x l e T z) w
+
+    module _ (h : l ≡ 0 → ⊥) (k : x < 256) (y : ℕ) (f : y ≡ mateIn p (x - 1)) (a b d : ℕ) (ea : a ≡ solvableIn p (x - 1)) (eb : b ≡ solvableIn p (y - 1)) (ed : d ≡ solvableIn p (l - 1)) where
+      pub ends-room : (n : ℕ) → length (furtherIn T p (matesFrom p x)) ≤ n → 15 + length (versionText T a) + length (versionText T b) + length (versionText T d) ≤ n
+      ends-room n w =
+          let s : length (furtherIn T p (matesFrom p x)) ≡ length (endsText T a b d) = ap length (ends-are p x l e h k y f T a b d ea eb ed) in
+          let t : length (endsText T a b d) ≡ 15 + length (versionText T a) + length (versionText T b) + length (versionText T d) = ends-size T a b d in
+          omega arith
+
+      pub ends-wrote : (o c : List ℕ) (r : ℕ) → Wrote (endsText T a b d) o c r → Wrote (furtherIn T p (matesFrom p x)) o c r
+      ends-wrote o c r w = rw (ends-are p x l e h k y f T a b d ea eb ed) w
 
   -- ---- the package's text; l: the first member, y: what follows it
 
   module _ (n l y s m v : ℕ) (name version : List ℕ) (li : l ≡ leadIn p n) (yi : y ≡ mateIn p l) (si : s ≡ solvableIn p n) (mi : m ≡ solvableName T s) (ni : name ≡ nameText T m)
       (vi : v ≡ solvableIn p l) (ei : version ≡ versionText T v) where
-    package-is : packageIn T p n ≡ (name ++ utf8 " " ++ version) ++ versionsIn T p (matesFrom p y)
-    unfolding packageIn membersIn
-    package-is =
-        let a : 0 < leadIn p n + 1 = omega arith in
-        let z : leadIn p n + 1 - 1 ≡ leadIn p n = omega arith in
-        let b = lead-below n in
-        rw (mates-more p (leadIn p n + 1) a (omega arith), z, ni, ei, mi, si, vi, yi, li) (simp append-assoc)
+    pieces : packageIn T p n ≡ (name ++ utf8 " " ++ version) ++ furtherIn T p (matesFrom p y)
+    pieces = package-is T p n ∙ rw (ni, ei, mi, si, vi, yi, li)
 
-    package-size : length (packageIn T p n) ≡ length name + 1 + length version + length (versionsIn T p (matesFrom p y))
-    package-size = rw (package-is, length-append, length-append, length-append)
+    package-size : length (packageIn T p n) ≡ length name + 1 + length version + length (furtherIn T p (matesFrom p y))
+    package-size = rw (pieces, length-append, length-append, length-append)
 
-    pub package-room : (o : List ℕ) → length (packageIn T p n) ≤ length o → length name + 1 + length version + length (versionsIn T p (matesFrom p y)) ≤ length o
+    pub package-room : (o : List ℕ) → length (packageIn T p n) ≤ length o → length name + 1 + length version + length (furtherIn T p (matesFrom p y)) ≤ length o
     package-room o h = let a = package-size in omega arith
 
-    pub package-wrote : (o d : List ℕ) (r : ℕ) → Wrote ((name ++ utf8 " " ++ version) ++ versionsIn T p (matesFrom p y)) o d r → Wrote (packageIn T p n) o d r
-    package-wrote o d r w = rw package-is w
+    pub package-wrote : (o d : List ℕ) (r : ℕ) → Wrote ((name ++ utf8 " " ++ version) ++ furtherIn T p (matesFrom p y)) o d r → Wrote (packageIn T p n) o d r
+    package-wrote o d r w = rw pieces w
 
 -- ---- what stands behind the package
 

@@ -6,13 +6,14 @@ use Prim.Native.Nat.{ℕ, _+_, _≤_, _<_}
 use native.Mathlib.Omega.{arith}
 use lib.ListN.{length, length-append}
 use lib.Dec.{eqb}
-use Rattle.basis.specs.Lists.{isNil, concatMap}
+use Rattle.basis.specs.Lists.{isNil}
 use Rattle.basis.specs.Quote.{utf8}
 use Rattle.records.specs.Tables.{Tables}
-use Rattle.records.specs.Views.{nameText, solvableName, versionText, setName, setText, requirementText, reasonText}
+use Rattle.records.specs.Views.{nameText, setName, setText, requirementText, reasonText}
 use Rattle.machine.specs.Machine.{Entry, Op, requirement, candidate}
 use Rattle.texts.specs.Indent.{indent, atTop}
-use Rattle.plan.specs.Fields.{solvableIn, membersIn, tagIn, reasonIn, setsIn, requirementIn, wordingIn}
+use Rattle.plan.specs.Fields.{tagIn, reasonIn, setsIn, requirementIn, wordingIn}
+use Rattle.plan.specs.Texts.{packageIn}
 
 -- ---- a requirement's line; w: 0 no candidates, 1 installable, else no viable options
 
@@ -37,22 +38,6 @@ unfoldable pub runSaid : Tables → Bool → List Bool → ℕ → ℕ → List 
 runSaid T top ms w q = indent top ms ++ runLead (atTop ms) w ++ requirementText T q ++ runTail (atTop ms) w
 
 -- ---- a package's line
-
--- the version of solvable s behind another
-abbrev pub nextVersion : Tables → ℕ → List ℕ
-nextVersion T s = utf8 " | " ++ versionText T s
-
-module _ (T : Tables) (p : List ℕ) where
-  unfoldable pub versionsIn : List ℕ → List ℕ
-  versionsIn ns = concatMap (λ n. nextVersion T (solvableIn p n)) ns
-
-  abbrev pub joinedIn : List ℕ → List ℕ
-  joinedIn [] = []
-  joinedIn (n ∷ ns) = versionText T (solvableIn p n) ++ versionsIn ns
-
-  -- "name, space, version; a group: name, space, versions joined"
-  unfoldable pub packageIn : ℕ → List ℕ
-  packageIn n = nameText T (solvableName T (solvableIn p n)) ++ utf8 " " ++ joinedIn (membersIn p n)
 
 -- what stands behind the package, by its kind of line: 0 excluded, 1 bare, 2 conflicting, 3 constraining, else requiring
 unfoldable pub packageTail : Tables → ℕ → ℕ → List ℕ

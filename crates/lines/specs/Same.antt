@@ -8,22 +8,24 @@ use native.Mathlib.Omega.{arith}
 use lib.ListN.{length}
 use lib.Dec.{eqb}
 use borrow.Author.Tests.{ne-eqb}
-use Rattle.basis.specs.Lists.{isNil, concatMap, upto}
+use Rattle.basis.specs.Lists.{isNil, upto}
 use Rattle.basis.specs.Members.{In, in-filter}
 use Rattle.basis.specs.Quote.{utf8}
 use Rattle.records.specs.Tables.{Tables}
-use Rattle.records.specs.Views.{nameText, solvableName, versionText, setName, setText, requirementText, reasonText}
+use Rattle.records.specs.Views.{nameText, setName, setText, requirementText, reasonText}
 use Rattle.store.specs.Graph.{Graph}
 use Rattle.labels.specs.Runs.{Run}
 use Rattle.machine.specs.Machine.{Entry, entry, requirement, candidate}
 use Rattle.texts.specs.Indent.{indent, atTop}
 use Rattle.plan.specs.Plan.{Shown, shownOf, leadOf, runInstallable, noCandidates, Kind, excluded, bare, conflicting, constraining, requiring, kindOf}
-use Rattle.plan.specs.Display.{solvableOf, versionOf, joined, membersOf, packageText}
-use Rattle.plan.specs.Fields.{solvableIn, membersIn, tagIn, reasonIn, setsIn, kindIn, kindBy, requirementIn, wordingIn}
+use Rattle.plan.specs.Display.{solvableOf, membersOf, packageText}
+use Rattle.plan.specs.Fields.{solvableIn, tagIn, reasonIn, setsIn, kindIn, kindBy, requirementIn, wordingIn}
 use Rattle.plan.specs.Planned.{wordingOf, RunIs, NodeIs, Planned}
 use Rattle.plan.specs.Mates.{in-upto, members-alike}
+use Rattle.plan.specs.Texts.{packageIn}
+use Rattle.plan.specs.Laws.Texts.{package-agrees}
 use Rattle.lines.specs.Lines.{topOf, runLine, setLine, setLines, packageLines, linesOf}
-use Rattle.lines.specs.Said.{runLead, runTail, runSaid, nextVersion, versionsIn, joinedIn, packageIn, packageTail, packageSaid, setSaid, setsSaid, packageAll, linesIn}
+use Rattle.lines.specs.Said.{runLead, runTail, runSaid, packageTail, packageSaid, setSaid, setsSaid, packageAll, linesIn}
 
 -- ---- a requirement's line
 
@@ -70,20 +72,9 @@ module _ (T : Tables) (G : Graph) (p k : List ℕ) where
     unfolding shownOf
     solvable-same x h = z .nodes x h .solvable
 
-    versions-same : (ns : List ℕ) → ((x : ℕ) → In x ns → x < length (G .nodes)) → versionsIn T p ns ≡ concatMap (λ m. utf8 " | " ++ versionOf S m) ns
-    unfolding versionsIn shownOf
-    versions-same [] f = refl
-    versions-same (n ∷ ns) f = rw (solvable-same n (f n (inl refl)), versions-same ns (λ x i. f x (inr i)))
-
-    joined-same : (ns : List ℕ) → ((x : ℕ) → In x ns → x < length (G .nodes)) → joinedIn T p ns ≡ joined S ns
-    unfolding shownOf
-    joined-same [] f = refl
-    joined-same (n ∷ ns) f = rw (solvable-same n (f n (inl refl)), versions-same ns (λ x i. f x (inr i)))
-
     pub package-same : (n : ℕ) → n < length (G .nodes) → packageIn T p n ≡ packageText S n
-    unfolding packageIn shownOf
-    package-same n h =
-        rw (z .nodes n h .members, solvable-same n h, joined-same (membersOf S n) (member-below n h))
+    unfolding shownOf
+    package-same n h = package-agrees T S p n refl (z .nodes n h .members) (solvable-same n h) (λ x i. solvable-same x (member-below n h x i))
 
     -- ---- its lines
 

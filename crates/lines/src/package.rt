@@ -17,12 +17,14 @@ ghost use Rattle.texts.specs.Wrote.{Wrote};
 ghost use Rattle.texts.specs.Marks.{marksAt};
 ghost use Rattle.texts.specs.Indent.{indent};
 ghost use Rattle.plan.specs.Fields.{textLength, tagIn, reasonIn, matesFrom};
-ghost use Rattle.lines.specs.Said.{nextVersion, versionsIn, packageIn, packageTail, packageSaid, tailSize};
+ghost use Rattle.plan.specs.Texts.{nextVersion, endsText, versionsIn, furtherIn, packageIn};
+ghost use Rattle.lines.specs.Said.{packageTail, packageSaid, tailSize};
 ghost use Rattle.lines.specs.Tried.{Tried};
 
 // A version behind another.
 fn put_next(out: &mut [u8], version: &[u8]) -> usize
     requires { ⌜ 3 + length (now version) ≤ length (now out) ⌝ }
+    ensures { λ r. ⌜ r ≡ 3 + length (now (version .entry)) ⌝ }
     ensures { λ r. ⌜ Wrote (utf8 " | " ++ now (version .entry)) (now (out .entry)) (now (out .exit)) r ⌝ }
 {
     let a = wordings::bar(out);
@@ -33,6 +35,7 @@ fn put_next(out: &mut [u8], version: &[u8]) -> usize
 fn put_version(file: &[u8], ix: &[u16; 10432], out: &mut [u8], s: u16) -> usize
     requires { ⌜ Loaded (now file) (now ix) ⌝ }
     requires { ⌜ 3 + length (versionText (tablesOf (now file)) s) ≤ length (now out) ⌝ }
+    ensures { λ r. ⌜ r ≡ 3 + length (versionText (tablesOf (now (file .entry))) s) ⌝ }
     ensures { λ r. ⌜ Wrote (nextVersion (tablesOf (now (file .entry))) s) (now (out .entry)) (now (out .exit)) r ⌝ }
 {
     let text = views::version_text(file, ix, s);
@@ -55,6 +58,36 @@ fn put_versions(file: &[u8], ix: &[u16; 10432], p: &[u64; 1280], out: &mut [u8],
         y = plan::next_mate(p, n);
     }
     at
+}
+
+// Two versions, dots for those that are left out, and the last.
+fn put_ends(file: &[u8], ix: &[u16; 10432], out: &mut [u8], a: u16, b: u16, z: u16) -> usize
+    requires { ⌜ Loaded (now file) (now ix) ⌝ }
+    requires { ⌜ 15 + length (versionText (tablesOf (now file)) a) + length (versionText (tablesOf (now file)) b) + length (versionText (tablesOf (now file)) z) ≤ length (now out) ⌝ }
+    ensures { λ r. ⌜ Wrote (endsText (tablesOf (now (file .entry))) a b z) (now (out .entry)) (now (out .exit)) r ⌝ }
+{
+    let i = put_version(file, ix, out, a);
+    let j = i + put_version(file, ix, &mut out[i..], b);
+    let k = j + wordings::dots(&mut out[j..]);
+    k + put_version(file, ix, &mut out[k..], z)
+}
+
+// What stands behind the first version: the other versions, or where they are more than five two of them and the last.
+fn put_further(file: &[u8], ix: &[u16; 10432], p: &[u64; 1280], out: &mut [u8], x: usize) -> usize
+    requires { ⌜ Loaded (now file) (now ix) ⌝ }
+    requires { ⌜ x < 256 ⌝ }
+    requires { ⌜ length (furtherIn (tablesOf (now file)) (now p) (matesFrom (now p) x)) ≤ length (now out) ⌝ }
+    ensures { λ r. ⌜ Wrote (furtherIn (tablesOf (now (file .entry))) (now (p .entry)) (matesFrom (now (p .entry)) x)) (now (out .entry)) (now (out .exit)) r ⌝ }
+{
+    let last = plan::last_of_many(p, x);
+    if last == 0 {
+        return put_versions(file, ix, p, out, x);
+    }
+    let a = plan::solvable(p, x - 1);
+    let y = plan::next_mate(p, x - 1);
+    let b = plan::solvable(p, y - 1);
+    let z = plan::solvable(p, last - 1);
+    put_ends(file, ix, out, a, b, z)
 }
 
 // The name and the first version.
@@ -80,14 +113,14 @@ fn put_named(
 ) -> usize
     requires { ⌜ Loaded (now file) (now ix) ⌝ }
     requires { ⌜ next < 256 ⌝ }
-    requires { ⌜ length (now name) + 1 + length (now version) + length (versionsIn (tablesOf (now file)) (now p) (matesFrom (now p) next)) ≤ length (now out) ⌝ }
-    ensures { λ r. ⌜ Wrote ((now (name .entry) ++ utf8 " " ++ now (version .entry)) ++ versionsIn (tablesOf (now (file .entry))) (now (p .entry)) (matesFrom (now (p .entry)) next)) (now (out .entry)) (now (out .exit)) r ⌝ }
+    requires { ⌜ length (now name) + 1 + length (now version) + length (furtherIn (tablesOf (now file)) (now p) (matesFrom (now p) next)) ≤ length (now out) ⌝ }
+    ensures { λ r. ⌜ Wrote ((now (name .entry) ++ utf8 " " ++ now (version .entry)) ++ furtherIn (tablesOf (now (file .entry))) (now (p .entry)) (matesFrom (now (p .entry)) next)) (now (out .entry)) (now (out .exit)) r ⌝ }
 {
     let a = put_first(out, name, version);
-    a + put_versions(file, ix, p, &mut out[a..], next)
+    a + put_further(file, ix, p, &mut out[a..], next)
 }
 
-// "Solvable text: name, space, version; a group: name, space, versions joined".
+// "Solvable text: name, space, version; a group: name, space, versions joined"; of a long group some.
 fn put_package(file: &[u8], ix: &[u16; 10432], p: &[u64; 1280], out: &mut [u8], n: usize) -> usize
     requires { ⌜ Loaded (now file) (now ix) ⌝ }
     requires { ⌜ length (packageIn (tablesOf (now file)) (now p) n) ≤ length (now out) ⌝ }

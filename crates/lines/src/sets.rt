@@ -14,7 +14,8 @@ ghost use Rattle.texts.specs.Wrote.{Wrote};
 ghost use Rattle.texts.specs.Marks.{marksAt, marksOf};
 ghost use Rattle.texts.specs.Indent.{indent};
 ghost use Rattle.plan.specs.Fields.{textLength, setAt, setsFrom, setsIn};
-ghost use Rattle.lines.specs.Said.{packageIn, setSaid, setsSaid, packageAll};
+ghost use Rattle.plan.specs.Texts.{packageIn};
+ghost use Rattle.lines.specs.Said.{setSaid, setsSaid, packageAll};
 ghost use Rattle.lines.specs.Tried.{Tried, Lined};
 ghost use Rattle.lines.specs.SetLaws.{setPieces, joinedPart};
 

@@ -8,12 +8,11 @@ use native.Mathlib.Omega.{arith}
 use lib.ListN.{length, getD, replicate, length-append, length-replicate, getD-replicate}
 use lib.Dec.{eqb, ltb}
 use borrow.Author.Tests.{lt-ltb, ltb-true}
-use Rattle.basis.specs.Lists.{filter, has, upto, concatMap}
+use Rattle.basis.specs.Lists.{filter, has, upto}
 use Rattle.basis.specs.Members.{In, All, split, in-filter}
-use Rattle.basis.specs.Quote.{utf8}
 use Rattle.basis.specs.Chains.{oldest}
 use Rattle.records.specs.Tables.{Tables}
-use Rattle.records.specs.Views.{nameText, solvableName, versionText}
+use Rattle.records.specs.Views.{nameText, solvableName}
 use Rattle.store.specs.declared.Size.{Size}
 use Rattle.store.specs.Graph.{Graph, nodeAt}
 use Rattle.store.specs.Table.{graphIn, nodeIn, node-in, nodes-count}
@@ -23,10 +22,11 @@ use Rattle.labels.specs.Marks.{bitsOf, marksOf}
 use Rattle.groups.specs.Groups as Groups
 use Rattle.groups.specs.Groups.{headOr, mates}
 use Rattle.plan.specs.Plan.{Shown, shownOf, isInstallable, leadOf}
-use Rattle.plan.specs.Display.{solvableBy, solvableOf, versionOf, joined, membersOf, packageText}
+use Rattle.plan.specs.Display.{solvableBy, solvableOf, membersOf, packageText}
 use Rattle.plan.specs.Mates.{group-at, map-upto, in-upto, alikes, lead-first, members-alike}
 use Rattle.plan.specs.Planned.{Planned}
-use Rattle.plan.specs.Fields.{headIn, tailIn, runIn, leadIn, mateIn, matesFrom, mates-more, membersIn, solvableIn}
+use Rattle.plan.specs.Fields.{headIn, tailIn, runIn, solvableIn}
+use Rattle.plan.specs.Laws.Texts.{package-agrees}
 use Rattle.runs.specs.Kids.{markedIn, nextAt}
 use Rattle.planning.specs.Truth.{Given}
 use Rattle.planning.specs.Grouping.{GroupsDone, LeadsOk}
@@ -34,7 +34,7 @@ use Rattle.planning.specs.Giving.{given, given-nexts}
 use Rattle.planning.specs.Node.{NodeFor}
 use Rattle.planning.specs.Building.{FreshPlan, NodesDone}
 use Rattle.planning.specs.Final.{Sized, built-members, planned}
-use Rattle.measuring.specs.Lengths.{behindLength, sizeIn}
+use Rattle.measuring.specs.Lengths.{sizeIn}
 use Rattle.measuring.specs.Sizes.{Short, SizesDone}
 use Rattle.measuring.specs.Exact.{PlanMade}
 
@@ -60,9 +60,6 @@ marks-are T g s ms q n h =
     (bit-is (installable (graphIn g s) n) (missing (graphIn g s) n))
 
 -- ---- a lead is a node
-
-three : (a v w : List ℕ) → length (a ++ utf8 " " ++ (v ++ w)) ≡ length a + (1 + (length v + length w))
-three a v w = omega (arith, length-append (a ++ utf8 " ") (v ++ w), length-append a (utf8 " "), length-append v w)
 
 head-or : (l : List ℕ) (d m : ℕ) → ((x : ℕ) → In x l → x < m) → d < m → getD l 0 d < m
 head-or [] d m f h = h
@@ -107,33 +104,16 @@ module _ (T : Tables) (g : List ℕ) (s : Size) (ls ms ld : List ℕ) (c : Chain
     unfolding shownOf
     solvable-is n h = d .built .nodes n h .solvable ∙ ap solvableBy (node-in g s (c .stored) n h)
 
-    behind-is : (ns : List ℕ) → ((x : ℕ) → In x ns → x < s .nodes) → behindLength T p ns ≡ length (concatMap (λ m. utf8 " | " ++ versionOf S m) ns)
-    unfolding behindLength shownOf
-    behind-is [] f = refl
-    behind-is (m ∷ ns) f =
-        rw (solvable-is m (f m (inl refl)), length-append, length-append) (omega (arith, behind-is ns (λ x i. f x (inr i))))
-
     member-node : (n : ℕ) → n < s .nodes → (x : ℕ) → In x (membersOf S n) → x < s .nodes
     member-node n h x i =
         omega (arith, nodes-count g s (c .stored), in-upto (length (graphIn g s .nodes)) 0 x (in-filter (λ m. eqb (leadOf S m) (leadOf S n)) x (upto (length (graphIn g s .nodes)) 0) (rw (members-alike T (graphIn g s) n (inside n h)) at i) .1) .1)
 
-    first-member : (n : ℕ) → n < s .nodes → membersOf S n ≡ leadIn p n ∷ matesFrom p (mateIn p (leadIn p n))
-    unfolding membersIn
-    first-member n h =
-        let l : leadIn p n < 128 = rw (d .built .nodes n h .lead ∙ have .lead n h) (omega (arith, lead-node n h, c .stored .nodes-most)) in
-        let q : leadIn p n + 1 - 1 ≡ leadIn p n = omega arith in
-        sym (built-members T g s ls ms gr p k p have (d .built) nexts (λ i. refl) n h)
-        ∙ mates-more p (leadIn p n + 1) (omega arith) (omega arith) ∙ rw q
-
     size-is : (n : ℕ) → n < s .nodes → sizeIn T p n ≡ length (packageText S n)
     unfolding sizeIn shownOf
     size-is n h =
-        let m = first-member n h in
-        let f : (x : ℕ) → In x (leadIn p n ∷ matesFrom p (mateIn p (leadIn p n))) → x < s .nodes = λ x i. member-node n h x (rw m i) in
-        let v : List ℕ = concatMap (λ m. utf8 " | " ++ versionOf S m) (matesFrom p (mateIn p (leadIn p n))) in
-        rw (solvable-is n h, solvable-is (leadIn p n) (f (leadIn p n) (inl refl)), behind-is (matesFrom p (mateIn p (leadIn p n))) (λ x i. f x (inr i)))
-        (sym (three (nameText T (solvableName T (solvableOf S n))) (versionOf S (leadIn p n)) v)
-        ∙ ap (λ (l : List ℕ). length (nameText T (solvableName T (solvableOf S n)) ++ utf8 " " ++ joined S l)) (sym m))
+        ap length
+        (package-agrees T S p n refl (built-members T g s ls ms gr p k p have (d .built) nexts (λ i. refl) n h) (solvable-is n h)
+        (λ x i. solvable-is x (member-node n h x i)))
 
     pub assembled : (u : List ℕ) → SizesDone T p u (s .nodes) → Planned S u k
     unfolding headIn tailIn runIn

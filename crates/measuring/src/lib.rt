@@ -6,7 +6,8 @@ ghost use Rattle.records.specs.Read.{tablesOf};
 ghost use Rattle.records.specs.Views.{nameText, solvableName, versionText};
 ghost use Rattle.index.specs.Index.{Loaded};
 ghost use Rattle.plan.specs.Fields.{matesFrom};
-ghost use Rattle.measuring.specs.Lengths.{behindLength, sizeIn};
+ghost use Rattle.plan.specs.Texts.{versionsIn, furtherIn};
+ghost use Rattle.measuring.specs.Lengths.{sizeIn};
 ghost use Rattle.store.specs.Table.{graphIn};
 ghost use Rattle.links.specs.Build.{Chains};
 ghost use Rattle.plan.specs.Plan.{shownOf};
@@ -43,7 +44,7 @@ fn name_length(file: &[u8], ix: &[u16; 10432], n: u16) -> usize
 fn behind_length(file: &[u8], ix: &[u16; 10432], p: &[u64; 1280], x1: usize) -> usize
     requires { ⌜ Loaded (now file) (now ix) ⌝ }
     requires { ⌜ x1 < 256 ⌝ }
-    ensures { λ r. ⌜ (r ≡ behindLength (tablesOf (now (file .entry))) (now (p .entry)) (matesFrom (now (p .entry)) x1)) × (r ≤ 6912) ⌝ }
+    ensures { λ r. ⌜ (r ≡ length (versionsIn (tablesOf (now (file .entry))) (now (p .entry)) (matesFrom (now (p .entry)) x1))) × (r ≤ 6912) ⌝ }
 {
     let mut x = x1;
     let mut c: usize = 0;
@@ -57,6 +58,23 @@ fn behind_length(file: &[u8], ix: &[u16; 10432], p: &[u64; 1280], x1: usize) -> 
     c
 }
 
+// What stands behind the first version: the other members, or where they are more than five two of them, dots and the last.
+fn further_length(file: &[u8], ix: &[u16; 10432], p: &[u64; 1280], x: usize) -> usize
+    requires { ⌜ Loaded (now file) (now ix) ⌝ }
+    requires { ⌜ x < 256 ⌝ }
+    ensures { λ r. ⌜ (r ≡ length (furtherIn (tablesOf (now (file .entry))) (now (p .entry)) (matesFrom (now (p .entry)) x))) × (r ≤ 6912) ⌝ }
+{
+    let last = plan::last_of_many(p, x);
+    if last == 0 {
+        return behind_length(file, ix, p, x);
+    }
+    let y = plan::next_mate(p, x - 1);
+    let a = version_length(file, ix, plan::solvable(p, x - 1));
+    let b = version_length(file, ix, plan::solvable(p, y - 1));
+    let c = version_length(file, ix, plan::solvable(p, last - 1));
+    15 + a + b + c
+}
+
 fn size_of(file: &[u8], ix: &[u16; 10432], p: &[u64; 1280], n: usize) -> usize
     requires { ⌜ Loaded (now file) (now ix) ⌝ }
     ensures { λ r. ⌜ (r ≡ sizeIn (tablesOf (now (file .entry))) (now (p .entry)) n) × (r < 65536) ⌝ }
@@ -68,7 +86,7 @@ fn size_of(file: &[u8], ix: &[u16; 10432], p: &[u64; 1280], n: usize) -> usize
     let t = plan::solvable(p, l);
     let v = version_length(file, ix, t);
     let x = plan::next_mate(p, l);
-    let r = behind_length(file, ix, p, x);
+    let r = further_length(file, ix, p, x);
     a + (1 + (v + r))
 }
 

@@ -1,7 +1,9 @@
--- The display text of a package (document 01, "Explanation and graph text").
+-- The display text of a package (document 01, "Explanation and graph text"; a long group's as order 6 of document 02 has it).
 use mathlib.Core.Bool.{cond}
-use mathlib.Core.List.{List, [], _∷_, _++_}
+use mathlib.Core.List.{List, [], _∷_, _++_, map}
 use Prim.Native.Nat.{ℕ}
+use lib.ListN.{length, take}
+use lib.Dec.{ltb}
 use Rattle.basis.specs.Lists.{concatMap}
 use Rattle.basis.specs.Quote.{utf8}
 use Rattle.records.specs.Views.{nameText, solvableName, versionText}
@@ -17,6 +19,20 @@ solvableBy (N.Solvable s) = s
 solvableBy N.UnresolvedDependency = 0
 solvableBy (N.Excluded r) = 0
 
+-- the last of these texts, x where there are none
+abbrev pub lastOf : List ℕ → List (List ℕ) → List ℕ
+lastOf x [] = x
+lastOf x (y ∷ ys) = lastOf y ys
+
+-- order 6: "A group of more than six shows its first three versions, then ' | ... | ', then its last." These are then joined.
+abbrev pub displayed : List (List ℕ) → List (List ℕ)
+displayed vs = cond (ltb 6 (length vs)) (take 3 vs ++ (utf8 "..." ∷ lastOf [] vs ∷ [])) vs
+
+-- "versions joined by ' | '"
+abbrev pub joined : List (List ℕ) → List ℕ
+joined [] = []
+joined (v ∷ vs) = v ++ concatMap (λ w. utf8 " | " ++ w) vs
+
 module _ (S : Shown) where
   abbrev pub solvableOf : ℕ → ℕ
   solvableOf n = solvableBy (nodeAt (S .graph) n)
@@ -24,15 +40,10 @@ module _ (S : Shown) where
   abbrev pub versionOf : ℕ → List ℕ
   versionOf n = versionText (S .tables) (solvableOf n)
 
-  -- "versions joined by ' | '"
-  abbrev pub joined : List ℕ → List ℕ
-  joined [] = []
-  joined (n ∷ ns) = versionOf n ++ concatMap (λ m. utf8 " | " ++ versionOf m) ns
-
   -- the packages that a line names: a group in node order, or the one
   abbrev pub membersOf : ℕ → List ℕ
   membersOf n = cond (isMerged S n) (groupOf S n) (n ∷ [])
 
   -- "Solvable text: name, space, version; a group: name, space, versions joined"
   abbrev pub packageText : ℕ → List ℕ
-  packageText n = nameText (S .tables) (solvableName (S .tables) (solvableOf n)) ++ utf8 " " ++ joined (membersOf n)
+  packageText n = nameText (S .tables) (solvableName (S .tables) (solvableOf n)) ++ utf8 " " ++ joined (displayed (map versionOf (membersOf n)))

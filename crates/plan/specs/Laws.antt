@@ -1,3 +1,4 @@
 pub mod Marking
 pub mod Leads
 pub mod Reading
+pub mod Texts

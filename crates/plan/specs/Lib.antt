@@ -1,6 +1,7 @@
 pub mod Plan
 pub mod Display
 pub mod Fields
+pub mod Texts
 pub mod Like
 pub mod Planned
 pub mod Alike

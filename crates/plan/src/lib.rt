@@ -4,7 +4,8 @@ pub mod reading;
 
 ghost use mathlib.Core.Path.{_≡_};
 ghost use Prim.Native.Nat.{_<_};
-ghost use Rattle.plan.specs.Fields.{headIn, tailIn, runIn, runFirst, runEnd, tagIn, mergedIn, leadIn, mateField, mateIn, solvableIn, setsFirst, setsEnd, reasonIn, textLength, opensIn, kidFirst, kidEnd, requirementIn, wordingIn, kidAt, setAt};
+ghost use Rattle.plan.specs.Fields.{headIn, tailIn, runIn, runFirst, runEnd, tagIn, mergedIn, leadIn, mateField, mateIn, solvableIn, setsFirst, setsEnd, reasonIn, textLength, opensIn, kidFirst, kidEnd, requirementIn, wordingIn, kidAt, setAt, matesFrom};
+ghost use Rattle.plan.specs.Texts.{lastOfMany};
 
 fn head(p: &[u64; 1280], n: usize) -> u64
     ensures { λ r. ⌜ r ≡ headIn (now (p .entry)) n ⌝ }
@@ -86,6 +87,23 @@ pub fn next_mate(p: &[u64; 1280], n: usize) -> usize
         }
     }
     0
+}
+
+// One more than the number of the last of a group's members behind its first, where the group has more than six; else 0.
+// x1: one more than the number of the second, or 0.
+pub fn last_of_many(p: &[u64; 1280], x1: usize) -> usize
+    requires { ⌜ x1 < 256 ⌝ }
+    ensures { λ r. ⌜ (r ≡ lastOfMany (matesFrom (now (p .entry)) x1)) × (r < 256) ⌝ }
+{
+    let mut x = x1;
+    let mut c: usize = 0;
+    let mut l: usize = 0;
+    while 0 < x {
+        l = x;
+        c += 1;
+        x = next_mate(p, x - 1);
+    }
+    if 5 < c { l } else { 0 }
 }
 
 // The number of node n's solvable.

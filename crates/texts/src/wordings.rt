@@ -136,6 +136,14 @@ pub fn bar(out: &mut [u8]) -> usize
     put(out, b" | ")
 }
 
+pub fn dots(out: &mut [u8]) -> usize
+    requires { ⌜ 6 ≤ length (now out) ⌝ }
+    ensures { λ r. ⌜ r ≡ 6 ⌝ }
+    ensures { λ r. ⌜ Wrote (utf8 " | ...") (now (out .entry)) (now (out .exit)) r ⌝ }
+{
+    put(out, b" | ...")
+}
+
 pub fn space(out: &mut [u8]) -> usize
     requires { ⌜ 1 ≤ length (now out) ⌝ }
     ensures { λ r. ⌜ r ≡ 1 ⌝ }

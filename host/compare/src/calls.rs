@@ -125,8 +125,8 @@ fn same(trial: &Trial, theirs: oracle::Answer, ours: urzulempa::Answer, their_ro
     Err(format!("number, place, bytes, units, depth: conflict.rs {a:?}, port {b:?}; first byte that differs: {at:?}\n{texts}"))
 }
 
-/// Every call on a file: options 0, 1 and bad ones; rooms 0, exact, one short, random and ample; lists of edges with one number
-/// more as well; both editions and bad ones; the air profile.
+/// Every call on a file: options 0, 1 and bad ones; rooms 0, exact, one short, random and ample, and those that end within a group
+/// that is shown short; lists of edges with one number more as well; both editions and bad ones; the air profile.
 pub fn trials(file: &[u8], rng: &mut Rng) -> Vec<Trial> {
     let mut trials = vec![Trial { call: Call::Check, option: 0, room: 0, fill: 0 }];
     let whole = oracle::check(file).number == 0;
@@ -135,7 +135,8 @@ pub fn trials(file: &[u8], rng: &mut Rng) -> Vec<Trial> {
             let mut room = vec![0; AMPLE];
             let exact = if whole { measure(call, file, option, &mut room) } else { 0 };
             let some = (rng.next() % (exact as u64 + 40)) as usize;
-            for room in [0, exact, exact.saturating_sub(1), some, AMPLE] {
+            let rooms = [0, exact, exact.saturating_sub(1), some, AMPLE].into_iter().chain(dots(&room[..exact], rng, 2));
+            for room in rooms {
                 trials.push(Trial { call, option, room, fill: rng.next() });
             }
         }
@@ -169,6 +170,7 @@ pub fn air(file: &[u8], rng: &mut Rng, lines: usize) -> Vec<Trial> {
         let some = (rng.next() % (exact as u64 + 40)) as usize;
         let mut rooms = if exact == 0 { vec![0, some, 400 + (rng.next() % 2000) as usize] } else { vec![0, exact, exact - 1, exact + 1, some, AMPLE] };
         rooms.extend(line_ends(&room[..exact], rng, lines));
+        rooms.extend(dots(&room[..exact], rng, 1));
         trials.extend(rooms.into_iter().map(|room| Trial { call: Call::Air, option, room, fill: rng.next() }));
     }
     let bad = [2, 3, 255, 256, 1 << 32, (1 << 32) | 1, u64::MAX, rng.next() | 2][(rng.next() % 8) as usize];
@@ -186,6 +188,20 @@ fn line_ends(text: &[u8], rng: &mut Rng, lines: usize) -> Vec<usize> {
     ends.into_iter().flat_map(|end| [end - 1, end, end + 1]).collect()
 }
 
+/// What stands for the left-out versions of a long group (document 02, order 6).
+const DOTS: &[u8] = b" | ... | ";
+
+/// The places before, inside and behind the dots of at most so many groups of a text, chosen at random, and around the ends of their
+/// lines.
+fn dots(text: &[u8], rng: &mut Rng, groups: usize) -> Vec<usize> {
+    let mut found: Vec<usize> = text.windows(DOTS.len()).enumerate().filter(|(_, part)| *part == DOTS).map(|(at, _)| at).collect();
+    while found.len() > groups {
+        found.swap_remove((rng.next() % found.len() as u64) as usize);
+    }
+    let end = |at: usize| at + text[at..].iter().position(|byte| *byte == b'\n').map_or(0, |rest| rest + 1);
+    found.into_iter().flat_map(|at| (at..=at + DOTS.len()).chain([end(at).saturating_sub(1), end(at), end(at) + 1])).collect()
+}
+
 /// The explanation by edition: both with options 0 and 1, in rooms 0, exact, one short, one more, random and ample, and around the
 /// ends of at most so many lines; bad editions and bad options, each alone and both.
 pub fn editions(file: &[u8], rng: &mut Rng, lines: usize) -> Vec<Trial> {
@@ -198,6 +214,7 @@ pub fn editions(file: &[u8], rng: &mut Rng, lines: usize) -> Vec<Trial> {
             let exact = if whole { measure(call, file, option, &mut room) } else { 0 };
             let mut rooms = vec![0, exact, exact.saturating_sub(1), exact + 1, (rng.next() % (exact as u64 + 40)) as usize, AMPLE];
             rooms.extend(line_ends(&room[..exact], rng, lines));
+            rooms.extend(dots(&room[..exact], rng, 1));
             trials.extend(rooms.into_iter().map(|room| Trial { call, option, room, fill: rng.next() }));
         }
     }

@@ -86,24 +86,32 @@ impl Display for Single<'_, '_> {
     }
 }
 
-/// "a group: name, space, versions joined by ` | `", in member order and with equal versions
-/// shown as often as they come, unlike lib.rs's default.
+/// "a group: name, space, versions joined by ` | `", in member order and with equal versions shown as often as they come, unlike
+/// lib.rs's default. Document 02, order 6: "A group of more than six shows its first three versions, then ` | ... | `, then its
+/// last." Every text that shows a group comes through here.
 struct Merged<'p, 'a> {
     provider: &'p Provider<'a>,
     members: Vec<SolvableId>,
 }
 
+/// The most members of a group that are all shown.
+const ALL_SHOWN: usize = 6;
+
 impl Display for Merged<'_, '_> {
     fn fmt(&self, f: &mut fmt::Formatter<'_>) -> fmt::Result {
-        let provider = self.provider;
-        let Some((&solvable, others)) = self.members.split_first() else {
+        let tables = &self.provider.tables;
+        let solvables = self.members.iter().map(|m| tables.solvables[m.to_index()]);
+        let Some(first) = solvables.clone().next() else {
             return Ok(());
         };
-        Single { provider, solvable }.fmt(f)?;
-        for other in others {
-            write!(f, " | {}", provider.tables.solvables[other.to_index()].text)?;
+        let name = tables.names[usize::from(first.name)];
+        let versions: Vec<&str> = solvables.map(|solvable| solvable.text).collect();
+        match versions[..] {
+            [one, two, three, .., last] if versions.len() > ALL_SHOWN => {
+                write!(f, "{name} {one} | {two} | {three} | ... | {last}")
+            }
+            _ => write!(f, "{name} {}", versions.join(" | ")),
         }
-        Ok(())
     }
 }
 

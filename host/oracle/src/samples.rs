@@ -144,6 +144,83 @@ pub fn equal_fingerprints() -> Vec<u8> {
     d.file()
 }
 
+/// What the line of a package says behind its text.
+#[derive(Clone, Copy, Debug, PartialEq, Eq)]
+pub enum Line {
+    Excluded,
+    Bare,
+    Forbidden,
+    Constraining,
+    Requiring,
+}
+
+impl Line {
+    pub const ALL: [Line; 5] = [
+        Line::Excluded,
+        Line::Bare,
+        Line::Forbidden,
+        Line::Constraining,
+        Line::Requiring,
+    ];
+
+    /// Gives each of these packages the edges by which its line says this, the same for each, so that they still merge; `x` is a
+    /// package of name 0 beside them.
+    pub fn give(self, d: &mut Draft, x: u16, members: &[u16]) {
+        match self {
+            Line::Excluded => {
+                let reason = d.reason("it was recalled");
+                for &one in members {
+                    d.excludes(one, reason);
+                }
+            }
+            Line::Bare => {}
+            Line::Forbidden => {
+                // Each is linked to the next, so that x has to stand between any two, and at both ends.
+                d.forbid(x, 0);
+                for &one in members {
+                    d.forbid(one, 0);
+                    d.forbid(x, 0);
+                }
+            }
+            Line::Constraining => {
+                let set = d.version_set(0, "<1");
+                for &one in members {
+                    d.constrains(one, x, set);
+                }
+            }
+            Line::Requiring => {
+                let wish = d.requirement("driver 12", &[]);
+                for &one in members {
+                    let variable = d.of(one);
+                    d.requires(variable, wish);
+                }
+            }
+        }
+    }
+}
+
+/// So many builds of one codec, which are alike and merge. x keeps unresolved, and so the builds stand in their order.
+pub fn builds(members: usize, line: Line) -> Vec<u8> {
+    let mut d = Draft::new();
+    let x = d.package("x", "1");
+    let codec = d.name("codec");
+    let builds: Vec<u16> = (1..=members)
+        .map(|build| d.solvable(codec, &format!("9.0-b{build:03}")))
+        .collect();
+    d.root_needs("x *", &[x]);
+    d.needs(x, "panel 5", &[]);
+    d.root_needs("codec *", &builds);
+    line.give(&mut d, x, &builds);
+    d.file()
+}
+
+/// Groups around the six that are all shown, and one as large as a graph holds with all else, behind each kind of line.
+pub fn groups() -> Vec<(String, Vec<u8>)> {
+    let sizes = [5, 6, 7, 8, 120];
+    let each = |line| sizes.map(|size| (format!("{size} builds, {line:?}"), builds(size, line)));
+    Line::ALL.into_iter().flat_map(each).collect()
+}
+
 /// The sample files by name.
 pub fn all() -> Vec<(&'static str, Vec<u8>)> {
     vec![

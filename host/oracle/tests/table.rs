@@ -56,28 +56,49 @@ fn files() {
     assert_eq!(quoted(&spec, "pub desk-file : "), printed(&desk()));
 }
 
+/// A file's text by the oracle is the list of lines of this name.
+fn same_text(name: &str, file: &[u8], option: u64) {
+    let mut room = [0; 4_096];
+    let answer = oracle::explain(file, option, &mut room);
+    let text: String = quoted(&spec("Texts.antt"), &format!("abbrev pub {name} : "))
+        .iter()
+        .map(|line| format!("{line}\n"))
+        .collect();
+    assert_eq!(
+        String::from_utf8_lossy(&room[..answer.bytes as usize]),
+        text,
+        "{name}"
+    );
+}
+
 #[test]
 #[cfg_attr(not(has_conflict_rs), ignore = "needs conflict.rs")]
 fn texts() {
-    let spec = spec("Texts.antt");
-    for (name, file, option) in [
-        ("replayLines", samples::replay(), 0),
-        ("indentedLines", samples::replay(), 1),
-        ("deckLines", samples::deck_and_panel(), 0),
-        ("pairLines", samples::merged_pair(), 0),
-        ("loneLines", samples::lone_package(), 0),
-        ("deskLines", desk(), 0),
-    ] {
-        let mut room = [0; 4_096];
-        let answer = oracle::explain(&file, option, &mut room);
-        let text: String = quoted(&spec, &format!("abbrev pub {name} : "))
-            .iter()
-            .map(|line| format!("{line}\n"))
-            .collect();
-        assert_eq!(
-            String::from_utf8_lossy(&room[..answer.bytes as usize]),
-            text,
-            "{name}"
-        );
-    }
+    same_text("replayLines", &samples::replay(), 0);
+    same_text("indentedLines", &samples::replay(), 1);
+    same_text("deckLines", &samples::deck_and_panel(), 0);
+    same_text("pairLines", &samples::merged_pair(), 0);
+    same_text("loneLines", &samples::lone_package(), 0);
+    same_text("deskLines", &desk(), 0);
+}
+
+/// The root requires so many versions of x, from 0 on, which merge.
+fn wide(members: u16) -> Vec<u8> {
+    let mut d = Draft::new();
+    let name = d.name("x");
+    let all: Vec<u16> = (0..members)
+        .map(|version| d.solvable(name, &version.to_string()))
+        .collect();
+    d.root_needs("x *", &all);
+    d.file()
+}
+
+/// Document 02, order 6.
+#[test]
+#[cfg_attr(not(has_conflict_rs), ignore = "needs conflict.rs")]
+fn texts_of_groups() {
+    same_text("sixLines", &wide(6), 0);
+    same_text("sevenLines", &wide(7), 0);
+    same_text("eightLines", &wide(8), 0);
+    same_text("wideLines", &wide(126), 0);
 }

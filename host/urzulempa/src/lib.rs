@@ -97,6 +97,16 @@ pub const MOST_AIR_NODES: usize = 64;
 pub const MOST_EDGES: usize = 1_024;
 
 /// Writes the explanation into the room; option 1 indents the top level, 0 does not, any other is refused.
+///
+/// A merge group of up to six packages shows all its versions, a larger one its first three, ` | ... | ` and its last, here and in the
+/// other explanations.
+///
+/// ```
+/// let file = include_bytes!("../../../samples/rack.rec");
+/// let (_, text) = urzulempa::grown(1 << 20, |room| urzulempa::explain(file, 0, room));
+/// let text = String::from_utf8_lossy(&text);
+/// assert!(text.contains("codec 9.0-b01 | 9.0-b02 | 9.0-b03 | ... | 9.0-b20 would require\n"));
+/// ```
 pub fn explain(file: &[u8], option: u64, room: &mut [u8]) -> Answer {
     ffi::explain(file, option, room)
 }

@@ -14,7 +14,8 @@ use urzulempa::{check, edges, explain_air, graphviz, grown, repaired, Answer, Ed
 const HELP: &str = "\
 urzulempa: why a load of packages has no solution, from a file of clause records
 
-  urzulempa explain FILE [--indent] [--room N]   the explanation; --indent draws the top level too
+  urzulempa explain FILE [--indent] [--room N]   the explanation; --indent draws the top level too; packages that are alike share
+                                                 a line, with all their versions up to six, else the first three, ... and the last
             [--edition E]                        E is 1, the Rust's rules and the default, by which a text may have no end, or 2,
                                                  by which every package is shown once and a text always ends
             [--air]                              only what is safe on air: a load without a lock in its core, without a cycle, and

@@ -40,6 +40,30 @@ fn explain_prints_the_text_and_nothing_else() {
 }
 
 #[test]
+fn a_long_group_shows_its_first_three_versions_and_its_last() {
+    let out = run(&["explain", "-"], RACK);
+    assert_eq!(out.status.code(), Some(0));
+    let wanted = "\
+panel 5 can be installed with any of the following options:
+└─ panel 5 would require
+   └─ driver 11, which can be installed with any of the following options:
+      └─ driver 11
+deck * cannot be installed because there are no viable options:
+├─ deck 3.1 would require
+│  └─ codec >=9, which cannot be installed because there are no viable options:
+│     └─ codec 9.0-b01 | 9.0-b02 | 9.0-b03 | ... | 9.0-b20 would require
+│        └─ driver >=12, which cannot be installed because there are no viable options:
+│           └─ driver 12, which conflicts with the versions reported above.
+└─ deck 2.4 would require
+   └─ codec >=7,<9, which cannot be installed because there are no viable options:
+      ├─ codec 7.2-b01 | 7.2-b02 | 7.2-b03 | ... | 7.2-b10 is excluded because it was recalled
+      └─ codec 7.2-b11 | 7.2-b12 | 7.2-b13 | ... | 7.2-b20 would constrain
+         └─ panel <5, which conflicts with any installable versions previously reported
+";
+    assert_eq!(said(&out.stdout), wanted);
+}
+
+#[test]
 fn a_refusal_is_said_with_the_record_that_it_points_at() {
     let mut file = REPLAY.to_vec();
     file[32 * 5 + 4] = 9;

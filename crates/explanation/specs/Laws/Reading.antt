@@ -20,7 +20,7 @@ use Rattle.machine.specs.Edition.{reading, edited}
 use Rattle.machine.specs.Laws.Edition.{edited-most}
 use Rattle.plan.specs.Plan.{Shown, shownOf, planOf, popped, isMerged, leadOf}
 use Rattle.plan.specs.Display.{solvableOf}
-use Rattle.plan.specs.Fields.{planIn, startIn, runsIn, kidsIn, solvableIn, membersIn}
+use Rattle.plan.specs.Fields.{planIn, startIn, runsIn, kidsIn, solvableIn}
 use Rattle.plan.specs.Planned.{Planned, RunIs}
 use Rattle.plan.specs.Like.{Each, Same, same-run, same-kid, explained-same}
 use Rattle.plan.specs.Counting.{grouped}
@@ -28,7 +28,9 @@ use Rattle.plan.specs.Laws.Marking.{Reads}
 use Rattle.plan.specs.Laws.Leads.{alone, edition-counted}
 use Rattle.plan.specs.Laws.Reading.{rows-same, kids-same, sets-same, reason-same, size-same, members-same, requirement-same, wording-same, read-alike}
 use Rattle.lines.specs.Lines.{topOf, linesOf}
-use Rattle.lines.specs.Said.{linesIn, packageIn, joinedIn, versionsIn, nextVersion, packageAll, packageSaid}
+use Rattle.plan.specs.Texts.{packageIn}
+use Rattle.plan.specs.Laws.Texts.{package-alike}
+use Rattle.lines.specs.Said.{linesIn, packageAll, packageSaid}
 use Rattle.lines.specs.Same.{run-same, kid-same, package-same}
 use Rattle.explanation.specs.Walk.{Ready, Answered}
 use Rattle.explanation.specs.declared.walk.Told.{Told}
@@ -38,18 +40,8 @@ use Rattle.explanation.specs.Laws.Solvables.{solvables-most, some-node}
 -- ---- the lines that are read from q are p's
 
 module _ (every : Bool) (p q k : List ℕ) (m : Reads every p q) (T : Tables) where
-  versions-read : (ns : List ℕ) → versionsIn T q ns ≡ versionsIn T p ns
-  unfolding versionsIn
-  versions-read [] = refl
-  versions-read (n ∷ ns) = rw (m .solvable n) (ap (λ (l : List ℕ). nextVersion T (solvableIn p n) ++ l) (versions-read ns))
-
-  joined-read : (ns : List ℕ) → joinedIn T q ns ≡ joinedIn T p ns
-  joined-read [] = refl
-  joined-read (n ∷ ns) = rw (m .solvable n, versions-read ns)
-
   package-read : (n : ℕ) → packageIn T q n ≡ packageIn T p n
-  unfolding packageIn
-  package-read n = rw (m .solvable n, members-same every p q k m n, joined-read (membersIn p n))
+  package-read n = package-alike T p q n (members-same every p q k m n) (m .solvable)
 
   run-read : (top : Bool) (r : ℕ) (ms : List Bool) (b : List ℕ)
       → linesIn T q k top (entry (requirement r) ms b) ≡ linesIn T p k top (entry (requirement r) ms b)

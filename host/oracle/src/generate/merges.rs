@@ -4,6 +4,7 @@ use super::texts;
 use crate::draft::Draft;
 use crate::reader::kind;
 use crate::rng::Rng;
+use crate::samples::Line;
 
 /// Names of equal text, so that solvables of two name records merge; versions may be equal too.
 pub fn by_text(rng: &mut Rng) -> Vec<u8> {
@@ -109,5 +110,75 @@ fn ways_in(rng: &mut Rng, d: &mut Draft, parents: &[u16], members: &[u16]) {
         if rng.chance(40) {
             return;
         }
+    }
+}
+
+/// A group around the six that are all shown.
+pub fn around_six(rng: &mut Rng) -> Vec<u8> {
+    let members = rng.between(5, 8);
+    alike(rng, members)
+}
+
+/// A group that is shown short.
+pub fn long(rng: &mut Rng) -> Vec<u8> {
+    let members = *rng.pick(&[7, 8, 9, 13, 40]);
+    alike(rng, members)
+}
+
+/// A group near the largest that a graph holds.
+pub fn longest(rng: &mut Rng) -> Vec<u8> {
+    let members = rng.between(100, 122);
+    alike(rng, members)
+}
+
+/// So many packages that merge, by way of the root or of x or of both, at times with one more among them that does not.
+fn alike(rng: &mut Rng, members: usize) -> Vec<u8> {
+    let mut d = Draft::new();
+    let x = d.package("x", "1");
+    let names = [d.name("codec"), d.name("codec")];
+    let builds: Vec<u16> = (0..members)
+        .map(|_| {
+            let version = build(rng);
+            d.solvable(*rng.pick(&names), &version)
+        })
+        .collect();
+    let mut candidates = builds.clone();
+    if rng.chance(30) {
+        let stray = d.solvable(names[0], "stray");
+        candidates.insert(rng.below(members + 1), stray);
+        d.needs(stray, "x *", &[x]);
+    }
+    let parents = [d.root(), d.of(x)];
+    d.root_needs("x *", &[x]);
+    for &parent in match rng.below(3) {
+        0 => &parents[..1],
+        1 => &parents[1..],
+        _ => &parents[..],
+    } {
+        let text = texts::wish(rng);
+        let wish = d.requirement(&text, &candidates);
+        d.requires(parent, wish);
+    }
+    if rng.chance(50) {
+        d.root_needs("panel 5", &[]);
+    }
+    let line = *rng.pick(&Line::ALL);
+    line.give(&mut d, x, &builds);
+    // In another order the forbidden ones would be linked to each other.
+    match line {
+        Line::Forbidden if rng.chance(50) => d.woven(rng),
+        Line::Forbidden => d.file(),
+        _ => d.stirred(rng),
+    }
+}
+
+/// A version, at times one that looks like what stands for the left-out ones, or as long as one can be.
+fn build(rng: &mut Rng) -> String {
+    match rng.below(12) {
+        0 => "...".to_string(),
+        1 => " | ... | ".to_string(),
+        2 => format!("9.{:022}", rng.below(100)),
+        3 => texts::odd(rng),
+        _ => format!("9.{}", rng.below(200)),
     }
 }

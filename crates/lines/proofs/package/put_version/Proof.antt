@@ -1,5 +1,5 @@
 use borrow.Author.Needs.{needs}
-use Rattle.lines.specs.PackageLaws.{version-room, version-wrote}
+use Rattle.lines.specs.PackageLaws.{version-room, version-count, version-wrote}
 use Rattle.lines.proofs.package.put_version.Statement.{statement}
 use Rattle.lines.proofs.package.put_version.Tie as tie
 
@@ -7,4 +7,4 @@ pub put-version-spec : {M : Type 1} → statement M
 put-version-spec =
     tie.close
     (tie.spec
-    (λ c κs. search needs) (λ c κs. search version-room) (λ c. search needs) (λ c. search version-wrote))
+    (λ c κs. search needs) (λ c κs. search version-room) (λ c. search needs) (λ c. (search version-count, search version-wrote)))

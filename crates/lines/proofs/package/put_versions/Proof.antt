@@ -5,7 +5,7 @@ use mathlib.Core.Path.{_≡_}
 use lib.ListN.{length}
 use Rattle.records.specs.Read.{tablesOf}
 use Rattle.plan.specs.Fields.{matesFrom}
-use Rattle.lines.specs.Said.{versionsIn}
+use Rattle.plan.specs.Texts.{versionsIn}
 use Rattle.lines.proofs.package.put_versions.Statement.{statement}
 use Rattle.lines.proofs.package.put_versions.Tie as tie
 
