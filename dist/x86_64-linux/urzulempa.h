@@ -43,10 +43,10 @@ typedef struct {
     uint64_t number, place, bytes, replaced, dropped;
 } urzulempa_salvaged;
 
-/* The explanation; option 1 indents the top level. Packages that are alike share a line: up to six show all their versions, more of them
- * the first three, " | ... | " and the last, here and in the other explanations. */
+/* The explanation; option 1 indents the top level, 0 does not. Packages that are alike share a line: up to six show all their versions,
+ * more of them the first three, " | ... | " and the last, here and in the other explanations. */
 urzulempa_answer urzulempa_explain(const uint8_t *file, size_t file_len, uint64_t option, uint8_t *room, size_t room_len);
-/* The same with option 0. */
+/* A plain call: the same with option 1, the top level indented. Where a log or a feed needs it flat, name option 0 in urzulempa_explain. */
 urzulempa_answer urzulempa_explain_plain(const uint8_t *file, size_t file_len, uint8_t *room, size_t room_len);
 /* The explanation by the rules of an edition. In edition 1 it is that of urzulempa_explain. In edition 2 every package, merged or
  * not, is reported when first shown and skipped afterwards: 11 is never given, and with room the text is whole. */

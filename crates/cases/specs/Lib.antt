@@ -6,6 +6,7 @@ pub mod Bound
 pub mod Room
 pub mod Right
 pub mod Wrong
+pub mod Plain
 pub mod Short
 pub mod Editions
 pub mod Air

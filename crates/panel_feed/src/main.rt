@@ -1,7 +1,7 @@
-// What a small panel of 40 columns shows of each record file that the arguments name: the plain explanation in a room of 320 bytes,
-// the whole lines that fit, each cut to the panel's width, and below them whether there is more.
+// What a small panel of 40 columns shows of each record file that the arguments name: the explanation with option 0 in a room of 320
+// bytes, the whole lines that fit, each cut to the panel's width, and below them whether there is more.
 use urzulempa::Answer;
-use urzulempa::urzulempa_explain_plain;
+use urzulempa::urzulempa_explain;
 ghost use mathlib.Core.Path.{_≡_};
 ghost use Prim.Native.Nat.{_-_, _≤_, min};
 ghost use lib.ListN.{length};
@@ -134,7 +134,7 @@ fn say_text(room: &[u8], bytes: u64) {
 
 fn feed(file: &[u8]) {
     let mut room = [0u8; 320];
-    let a = urzulempa_explain_plain(file, &mut room);
+    let a = urzulempa_explain(file, 0, &mut room);
     say_text(&room, a.bytes);
     say_status(a);
 }

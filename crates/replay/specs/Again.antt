@@ -8,6 +8,7 @@ use native.Mathlib.Decide.{decLe}
 use lib.Dec.{leb}
 use borrow.Author.Tests.{le-leb, lt-leb}
 use Rattle.basis.specs.Members.{clash}
+use Rattle.urzulempa.specs.Plain.{plainOption}
 use Rattle.replay.specs.declared.calls.Seen.{Seen}
 use Rattle.replay.specs.Head.{callIn, optionIn, roomIn, recordedIn}
 use Rattle.replay.specs.Seen.{Told, told-one, Aired, aired-one, blank, blankNumbers, checkedIn, drawnIn, listedIn, edgedIn, mendedIn, replacedIn}
@@ -34,7 +35,7 @@ mendsIn file n = cond (leb n 8192) (replacedIn file (blank 65536) (blankNumbers 
 unfoldable pub Replayed : List ℕ → ℕ → ℕ → ℕ → Seen → Type 0
 Replayed file zero opt n r = r ≡ checkedIn file
 Replayed file (suc zero) opt n r = Told 1 file opt (blank n) r
-Replayed file (suc (suc zero)) opt n r = Told 1 file 0 (blank n) r
+Replayed file (suc (suc zero)) opt n r = Told 1 file plainOption (blank n) r
 Replayed file (suc (suc (suc zero))) opt n r = r ≡ drawnIn file opt (blank n)
 Replayed file (suc (suc (suc (suc zero)))) opt n r = Listing file n r
 Replayed file (suc (suc (suc (suc (suc zero))))) opt n r = r ≡ edgesIn file n
@@ -73,7 +74,7 @@ pub replayed-one : (file : List ℕ) (call opt n : ℕ) (r q : Seen) → Replaye
 unfolding Replayed
 replayed-one file zero opt n r q R Q = R ∙ sym Q
 replayed-one file (suc zero) opt n r q R Q = told-one 1 file opt (blank n) r q R Q
-replayed-one file (suc (suc zero)) opt n r q R Q = told-one 1 file 0 (blank n) r q R Q
+replayed-one file (suc (suc zero)) opt n r q R Q = told-one 1 file plainOption (blank n) r q R Q
 replayed-one file (suc (suc (suc zero))) opt n r q R Q = R ∙ sym Q
 replayed-one file (suc (suc (suc (suc zero)))) opt n r q R Q = listing-one file n r q R Q
 replayed-one file (suc (suc (suc (suc (suc zero))))) opt n r q R Q = R ∙ sym Q
@@ -137,7 +138,7 @@ module _ (file : List ℕ) (call opt n : ℕ) (r : Seen) where
   unfolding Replayed
   at-explain q e = rw q e
 
-  pub at-plain : call ≡ 2 → Told 1 file 0 (blank n) r → Replayed file call opt n r
+  pub at-plain : call ≡ 2 → Told 1 file plainOption (blank n) r → Replayed file call opt n r
   unfolding Replayed
   at-plain q e = rw q e
 

@@ -4,6 +4,7 @@ ghost use Prim.Native.Nat.{_≤_};
 ghost use Rattle.replay.specs.Seen.{seenOf, Told, Aired, blank, blankNumbers, checkedIn, drawnIn, listedIn, edgedIn, mendedAs, mendedIn, replacedIn};
 ghost use Rattle.replay.specs.Again.{Listing, Replayed, noCall, edgesIn, mendsIn};
 ghost use Rattle.urzulempa.specs.Nodes.{answerOf};
+ghost use Rattle.urzulempa.specs.Plain.{plainOption};
 use crate::sums::sum;
 use crate::sums::sum_entries;
 use crate::sums::sum_numbers;
@@ -64,7 +65,7 @@ fn explain(file: &[u8], option: u64, n: usize) -> Seen
 }
 
 fn told_plainly(file: &[u8], room: &mut [u8]) -> Seen
-    ensures { λ r. ⌜ Told 1 (now (file .entry)) 0 (now (room .entry)) r ⌝ }
+    ensures { λ r. ⌜ Told 1 (now (file .entry)) plainOption (now (room .entry)) r ⌝ }
 {
     let a = urzulempa_explain_plain(file, room);
     joined(a, sum(room))
@@ -72,7 +73,7 @@ fn told_plainly(file: &[u8], room: &mut [u8]) -> Seen
 
 fn plain(file: &[u8], n: usize) -> Seen
     requires { ⌜ n ≤ 65536 ⌝ }
-    ensures { λ r. ⌜ Told 1 (now (file .entry)) 0 (blank n) r ⌝ }
+    ensures { λ r. ⌜ Told 1 (now (file .entry)) plainOption (blank n) r ⌝ }
 {
     let mut room = [165u8; 65536];
     told_plainly(file, &mut room[..n])

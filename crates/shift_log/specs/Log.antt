@@ -17,7 +17,7 @@ counted s (suc n) = record { done = s .done; refused = (s .refused + 1) % 2 ^ 64
 abbrev pub unreadMore : Shift → Shift
 unreadMore s = record { done = s .done; refused = s .refused; unread = (s .unread + 1) % 2 ^ 64 }
 
--- r is the number of the plain explanation's answer for the file in an empty room of 65,536 bytes
+-- r is the number of the answer to option 0, which the log names (document 02, order 2), for the file in an empty room of 65,536 bytes
 pub record Numbered (file : List ℕ) (r : ℕ) : Type 0 where
   pub answer : Answer
   pub left : List ℕ

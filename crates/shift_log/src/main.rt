@@ -1,6 +1,6 @@
-// The log of a shift: for each record file that the arguments name, what the plain explanation answers, in words, and its text.
+// The log of a shift: for each record file that the arguments name, what the explanation with option 0 answers, in words, and its text.
 use urzulempa::Answer;
-use urzulempa::urzulempa_explain_plain;
+use urzulempa::urzulempa_explain;
 ghost use mathlib.Core.Path.{_≡_};
 ghost use Prim.Native.Nat.{_≤_, min};
 ghost use Rattle.shift_log.specs.Log.{Numbered, counted, unreadMore};
@@ -120,7 +120,7 @@ fn tell(file: &[u8]) -> u64
     ensures { λ r. ⌜ Numbered (now (file .entry)) r ⌝ }
 {
     let mut room = [0u8; 65536];
-    let a = urzulempa_explain_plain(file, &mut room);
+    let a = urzulempa_explain(file, 0, &mut room);
     say_result(a);
     say_counts(a);
     say_text(&room, a.bytes);

@@ -26,6 +26,7 @@ ghost use Rattle.urzulempa.specs.Air.{SaysAir};
 ghost use Rattle.urzulempa.specs.Answers.{checkOf};
 ghost use Rattle.urzulempa.specs.Draws.{resultAnswer, drawFile};
 ghost use Rattle.urzulempa.specs.Edges.{edgesAnswer, edgesLeft};
+ghost use Rattle.urzulempa.specs.Plain.{plainOption};
 ghost use Rattle.urzulempa.specs.Says.{Says};
 
 // Refusals 1 to 9, and no text.
@@ -100,12 +101,12 @@ pub extern "C" fn urzulempa_explain(file: &[u8], option: u64, room: &mut [u8]) -
     urzulempa_explain_edition(file, 1, option, room)
 }
 
-// The explanation by a plain call, which means option 0.
+// The explanation by a plain call, which means option 1 (order 2).
 #[no_mangle]
 pub extern "C" fn urzulempa_explain_plain(file: &[u8], room: &mut [u8]) -> Answer
-    ensures { λ r. ⌜ Says 1 (now (file .entry)) 0 (now (room .entry)) (now (room .exit)) r ⌝ }
+    ensures { λ r. ⌜ Says 1 (now (file .entry)) plainOption (now (room .entry)) (now (room .exit)) r ⌝ }
 {
-    urzulempa_explain(file, 0, room)
+    urzulempa_explain(file, 1, room)
 }
 
 // The explanation by edition 1 of a file that the air profile takes (order 9): 15 for a Lock in the core, 16 for more than 64 nodes,

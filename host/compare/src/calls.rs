@@ -48,7 +48,7 @@ impl Trial {
         let (a, b) = match self.call {
             Call::Graph => (oracle::graphviz(file, self.option, &mut theirs), urzulempa::graphviz(file, self.option, &mut ours)),
             Call::Air => (oracle::explain_air(file, self.option, &mut theirs), urzulempa::explain_air(file, self.option, &mut ours)),
-            Call::Plain => (oracle::explain(file, 0, &mut theirs), urzulempa::explain_plain(file, &mut ours)),
+            Call::Plain => (oracle::explain_plain(file, &mut theirs), urzulempa::explain_plain(file, &mut ours)),
             // "Edition 1 stays for the archive and remains the Rust's."
             Call::Edition(1) => (oracle::explain(file, self.option, &mut theirs), urzulempa::explain_edition(file, 1, self.option, &mut ours)),
             Call::Edition(e) => (oracle::explain_edition(file, e, self.option, &mut theirs), urzulempa::explain_edition(file, e, self.option, &mut ours)),
@@ -125,8 +125,8 @@ fn same(trial: &Trial, theirs: oracle::Answer, ours: urzulempa::Answer, their_ro
     Err(format!("number, place, bytes, units, depth: conflict.rs {a:?}, port {b:?}; first byte that differs: {at:?}\n{texts}"))
 }
 
-/// Every call on a file: options 0, 1 and bad ones; rooms 0, exact, one short, random and ample, and those that end within a group
-/// that is shown short; lists of edges with one number more as well; both editions and bad ones; the air profile.
+/// Every call on a file: options 0, 1 and bad ones; rooms 0, exact, one short, random and ample, for the plain call one more as well, and
+/// those that end within a group that is shown short; lists of edges with one number more; both editions and bad ones; the air profile.
 pub fn trials(file: &[u8], rng: &mut Rng) -> Vec<Trial> {
     let mut trials = vec![Trial { call: Call::Check, option: 0, room: 0, fill: 0 }];
     let whole = oracle::check(file).number == 0;
@@ -143,7 +143,10 @@ pub fn trials(file: &[u8], rng: &mut Rng) -> Vec<Trial> {
         let bad = [2, 3, 255, 256, 1 << 32, u64::MAX, rng.next() | 2][(rng.next() % 7) as usize];
         trials.push(Trial { call, option: bad, room: (rng.next() % 300) as usize, fill: rng.next() });
     }
-    trials.push(Trial { call: Call::Plain, option: 0, room: (rng.next() % 2000) as usize, fill: rng.next() });
+    let plain = if whole { measure(Call::Plain, file, 0, &mut vec![0; AMPLE]) } else { 0 };
+    for room in [plain, plain.saturating_sub(1), plain + 1, (rng.next() % 2000) as usize] {
+        trials.push(Trial { call: Call::Plain, option: 0, room, fill: rng.next() });
+    }
     let nodes = if whole { count_nodes(file) } else { 0 };
     for room in [0, nodes, nodes.saturating_sub(1), (rng.next() % 129) as usize, 128] {
         trials.push(Trial { call: Call::Nodes, option: 0, room, fill: rng.next() });
@@ -235,6 +238,7 @@ pub fn editions(file: &[u8], rng: &mut Rng, lines: usize) -> Vec<Trial> {
 fn measure(call: Call, file: &[u8], option: u64, room: &mut [u8]) -> usize {
     let answer = match call {
         Call::Graph => oracle::graphviz(file, option, room),
+        Call::Plain => oracle::explain_plain(file, room),
         Call::Edition(edition) => oracle::explain_edition(file, edition, option, room),
         Call::Air => oracle::explain_air(file, option, room),
         _ => oracle::explain(file, option, room),

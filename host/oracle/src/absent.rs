@@ -89,6 +89,10 @@ pub fn explain(_: &[u8], _: u64, _: &mut [u8]) -> Answer {
     absent()
 }
 
+pub fn explain_plain(_: &[u8], _: &mut [u8]) -> Answer {
+    absent()
+}
+
 pub fn explain_edition(_: &[u8], _: u64, _: u64, _: &mut [u8]) -> Answer {
     absent()
 }

@@ -181,6 +181,11 @@ pub fn explain(file: &[u8], option: u64, room: &mut [u8]) -> Answer {
     })
 }
 
+/// The explanation by a plain call: "A plain call now means option 1" (document 02, order 2).
+pub fn explain_plain(file: &[u8], room: &mut [u8]) -> Answer {
+    explain(file, 1, room)
+}
+
 /// The explanation by the rules of an edition. "12 for a bad edition or option, place 0, before all others."
 pub fn explain_edition(file: &[u8], edition: u64, option: u64, room: &mut [u8]) -> Answer {
     answered(|| {

@@ -1,8 +1,8 @@
 //! The test oracle: conflict.rs as it is, over real petgraph and itertools, behind the calls that
 //! document 01 describes and document 02 adds. Small stand-ins take the place of the solver's types.
 //!
-//! [`explain`], [`explain_edition`], [`explain_air`], [`graphviz`], [`check`], [`nodes`] and
-//! [`edges`] take any bytes. [`Problem`] and its [`Model`] are the same in steps, for many calls on one file. Where
+//! [`explain`], [`explain_plain`], [`explain_edition`], [`explain_air`], [`graphviz`], [`check`],
+//! [`nodes`] and [`edges`] take any bytes. [`Problem`] and its [`Model`] are the same in steps, for many calls on one file. Where
 //! conflict.rs could not be had at build time, [`AVAILABLE`] is false and these must not be called;
 //! the reader, the generator, the samples and [`salvage`], which the Rust does not have, are there
 //! all the same.
@@ -41,8 +41,8 @@ mod calls;
 
 pub use answer::{Answer, Edge, Edition, Node, Refusal, Rules, Salvaged};
 pub use calls::{
-    check, edges, explain, explain_air, explain_edition, graphviz, nodes, rewritten, rules,
-    written, Model, Problem,
+    check, edges, explain, explain_air, explain_edition, explain_plain, graphviz, nodes, rewritten,
+    rules, written, Model, Problem,
 };
 
 pub use salvage::salvage;

@@ -18,7 +18,7 @@ usage: oracle cases                        P1 to P11 of document 01 on the real 
        oracle samples DIR                  the sample files
        oracle record OUT                   the recorded answers that crates/replay replays
        oracle written OUT                  samples/replay.rec, as a solver would write it (src/writer.rs)
-FILE may be -. Status: 0 done, 2 a refusal, 1 trouble, 64 wrong usage, 77 without conflict.rs.";
+FILE may be -. OPTION is 1 for an explanation and 0 for the graph text where it is not given, as in a plain call. Status: 0 done, 2 a refusal, 1 trouble, 64 wrong usage, 77 without conflict.rs.";
 
 /// The status by which test scripts know a step to skip.
 const SKIPPED: u8 = 77;
@@ -88,16 +88,16 @@ fn run(args: &[&str]) -> Result<u8, String> {
             Ok(SKIPPED)
         }
         ["cases"] => with_conflict::cases(),
-        ["explain", file, ref rest @ ..] => with_conflict::text(oracle::explain, file, rest),
+        ["explain", file, ref rest @ ..] => with_conflict::text(oracle::explain, 1, file, rest),
         ["edition", file, edition, ref rest @ ..] => {
             let edition = number(edition)?;
             let call = move |file: &[u8], option, room: &mut [u8]| {
                 oracle::explain_edition(file, edition, option, room)
             };
-            with_conflict::text(call, file, rest)
+            with_conflict::text(call, 1, file, rest)
         }
-        ["air", file, ref rest @ ..] => with_conflict::text(oracle::explain_air, file, rest),
-        ["graph", file, ref rest @ ..] => with_conflict::text(oracle::graphviz, file, rest),
+        ["air", file, ref rest @ ..] => with_conflict::text(oracle::explain_air, 1, file, rest),
+        ["graph", file, ref rest @ ..] => with_conflict::text(oracle::graphviz, 0, file, rest),
         ["nodes", file] => with_conflict::nodes(file),
         ["edges", file] => with_conflict::edges(file),
         ["check", file] => with_conflict::check(file),
@@ -140,11 +140,12 @@ mod with_conflict {
 
     pub fn text(
         call: impl Fn(&[u8], u64, &mut [u8]) -> Answer,
+        unnamed: u64,
         file: &str,
         rest: &[&str],
     ) -> Result<u8, String> {
         let (option, room) = match rest {
-            [] => (0, ROOM),
+            [] => (unnamed, ROOM),
             [option] => (number(option)?, ROOM),
             [option, room] => (number(option)?, number(room)?),
             _ => return usage(),

@@ -6,7 +6,7 @@
 //! - a file: 1, its length, the seed, how many calls follow, the length of its shape's name, the name in the 56 bytes that
 //!   are left; then the file's bytes.
 //! - a call on the file before it: 2, call, option, room, then the answer's number, place, bytes, units and depth, and the
-//!   checksum of the whole room after the call. Call 0 is check, 1 explain, 2 the plain explanation, 3 the graph text,
+//!   checksum of the whole room after the call. Call 0 is check, 1 explain, 2 the plain explanation, which names no option, 3 the graph text,
 //!   4 the node list, whose room is counted in entries, 5 the edge list, whose room is counted in numbers, 6 the explanation
 //!   by edition 2, and 7 the explanation in the air profile. 8 and 9 are the repair of a damaged file, which conflict.rs does
 //!   not have and [`salvage`] gives, with the count of replaced records as units and the bytes dropped as depth: 8 with the
@@ -17,8 +17,8 @@
 use std::collections::BTreeSet;
 
 use crate::{
-    check, edges, explain, explain_air, explain_edition, generate, graphviz, nodes, salvage,
-    Answer, Node, Problem,
+    check, edges, explain, explain_air, explain_edition, explain_plain, generate, graphviz, nodes,
+    salvage, Answer, Node, Problem,
 };
 
 /// What stands in every byte that is lent.
@@ -182,7 +182,7 @@ fn answered(file: &[u8], (call, room): (Call, Room)) -> [u64; 12] {
     let (number, option, answer, sum) = match call {
         Call::Check => (0, 0, check(file), sum(&[])),
         Call::Explain(option) => in_room(1, option, size, |room| explain(file, option, room)),
-        Call::Plain => in_room(2, 0, size, |room| explain(file, 0, room)),
+        Call::Plain => in_room(2, 0, size, |room| explain_plain(file, room)),
         Call::Graph(option) => in_room(3, option, size, |room| graphviz(file, option, room)),
         Call::Nodes => {
             let mut list = vec![blank(); size];
@@ -259,7 +259,7 @@ fn needed(file: &[u8], call: Call) -> usize {
     let answer = match call {
         Call::Check => return 0,
         Call::Explain(option) => explain(file, option, &mut room),
-        Call::Plain => explain(file, 0, &mut room),
+        Call::Plain => explain_plain(file, &mut room),
         Call::Graph(option) => graphviz(file, option, &mut room),
         Call::Second(option) => explain_edition(file, 2, option, &mut room),
         Call::Air(option) => explain_air(file, option, &mut room),

@@ -204,6 +204,23 @@ fn option_1_indents_the_top_level() {
 }
 
 #[test]
+fn a_plain_call_means_option_1() {
+    // "P7's 155 bytes stay the answer to option 0."
+    let (flat, text) = told(&samples::replay(), 0);
+    assert_eq!((flat.bytes, text.len()), (155, 155));
+    assert!(text.starts_with("replay * "));
+    for (name, file) in samples::all() {
+        for size in [0, 66, 67, 155, 167, 168, 169, 400, 1 << 16] {
+            let (mut plain, mut named) = (vec![7; size], vec![7; size]);
+            let answer = common::explain_plain(&file, &mut plain);
+            assert_eq!(answer, common::explain(&file, 1, &mut named), "{name} {size}");
+            assert!(plain == named, "{name} {size}");
+            assert!(answer.bytes == 0 || plain.starts_with("├─ ".as_bytes()) || plain.starts_with("└─ ".as_bytes()));
+        }
+    }
+}
+
+#[test]
 fn depth_2079_is_met_by_a_file_of_666_records() {
     let file = oracle::generate::file("depth-largest", 0).expect("a shape");
     assert_eq!(file.len(), 32 * 666);

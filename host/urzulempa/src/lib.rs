@@ -111,7 +111,22 @@ pub fn explain(file: &[u8], option: u64, room: &mut [u8]) -> Answer {
     ffi::explain(file, option, room)
 }
 
-/// Writes the explanation with option 0.
+/// The option that a plain call means: the top level is indented.
+pub const PLAIN_OPTION: u64 = 1;
+
+/// Writes the explanation with [`PLAIN_OPTION`]; who needs the top level flat names option 0 in [`explain`].
+///
+/// ```
+/// use urzulempa::{explain, explain_plain, PLAIN_OPTION};
+///
+/// let file = include_bytes!("../../../samples/replay.rec");
+/// let (mut plain, mut named) = ([0; 256], [0; 256]);
+/// let answer = explain_plain(file, &mut plain);
+/// assert_eq!(answer, explain(file, PLAIN_OPTION, &mut named));
+/// assert_eq!(plain, named);
+/// assert!(plain.starts_with("└─ replay * ".as_bytes()));
+/// assert_eq!((answer.bytes, explain(file, 0, &mut named).bytes), (168, 155));
+/// ```
 pub fn explain_plain(file: &[u8], room: &mut [u8]) -> Answer {
     ffi::explain_plain(file, room)
 }

@@ -9,12 +9,13 @@ mod mended;
 use std::ffi::OsString;
 use std::io::{self, Write};
 use std::process::ExitCode;
-use urzulempa::{check, edges, explain_air, graphviz, grown, repaired, Answer, Edition, Refusal};
+use urzulempa::{check, edges, explain_air, graphviz, grown, repaired, Answer, Edition, Refusal, PLAIN_OPTION};
 
 const HELP: &str = "\
 urzulempa: why a load of packages has no solution, from a file of clause records
 
-  urzulempa explain FILE [--indent] [--room N]   the explanation; --indent draws the top level too; packages that are alike share
+  urzulempa explain FILE [--no-indent]           the explanation; its top level is indented (--indent, the default) or, with
+            [--room N]                           --no-indent, flat; of the two the last one counts; packages that are alike share
                                                  a line, with all their versions up to six, else the first three, ... and the last
             [--edition E]                        E is 1, the Rust's rules and the default, by which a text may have no end, or 2,
                                                  by which every package is shown once and a text always ends
@@ -66,12 +67,13 @@ fn run(words: &[String]) -> Result<ExitCode, String> {
     }
     let (mut file, mut package) = (None, None);
     let (mut out, mut force) = (None, false);
-    let (mut option, mut room) = (0, DEFAULT_ROOM);
+    let (mut option, mut room) = (if words[0] == "explain" { PLAIN_OPTION } else { 0 }, DEFAULT_ROOM);
     let (mut edition, mut air) = (Edition::One, false);
     let mut rest = words[1..].iter();
     while let Some(word) = rest.next() {
         match (words[0].as_str(), word.as_str()) {
             ("explain", "--indent") | ("graph", "--simplify") => option = 1,
+            ("explain", "--no-indent") => option = 0,
             ("explain", "--air") => air = true,
             ("explain" | "graph", "--room") => match rest.next().and_then(|n| n.parse().ok()) {
                 Some(n) => room = n,

@@ -7,7 +7,7 @@ use std::os::unix::ffi::OsStrExt;
 use std::os::unix::fs::{symlink, PermissionsExt};
 use std::path::{Path, PathBuf};
 use std::process::{Command, Output, Stdio};
-use urzulempa::{nodes, repaired, Node, MOST_NODES};
+use urzulempa::{explain, explain_plain, nodes, repaired, Node, MOST_NODES};
 
 fn run(words: &[&str], file: &[u8]) -> Output {
     let mut child = Command::new(env!("CARGO_BIN_EXE_urzulempa"))
@@ -34,9 +34,37 @@ const DECK_PANEL: &[u8] = include_bytes!("../../../samples/deck-panel.rec");
 fn explain_prints_the_text_and_nothing_else() {
     let out = run(&["explain", "-"], REPLAY);
     assert_eq!(out.status.code(), Some(0));
-    let wanted = "replay * cannot be installed because there are no viable options:\n└─ replay 2 | 1 would require\n   └─ codec 9, for which no candidates were found.\n";
+    let wanted = "└─ replay * cannot be installed because there are no viable options:\n   └─ replay 2 | 1 would require\n      └─ codec 9, for which no candidates were found.\n";
     assert_eq!(said(&out.stdout), wanted);
     assert!(out.stderr.is_empty());
+}
+
+#[test]
+fn without_a_flag_explain_is_a_plain_call_and_option_0_has_a_name() {
+    // P7's 155 bytes.
+    let flat = "replay * cannot be installed because there are no viable options:\n└─ replay 2 | 1 would require\n   └─ codec 9, for which no candidates were found.\n";
+    assert_eq!(flat.len(), 155);
+    assert_eq!(said(&run(&["explain", "-", "--no-indent"], REPLAY).stdout), flat);
+    let full = most_nodes();
+    for file in [REPLAY, DECK_PANEL, RACK, &full, &REPLAY[..33]] {
+        for more in [&[][..], &["--edition", "2"], &["--air"], &["--room", "300"]] {
+            let ran = |words: &[&str]| {
+                let out = run(&[&["explain", "-"], more, words].concat(), file);
+                (out.status.code(), said(&out.stdout), said(&out.stderr))
+            };
+            assert_eq!(ran(&[]), ran(&["--indent"]));
+            // The last one counts.
+            assert_eq!(ran(&["--no-indent", "--indent"]), ran(&["--indent"]));
+            assert_eq!(ran(&["--indent", "--no-indent"]), ran(&["--no-indent"]));
+            assert_eq!(ran(&[]).1 == ran(&["--no-indent"]).1, ran(&[]).1.is_empty());
+        }
+        // What the library calls so.
+        let mut room = vec![0; 1 << 16];
+        let answer = explain_plain(file, &mut room);
+        assert_eq!(run(&["explain", "-"], file).stdout, room[..answer.bytes as usize]);
+        let answer = explain(file, 0, &mut room);
+        assert_eq!(run(&["explain", "-", "--no-indent"], file).stdout, room[..answer.bytes as usize]);
+    }
 }
 
 #[test]
@@ -44,21 +72,21 @@ fn a_long_group_shows_its_first_three_versions_and_its_last() {
     let out = run(&["explain", "-"], RACK);
     assert_eq!(out.status.code(), Some(0));
     let wanted = "\
-panel 5 can be installed with any of the following options:
-└─ panel 5 would require
-   └─ driver 11, which can be installed with any of the following options:
-      └─ driver 11
-deck * cannot be installed because there are no viable options:
-├─ deck 3.1 would require
-│  └─ codec >=9, which cannot be installed because there are no viable options:
-│     └─ codec 9.0-b01 | 9.0-b02 | 9.0-b03 | ... | 9.0-b20 would require
-│        └─ driver >=12, which cannot be installed because there are no viable options:
-│           └─ driver 12, which conflicts with the versions reported above.
-└─ deck 2.4 would require
-   └─ codec >=7,<9, which cannot be installed because there are no viable options:
-      ├─ codec 7.2-b01 | 7.2-b02 | 7.2-b03 | ... | 7.2-b10 is excluded because it was recalled
-      └─ codec 7.2-b11 | 7.2-b12 | 7.2-b13 | ... | 7.2-b20 would constrain
-         └─ panel <5, which conflicts with any installable versions previously reported
+├─ panel 5 can be installed with any of the following options:
+│  └─ panel 5 would require
+│     └─ driver 11, which can be installed with any of the following options:
+│        └─ driver 11
+└─ deck * cannot be installed because there are no viable options:
+   ├─ deck 3.1 would require
+   │  └─ codec >=9, which cannot be installed because there are no viable options:
+   │     └─ codec 9.0-b01 | 9.0-b02 | 9.0-b03 | ... | 9.0-b20 would require
+   │        └─ driver >=12, which cannot be installed because there are no viable options:
+   │           └─ driver 12, which conflicts with the versions reported above.
+   └─ deck 2.4 would require
+      └─ codec >=7,<9, which cannot be installed because there are no viable options:
+         ├─ codec 7.2-b01 | 7.2-b02 | 7.2-b03 | ... | 7.2-b10 is excluded because it was recalled
+         └─ codec 7.2-b11 | 7.2-b12 | 7.2-b13 | ... | 7.2-b20 would constrain
+            └─ panel <5, which conflicts with any installable versions previously reported
 ";
     assert_eq!(said(&out.stdout), wanted);
 }
@@ -214,7 +242,7 @@ fn an_endless_text_is_cut_and_a_small_room_leaves_whole_lines() {
     assert_eq!((out.status.code(), said(&out.stdout).lines().count()), (Some(2), 5));
     let err = said(&out.stderr);
     assert!(err.starts_with("refused 11 at solvable 0") && err.contains("solvable 0 is deck 1"), "{err}");
-    let out = run(&["explain", "-", "--room", "154"], REPLAY);
+    let out = run(&["explain", "-", "--no-indent", "--room", "154"], REPLAY);
     assert_eq!((out.status.code(), out.stdout.len()), (Some(2), 100));
     assert!(said(&out.stderr).starts_with("refused 10 at unit 2"));
 }
@@ -223,15 +251,15 @@ fn an_endless_text_is_cut_and_a_small_room_leaves_whole_lines() {
 fn edition_2_shows_each_package_once_and_ends() {
     let out = run(&["explain", "-", "--edition", "2"], DECK_PANEL);
     assert_eq!((out.status.code(), said(&out.stderr)), (Some(0), String::new()));
-    let wanted = "deck * cannot be installed because there are no viable options:\n\
-                  └─ deck 1 would require\n   \
-                  └─ panel *, which cannot be installed because there are no viable options:\n      \
-                  └─ panel 1 would require\n         \
+    let wanted = "└─ deck * cannot be installed because there are no viable options:\n   \
+                  └─ deck 1 would require\n      \
+                  └─ panel *, which cannot be installed because there are no viable options:\n         \
+                  └─ panel 1 would require\n            \
                   └─ deck *, which cannot be installed because there are no viable options:\n";
     assert_eq!(said(&out.stdout), wanted);
     // Edition 1 is what comes without the word, to the byte, and points to edition 2 where it has no end.
     for file in [DECK_PANEL, REPLAY, RACK] {
-        for more in [&[][..], &["--indent"], &["--room", "300"]] {
+        for more in [&[][..], &["--no-indent"], &["--room", "300"]] {
             let (plain, first) = (run(&[&["explain", "-"], more].concat(), file), run(&[&["explain", "-", "--edition", "1"], more].concat(), file));
             assert_eq!((plain.status.code(), plain.stdout, &plain.stderr), (first.status.code(), first.stdout, &first.stderr));
             assert_eq!(said(&plain.stderr).contains("--edition 2"), plain.status.code() == Some(2) && said(&plain.stderr).starts_with("refused 11"));
@@ -411,7 +439,7 @@ fn refused_on_air(file: &[u8]) -> Vec<String> {
 
 #[test]
 fn on_air_a_small_load_is_explained_as_ever() {
-    for more in [&[][..], &["--indent"], &["--room", "120"], &["--edition", "1"]] {
+    for more in [&[][..], &["--no-indent"], &["--room", "120"], &["--edition", "1"]] {
         let (plain, air) = (run(&[&["explain", "-"], more].concat(), REPLAY), run(&[&["explain", "-", "--air"], more].concat(), REPLAY));
         assert_eq!((plain.status.code(), plain.stdout, plain.stderr), (air.status.code(), air.stdout, air.stderr));
     }
@@ -489,7 +517,7 @@ fn on_air_a_cycle_goes_by_any_edge_and_begins_where_the_root_meets_it() {
 
 #[test]
 fn wrong_usage_is_status_64_and_a_file_that_is_not_there_1() {
-    for words in [&[][..], &["explain"], &["draw", "-"], &["edges"], &["edges", "--all"], &["check", "-", "--indent"], &["explain", "-", "--room", "many"], &["check", "a", "b"]] {
+    for words in [&[][..], &["explain"], &["draw", "-"], &["edges"], &["edges", "--all"], &["check", "-", "--indent"], &["graph", "-", "--no-indent"], &["explain", "-", "--room", "many"], &["check", "a", "b"]] {
         assert_eq!(run(words, &[]).status.code(), Some(64), "{words:?}");
     }
     for words in [&["explain", "-", "--edition"][..], &["explain", "-", "--edition", "0"], &["explain", "-", "--edition", "3"], &["explain", "-", "--edition", "two"], &["graph", "-", "--edition", "2"], &["check", "-", "--edition", "2"], &["explain", "-", "--air", "--edition", "2"], &["explain", "--edition", "2", "-", "--air"], &["graph", "-", "--air"], &["nodes", "-", "--air"]] {

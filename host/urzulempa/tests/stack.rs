@@ -85,6 +85,17 @@ fn p7_to_the_byte() {
 }
 
 #[test]
+fn a_plain_call_indents_p7() {
+    let want = "└─ replay * cannot be installed because there are no viable options:\n   \
+                └─ replay 2 | 1 would require\n      └─ codec 9, for which no candidates were found.\n";
+    let mut room = [7; 170];
+    let answer = explain_plain(SAMPLES[0], &mut room);
+    assert_eq!((answer.number, answer.bytes, answer.units, answer.depth), (0, 168, 3, 1));
+    assert_eq!(&room[..168], want.as_bytes());
+    assert_eq!(room[168..], [7; 2]);
+}
+
+#[test]
 fn edges_are_as_many_as_the_numbers_say() {
     for file in SAMPLES {
         let (answer, list) = edges(file);
