@@ -11,7 +11,9 @@
  *  15 a Lock in the core                                                                 (place: the first one's clause)
  *  16 more than 64 nodes                                                                 (place: 0)
  *  17 a cycle: a node leads back to itself, by whatever edges                            (place: the lowest node on one)
- * Refusals 1 to 9, 12 and 15 to 17 leave the room and the list as they were; 10 and 11 leave the whole units written before the stop.
+ * Of a settings file alone:
+ *  18 a version that the reader does not know                                            (place: the record)
+ * Refusals 1 to 9, 12 and 15 to 18 leave the room and the list as they were; 10 and 11 leave the whole units written before the stop.
  * `bytes` and `units` say what was written, `depth` how many packages are opened on the deepest branch of it.
  */
 #ifndef URZULEMPA_H
@@ -43,6 +45,11 @@ typedef struct {
     uint64_t number, place, bytes, replaced, dropped;
 } urzulempa_salvaged;
 
+/* What a settings file says: indent and simplify, each 0 or 1, and the edition, 1 or 2. All three are 0 on a refusal. */
+typedef struct {
+    uint64_t number, place, indent, simplify, edition;
+} urzulempa_settings;
+
 /* The explanation; option 1 indents the top level, 0 does not. Packages that are alike share a line: up to six show all their versions,
  * more of them the first three, " | ... | " and the last, here and in the other explanations. */
 urzulempa_answer urzulempa_explain(const uint8_t *file, size_t file_len, uint64_t option, uint8_t *room, size_t room_len);
@@ -73,6 +80,18 @@ urzulempa_answer urzulempa_edges(const uint8_t *file, size_t file_len, uint16_t 
  * 1 only for more than 65,536 bytes; 2, 6 (a clause past 1,024 first of all), and 3, 4 and 5 of kinds 1 to 8, stop the repair; then 10
  * with place 0 if the room or the list is too short. Any refusal leaves both as they were. */
 urzulempa_salvaged urzulempa_salvage(const uint8_t *file, size_t file_len, uint8_t *room, size_t room_len, uint16_t *list, size_t list_len);
+/* A settings file: records of 16 bytes, at most 4,096 bytes in all. Byte 0 is the record's version, byte 1 the setting, bytes 2 and 3
+ * its content, the lower byte first, the rest 0. Version 1 has 1 indent and 2 simplify, each 0 or 1; version 2 has these and 3 the
+ * edition, 1 or 2. The last record of a setting counts; where there is none, indent is 1, simplify 1, edition 1.
+ * `version` is that of the reader, 1 or 2, else 12 before all others. 1 for a length that is no multiple of 16 or above 4,096; then
+ * record by record 18 for a version that is 0 or above the reader's, and 3 for a setting or content that the record's version does not
+ * know, or an unused byte that is not 0. A version 1 reader says edition 1. */
+urzulempa_settings urzulempa_settings_read(const uint8_t *file, size_t file_len, uint64_t version);
+/* Changes a setting of the file that the first `used` bytes of the room are: appends one record of the lowest version that knows it.
+ * `bytes` is 16 then, `units` 1; no other byte of the room changes.
+ * 12 as above; 1 if `used` is above room_len or 4,096 or no multiple of 16; the file's own 18 and 3; 3 with place 0 for a setting or
+ * content that this version does not know; 10 with place 0 if the record would pass 4,096 bytes or the room. */
+urzulempa_answer urzulempa_settings_set(uint8_t *room, size_t room_len, uint64_t used, uint64_t version, uint64_t setting, uint64_t content);
 
 #ifdef __cplusplus
 }

@@ -5,4 +5,5 @@ pub mod Says
 pub mod Plain
 pub mod Edges
 pub mod Air
+pub mod Settings
 pub mod Laws

@@ -18,9 +18,12 @@ pub struct Answer {
 }
 
 use salvage::Salvaged;
+use settings::Settings;
 ghost use mathlib.Core.Path.{_≡_};
 ghost use lib.ListN.{length};
 ghost use Rattle.salvage.specs.Lent.{salvageAnswer, salvageRoom, salvageList};
+ghost use Rattle.settings.specs.Change.{changeOf, roomOf};
+ghost use Rattle.settings.specs.Settings.{readOf};
 ghost use Rattle.texts.specs.Wrote.{over};
 ghost use Rattle.urzulempa.specs.Air.{SaysAir};
 ghost use Rattle.urzulempa.specs.Answers.{checkOf};
@@ -28,6 +31,7 @@ ghost use Rattle.urzulempa.specs.Draws.{resultAnswer, drawFile};
 ghost use Rattle.urzulempa.specs.Edges.{edgesAnswer, edgesLeft};
 ghost use Rattle.urzulempa.specs.Plain.{plainOption};
 ghost use Rattle.urzulempa.specs.Says.{Says};
+ghost use Rattle.urzulempa.specs.Settings.{changeAnswer};
 
 // Refusals 1 to 9, and no text.
 #[no_mangle]
@@ -148,4 +152,37 @@ pub extern "C" fn urzulempa_salvage(file: &[u8], room: &mut [u8], list: &mut [u1
     ensures { λ _. ⌜ now (list .exit) ≡ salvageList (now (file .entry)) (length (now (room .entry))) (now (list .entry)) ⌝ }
 {
     salvage::salvage(file, room, list)
+}
+
+// The settings of a file of 16-byte records, as a reader of version 1 or 2 takes it (order 12). 12 for another reader, 1 for the
+// length, 18 or 3 for a record, the place; the three settings are 0 then.
+#[no_mangle]
+pub extern "C" fn urzulempa_settings_read(file: &[u8], version: u64) -> Settings
+    ensures { λ r. ⌜ r ≡ readOf version (now (file .entry)) ⌝ }
+{
+    settings::read(file, version)
+}
+
+// Changes one setting of the file that is the room's first `used` bytes: one record behind it, of the lowest version that knows it
+// (order 12). The file's refusals first, then 3 for a setting or content that this version does not know, then 10; the room is as
+// before then, and every other byte stays.
+#[no_mangle]
+pub extern "C" fn urzulempa_settings_set(
+    room: &mut [u8],
+    used: u64,
+    version: u64,
+    setting: u64,
+    content: u64,
+) -> Answer
+    ensures { λ r. ⌜ r ≡ changeAnswer (changeOf (now (room .entry)) used version setting content) ⌝ }
+    ensures { λ _. ⌜ now (room .exit) ≡ roomOf (now (room .entry)) used version setting content ⌝ }
+{
+    let c = settings::set(room, used, version, setting, content);
+    Answer {
+        number: c.number,
+        place: c.place,
+        bytes: c.bytes,
+        units: c.units,
+        depth: 0,
+    }
 }

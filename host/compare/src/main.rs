@@ -3,6 +3,7 @@
 
 mod calls;
 mod salvage;
+mod settings;
 mod shrink;
 
 use calls::{Call, Trial};
@@ -19,6 +20,8 @@ const USAGE: &str = "usage: compare files N SEED   the hand-made files, then N g
        compare salvage N SEED the repair alone: a small file with every kind of record damaged in full, files around 1,024 clauses,
                               then N generated files, damaged; what is repaired is explained on both sides
        compare air N SEED     the same with the air profile alone, half of the files near it, in rooms around the ends of more lines
+       compare settings N SEED the settings file alone: every one of up to two records over a small alphabet, read and changed in
+                              every way, then N random ones
        compare bytes          a small file with every kind of record, each byte set to each value
 Status: 0 no difference, 1 a difference, 64 wrong usage, 77 without conflict.rs.";
 
@@ -26,7 +29,7 @@ fn main() -> ExitCode {
     let words: Vec<String> = std::env::args().skip(1).collect();
     let words: Vec<&str> = words.iter().map(String::as_str).collect();
     let job = match words[..] {
-        ["files" | "check" | "nodes" | "edges" | "editions" | "air" | "salvage", n, seed] => match (n.parse(), seed.parse()) {
+        ["files" | "check" | "nodes" | "edges" | "editions" | "air" | "salvage" | "settings", n, seed] => match (n.parse(), seed.parse()) {
             (Ok(n), Ok(seed)) => Some((n, seed)),
             _ => None,
         },
@@ -37,13 +40,15 @@ fn main() -> ExitCode {
         eprintln!("{USAGE}");
         return ExitCode::from(64);
     };
-    if !oracle::AVAILABLE {
+    // The settings are no matter of conflict.rs.
+    if !oracle::AVAILABLE && words[0] != "settings" {
         println!("compare: skipped: conflict.rs was not there when this was built");
         return ExitCode::from(77);
     }
     let found = match words[0] {
         "bytes" => bytes(),
         "salvage" => salvages(n, seed),
+        "settings" => settings::differ(n, seed, true),
         only => files(n, seed, only),
     };
     if found { ExitCode::from(1) } else { ExitCode::SUCCESS }
@@ -69,6 +74,9 @@ fn files(n: u64, seed: u64, only: &str) -> bool {
         if tally.differs(only, &name, &file, &mut Rng::new(seed)) {
             return true;
         }
+    }
+    if only == "files" && settings::differ(n / 4, seed, false) {
+        return true;
     }
     for index in 0..n {
         let near = only == "air" && index % 2 == 0;

@@ -11,7 +11,7 @@ pub struct Answer {
     pub depth: u64,
 }
 
-/// A refusal of 1 to 9, 12 or 15 to 17: "the last three are 0" in its answer.
+/// A refusal of 1 to 9, 12 or 15 to 18: "the last three are 0" in its answer.
 #[derive(Clone, Copy, Debug, PartialEq, Eq)]
 pub struct Refusal {
     pub number: u64,

@@ -4,8 +4,8 @@
 //! [`explain`], [`explain_plain`], [`explain_edition`], [`explain_air`], [`graphviz`], [`check`],
 //! [`nodes`] and [`edges`] take any bytes. [`Problem`] and its [`Model`] are the same in steps, for many calls on one file. Where
 //! conflict.rs could not be had at build time, [`AVAILABLE`] is false and these must not be called;
-//! the reader, the generator, the samples and [`salvage`], which the Rust does not have, are there
-//! all the same.
+//! the reader, the generator, the samples, [`salvage`] and [`settings`], which the Rust does not have,
+//! are there all the same.
 
 mod answer;
 pub mod cases;
@@ -16,6 +16,7 @@ pub mod record;
 pub mod rng;
 pub mod salvage;
 pub mod samples;
+pub mod settings;
 pub mod survey;
 
 #[cfg(has_conflict_rs)]
@@ -46,6 +47,7 @@ pub use calls::{
 };
 
 pub use salvage::salvage;
+pub use settings::Settings;
 
 /// Whether conflict.rs was there when this crate was built.
 pub const AVAILABLE: bool = cfg!(has_conflict_rs);

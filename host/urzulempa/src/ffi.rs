@@ -1,6 +1,6 @@
-//! The eight exported functions of the library (include/urzulempa.h). None of them has a precondition: a slice is all they ask.
+//! The exported functions of the library (include/urzulempa.h). None of them has a precondition: a slice is all they ask.
 
-use crate::{Answer, Node, Salvaged};
+use crate::{Answer, Node, Salvaged, Settings};
 use std::mem::{align_of, size_of};
 
 extern "C" {
@@ -13,14 +13,17 @@ extern "C" {
     fn urzulempa_nodes(file: *const u8, file_len: usize, list: *mut Node, list_len: usize) -> Answer;
     fn urzulempa_edges(file: *const u8, file_len: usize, list: *mut u16, list_len: usize) -> Answer;
     fn urzulempa_salvage(file: *const u8, file_len: usize, room: *mut u8, room_len: usize, list: *mut u16, list_len: usize) -> Salvaged;
+    fn urzulempa_settings_read(file: *const u8, file_len: usize, version: u64) -> Settings;
+    fn urzulempa_settings_set(room: *mut u8, room_len: usize, used: u64, version: u64, setting: u64, content: u64) -> Answer;
 }
 
 // What the library reads and writes lies as the header lays it out: no field has a gap before it.
 const _: () = assert!(size_of::<Answer>() == 40 && align_of::<Answer>() == 8);
 const _: () = assert!(size_of::<Node>() == 10 && align_of::<Node>() == 2);
 const _: () = assert!(size_of::<Salvaged>() == 40 && align_of::<Salvaged>() == 8);
+const _: () = assert!(size_of::<Settings>() == 40 && align_of::<Settings>() == 8);
 
-// SAFETY, for all eight: pointer and length are those of one slice, and the library reads and writes inside it only (proved).
+// SAFETY, for all of them: pointer and length are those of one slice, and the library reads and writes inside it only (proved).
 
 pub fn explain(file: &[u8], option: u64, room: &mut [u8]) -> Answer {
     unsafe { urzulempa_explain(file.as_ptr(), file.len(), option, room.as_mut_ptr(), room.len()) }
@@ -56,4 +59,12 @@ pub fn edges(file: &[u8], list: &mut [u16]) -> Answer {
 
 pub fn salvage(file: &[u8], room: &mut [u8], list: &mut [u16]) -> Salvaged {
     unsafe { urzulempa_salvage(file.as_ptr(), file.len(), room.as_mut_ptr(), room.len(), list.as_mut_ptr(), list.len()) }
+}
+
+pub fn settings_read(file: &[u8], version: u64) -> Settings {
+    unsafe { urzulempa_settings_read(file.as_ptr(), file.len(), version) }
+}
+
+pub fn settings_set(room: &mut [u8], used: u64, version: u64, setting: u64, content: u64) -> Answer {
+    unsafe { urzulempa_settings_set(room.as_mut_ptr(), room.len(), used, version, setting, content) }
 }

@@ -1,7 +1,8 @@
 //! Why a load of packages has no solution: safe functions over the proved library.
 //!
-//! Every call takes any bytes and any room and gives an [`Answer`], or [`salvage`] its [`Salvaged`]; none of them panics or keeps
-//! anything, and none allocates but [`edges`] and [`repaired`], which make what they fill. [`grown`] makes the room for one.
+//! Every call takes any bytes and any room and gives an [`Answer`], [`salvage`] its [`Salvaged`], [`settings_read`] its [`Settings`];
+//! none of them panics or keeps anything, and none allocates but [`edges`], [`repaired`] and [`appended`], which make what they fill.
+//! [`grown`] makes the room for one.
 //!
 //! ```
 //! use urzulempa::{explain, Refusal};
@@ -32,11 +33,16 @@ mod edition;
 mod ffi;
 mod refusal;
 mod salvaged;
+mod settings;
 
 pub use edge::{Edge, EdgeKind};
 pub use edition::Edition;
 pub use refusal::Refusal;
 pub use salvaged::{repaired, salvage, Repaired, Salvaged, MOST_REPLACED};
+pub use settings::{
+    appended, choices, settings_read, settings_set, Choices, Setting, Settings, SettingsRefusal, MOST_SETTINGS, SETTINGS_RECORD,
+    SETTINGS_VERSION,
+};
 
 /// What a call says: the text is whole, or a numbered refusal with its place; and what was written.
 #[repr(C)]

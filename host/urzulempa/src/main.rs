@@ -1,5 +1,6 @@
-//! The command: explain, graph, nodes, edges, check, salvage.
+//! The command: explain, graph, nodes, edges, check, salvage, settings.
 
+mod choose;
 mod cycle;
 mod decode;
 mod keep;
@@ -9,19 +10,20 @@ mod mended;
 use std::ffi::OsString;
 use std::io::{self, Write};
 use std::process::ExitCode;
-use urzulempa::{check, edges, explain_air, graphviz, grown, repaired, Answer, Edition, Refusal, PLAIN_OPTION};
+use urzulempa::{check, edges, explain_air, graphviz, grown, repaired, Answer, Edition, Refusal};
 
 const HELP: &str = "\
 urzulempa: why a load of packages has no solution, from a file of clause records
 
   urzulempa explain FILE [--no-indent]           the explanation; its top level is indented (--indent, the default) or, with
-            [--room N]                           --no-indent, flat; of the two the last one counts; packages that are alike share
+            [--room N] [--settings SET]          --no-indent, flat; of the two the last one counts; packages that are alike share
                                                  a line, with all their versions up to six, else the first three, ... and the last
             [--edition E]                        E is 1, the Rust's rules and the default, by which a text may have no end, or 2,
                                                  by which every package is shown once and a text always ends
             [--air]                              only what is safe on air: a load without a lock in its core, without a cycle, and
                                                  with at most 64 nodes; any other is refused with 15 to 17, and the text always ends
-  urzulempa graph FILE [--simplify] [--room N]   the graph in the DOT language; --simplify draws a merge group once
+  urzulempa graph FILE [--no-simplify]           the graph in the DOT language; a merge group is drawn once (--simplify, the
+            [--room N] [--settings SET]          default) or, with --no-simplify, each package of it; the last one counts
   urzulempa nodes FILE                           the nodes: number, kind, what it names, first node of its group, labels, and the
                                                  clause that first added it (65535: none) with its record
   urzulempa edges FILE [PACKAGE]                 the edges, oldest first, each with the clause that added it and that clause's
@@ -31,7 +33,10 @@ urzulempa: why a load of packages has no solution, from a file of clause records
                                                  record and puts an InstallRoot outside the core in the place of each damaged
                                                  clause and each Learnt in the core; says what it replaced and what was wrong.
                                                  OUT is written whole or not at all; it may be FILE itself only with --force
+  urzulempa settings SET                         what a settings file says: indent, simplify (0 or 1) and edition (1 or 2)
+  urzulempa settings SET NAME CONTENT            sets one of them, by a record behind the others; makes SET where there is none
 
+SET is a settings file, whose settings are the defaults under the flags that are given.
 FILE may be - for standard input. N is the most bytes of text (default 67108864).
 Text goes to standard output, everything else to standard error.
 Exit status: 0 done, 2 refused, 1 trouble with a file, 64 wrong usage.
@@ -40,10 +45,12 @@ Examples:
   urzulempa explain samples/replay.rec
   urzulempa explain samples/deck-panel.rec --edition 2
   urzulempa explain samples/replay.rec --air
-  urzulempa graph samples/replay.rec --simplify | dot -Tsvg > replay.svg
+  urzulempa graph samples/replay.rec | dot -Tsvg > replay.svg
   urzulempa edges samples/rack.rec deck 3.1
   urzulempa check - < samples/rack.rec
   urzulempa salvage cut.rec -o mended.rec
+  urzulempa settings truck.set edition 2
+  urzulempa explain samples/deck-panel.rec --settings truck.set
 ";
 
 const DEFAULT_ROOM: usize = 64 << 20;
@@ -65,22 +72,29 @@ fn run(words: &[String]) -> Result<ExitCode, String> {
     if words.is_empty() || words.iter().any(|w| w == "--help" || w == "-h") {
         return if words.is_empty() { Ok(usage("no command")) } else { print(HELP.as_bytes()).map(|()| ExitCode::SUCCESS) };
     }
+    if words[0] == "settings" {
+        return choose::run(&words[1..]);
+    }
     let (mut file, mut package) = (None, None);
     let (mut out, mut force) = (None, false);
-    let (mut option, mut room) = (if words[0] == "explain" { PLAIN_OPTION } else { 0 }, DEFAULT_ROOM);
-    let (mut edition, mut air) = (Edition::One, false);
+    let (mut given, mut settings, mut room) = (None, None, DEFAULT_ROOM);
+    let (mut edition, mut air) = (None, false);
     let mut rest = words[1..].iter();
     while let Some(word) = rest.next() {
         match (words[0].as_str(), word.as_str()) {
-            ("explain", "--indent") | ("graph", "--simplify") => option = 1,
-            ("explain", "--no-indent") => option = 0,
+            ("explain", "--indent") | ("graph", "--simplify") => given = Some(true),
+            ("explain", "--no-indent") | ("graph", "--no-simplify") => given = Some(false),
+            ("explain" | "graph", "--settings") => match rest.next() {
+                Some(name) if settings.is_none() => settings = Some(name.as_str()),
+                _ => return Ok(usage("--settings wants the name of one file")),
+            },
             ("explain", "--air") => air = true,
             ("explain" | "graph", "--room") => match rest.next().and_then(|n| n.parse().ok()) {
                 Some(n) => room = n,
                 None => return Ok(usage("--room wants a number of bytes")),
             },
             ("explain", "--edition") => match rest.next().and_then(|n| n.parse().ok()).and_then(Edition::of) {
-                Some(e) => edition = e,
+                Some(e) => edition = Some(e),
                 None => return Ok(usage("--edition wants 1 or 2")),
             },
             ("salvage", "--force") => force = true,
@@ -103,13 +117,19 @@ fn run(words: &[String]) -> Result<ExitCode, String> {
     if !["explain", "graph", "nodes", "edges", "check", "salvage"].contains(&words[0].as_str()) {
         return Ok(usage(&format!("{} is no command", words[0])));
     }
-    if air && edition == Edition::Two {
+    if air && edition == Some(Edition::Two) {
         return Ok(usage("--air explains by edition 1: leave out one of --air and --edition 2"));
     }
     let Some(name) = file else { return Ok(usage("FILE is missing")) };
     if words[0] == "salvage" {
         return out.map_or_else(|| Ok(usage("salvage wants -o OUT")), |out| salvage(&name, out, force));
     }
+    let chosen = match choose::defaults(settings, &name)? {
+        Ok(chosen) => chosen,
+        Err(code) => return Ok(code),
+    };
+    let option = u64::from(given.unwrap_or(if words[0] == "graph" { chosen.simplify } else { chosen.indent }));
+    let edition = edition.unwrap_or(chosen.edition);
     let (bytes, _) = keep::read(&name)?;
     match words[0].as_str() {
         "explain" if air => text(&bytes, grown(room, |r| explain_air(&bytes, option, r))),

@@ -35,6 +35,8 @@ pub enum Refusal {
     ManyNodes,
     /// 17, by node
     Cycle(u64),
+    /// 18, by record of a settings file
+    Version(u64),
     /// A number that no call gives.
     Unknown(u64),
 }
@@ -59,6 +61,7 @@ impl Refusal {
             15 => Self::Locked(place),
             16 => Self::ManyNodes,
             17 => Self::Cycle(place),
+            18 => Self::Version(place),
             other => Self::Unknown(other),
         })
     }
@@ -81,6 +84,7 @@ impl Refusal {
             Self::Locked(_) => 15,
             Self::ManyNodes => 16,
             Self::Cycle(_) => 17,
+            Self::Version(_) => 18,
             Self::Unknown(number) => number,
         }
     }
@@ -112,6 +116,7 @@ impl fmt::Display for Refusal {
             Self::Locked(c) => write!(f, "clause {c} is a lock in the core, and the air profile takes none: explain this load without the profile"),
             Self::ManyNodes => write!(f, "the graph has more than 64 nodes, the most that the air profile takes: cut the core down, or explain this load without the profile"),
             Self::Cycle(n) => write!(f, "node {n} leads back to itself, and the air profile takes no cycle: break it, or explain this load without the profile"),
+            Self::Version(r) => write!(f, "record {r} of the settings is of a version that this reader does not know: a newer release wrote it, or it is damaged"),
             Self::Unknown(n) => write!(f, "refusal {n}, which no call gives"),
         }
     }

@@ -1,5 +1,6 @@
-//! `salvage` as power, a full disk or a kill leaves it. The command is run as it is shipped, from one system call to the next (ptrace),
-//! and killed at each stop, or each call is made to fail: the old OUT or the new one is found, whole.
+//! `salvage` and `settings` as power, a full disk or a kill leaves them. The command is run as it is shipped, from one system call to
+//! the next (ptrace), and killed at each stop, or each call is made to fail: the old OUT or the new one is found, whole, and a settings
+//! file with its last record or without it.
 
 use std::collections::BTreeSet;
 use std::ffi::c_void;
@@ -26,6 +27,7 @@ const EIO: i64 = 5;
 const ENOSPC: i64 = 28;
 
 const WRITE: u64 = 1;
+const FLOCK: u64 = 73;
 const FSYNC: u64 = 74;
 const RENAME: u64 = 82;
 const OPENAT: u64 = 257;
@@ -305,5 +307,133 @@ fn it_flushes_the_file_before_it_renames_it_and_the_folder_behind_that() {
         assert!(last_write < file && file < named, "{calls:?}");
         // The folder's number may be the part's again, which is closed by then.
         assert!(calls[named..].iter().any(|call| call.0 == FSYNC), "{calls:?}");
+    }
+}
+
+/// Two records, and the one that `settings truck.set indent 0` appends.
+const KEPT: [u8; 32] = [1, 2, 0, 0, 0, 0, 0, 0, 0, 0, 0, 0, 0, 0, 0, 0, 2, 3, 2, 0, 0, 0, 0, 0, 0, 0, 0, 0, 0, 0, 0, 0];
+const CHANGE: [u8; 16] = [1, 1, 0, 0, 0, 0, 0, 0, 0, 0, 0, 0, 0, 0, 0, 0];
+const SET: [&str; 4] = ["settings", "truck.set", "indent", "0"];
+
+/// A settings file before and behind the change, in a folder of its own.
+struct Truck {
+    folder: PathBuf,
+    old: Option<&'static [u8]>,
+}
+
+impl Truck {
+    fn new(name: &str, old: Option<&'static [u8]>) -> Truck {
+        let folder = Path::new(env!("CARGO_TARGET_TMPDIR")).join(format!("power-settings-{name}-{}", std::process::id()));
+        Truck { folder, old }
+    }
+
+    fn lay(&self) {
+        let _ = fs::remove_dir_all(&self.folder);
+        fs::create_dir_all(&self.folder).expect("a folder");
+        self.old.iter().for_each(|bytes| fs::write(self.folder.join("truck.set"), bytes).expect("a file"));
+    }
+
+    /// Whether the file is changed; a part of a record is never there. One that was made for the change may be empty.
+    fn changed(&self) -> bool {
+        let found = fs::read(self.folder.join("truck.set")).ok();
+        let new = [self.old.unwrap_or_default(), &CHANGE].concat();
+        let old = found.as_deref() == self.old || (self.old.is_none() && found.as_deref() == Some(&[]));
+        assert!(old || found.as_ref() == Some(&new), "neither the old nor the new one: {found:?}");
+        !old
+    }
+}
+
+impl Drop for Truck {
+    fn drop(&mut self) {
+        let _ = fs::remove_dir_all(&self.folder);
+    }
+}
+
+#[test]
+fn killed_at_each_system_call_a_setting_is_changed_or_not() {
+    for (name, old) in [("killed", Some(&KEPT[..])), ("killed-new", None)] {
+        let truck = Truck::new(name, old);
+        let (mut before, mut after) = (0, 0);
+        for last in 0.. {
+            truck.lay();
+            let mut stops = 0;
+            let end = traced(&SET, &truck.folder, |_| {
+                stops += 1;
+                if stops > last { Then::Kill } else { Then::Go }
+            });
+            if truck.changed() { after += 1 } else { before += 1 }
+            assert!(after == 0 || truck.changed(), "the old one is back after {last} stops");
+            if let End::Exit(code, said) = end {
+                assert_eq!((code, said.as_str(), truck.changed()), (0, "", true));
+                break;
+            }
+            assert_eq!(end, End::Signal(9));
+        }
+        assert!(before > 10 && after > 2, "{before} runs left the old one, {after} the new one");
+    }
+}
+
+#[test]
+fn whatever_call_fails_a_setting_is_changed_or_not_and_it_says_which() {
+    let mut said_of = BTreeSet::new();
+    for (name, old) in [("failing", Some(&KEPT[..])), ("failing-new", None)] {
+        let truck = Truck::new(name, old);
+        for error in [EIO, ENOSPC] {
+            for last in 0.. {
+                truck.lay();
+                let (mut entries, mut failed) = (0, None);
+                let end = traced(&SET, &truck.folder, |stop| {
+                    entries += u32::from(stop.entry);
+                    if stop.entry && entries == last + 1 {
+                        failed = Some(stop.call);
+                        return Then::Fail(error);
+                    }
+                    Then::Go
+                });
+                let new = truck.changed();
+                let Some(call) = failed else {
+                    assert_eq!((end, new), (End::Exit(0, String::new()), true));
+                    break;
+                };
+                if let End::Exit(code, said) = end {
+                    assert!(code != 0 || new, "done without the change where call {call} fails");
+                    if said.starts_with("urzulempa: truck.set: ") {
+                        assert_eq!((code, said.contains("it is changed")), (1, new), "{said}");
+                        said_of.insert((call, new));
+                    }
+                }
+            }
+        }
+    }
+    for seen in [(OPENAT, false), (WRITE, false), (FLOCK, false), (FSYNC, true), (OPENAT, true)] {
+        assert!(said_of.contains(&seen), "call and whether it is changed: {seen:?} failed and nobody said so: {said_of:?}");
+    }
+}
+
+/// The record goes out in one write, behind the lock, and is flushed before the command ends; so is the folder, with the first record.
+#[test]
+fn a_setting_is_one_write_behind_a_lock_and_is_flushed() {
+    for (name, old) in [("flushed", Some(&KEPT[..])), ("flushed-new", None)] {
+        let truck = Truck::new(name, old);
+        truck.lay();
+        let (mut calls, mut pending, mut locked) = (Vec::new(), None, None);
+        let end = traced(&SET, &truck.folder, |stop| {
+            if stop.entry {
+                pending = Some(stop);
+                return Then::Go;
+            }
+            let Some(entered) = pending.take() else { return Then::Go };
+            if entered.call == FLOCK {
+                locked = Some(entered.first);
+            }
+            if [FLOCK, WRITE, FSYNC].contains(&entered.call) && entered.first > 2 {
+                calls.push((entered.call, Some(entered.first) == locked));
+            }
+            Then::Go
+        });
+        assert_eq!(end, End::Exit(0, String::new()));
+        let file = [(FLOCK, true), (WRITE, true), (FSYNC, true)];
+        let wanted = if old.is_some() { file.to_vec() } else { [&file[..], &[(FSYNC, false)]].concat() };
+        assert_eq!(calls, wanted);
     }
 }

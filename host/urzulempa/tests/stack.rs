@@ -2,8 +2,8 @@
 
 use std::thread::Builder;
 use urzulempa::{
-    check, edge_numbers, edges, explain, explain_air, explain_edition, explain_plain, graphviz, nodes, salvage, Node, MOST_EDGES, MOST_NODES,
-    MOST_REPLACED,
+    check, edge_numbers, edges, explain, explain_air, explain_edition, explain_plain, graphviz, nodes, salvage, settings_read, settings_set,
+    Node, MOST_EDGES, MOST_NODES, MOST_REPLACED,
 };
 
 const SAMPLES: [&[u8]; 5] = [
@@ -67,6 +67,16 @@ fn salvage_fits() {
         }
         assert_eq!(salvage(&damaged, &mut room, &mut list).replaced, 1_024);
         assert_eq!(salvage(&[7; 65_537], &mut room, &mut list).number, 1);
+    });
+}
+
+#[test]
+fn settings_fit() {
+    let mut room = [&[1, 2], &[0; 14][..]].concat().repeat(256);
+    on_small_stack(move || {
+        assert!(settings_read(&room, 2).is_done());
+        assert_eq!(settings_set(&mut room, 4_096, 2, 1, 0).number, 10);
+        assert!(settings_set(&mut room, 4_080, 2, 3, 2).is_done());
     });
 }
 

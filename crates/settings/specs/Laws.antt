@@ -1,0 +1,4 @@
+pub mod Table
+pub mod Ways
+pub mod Records
+pub mod Promises

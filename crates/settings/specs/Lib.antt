@@ -1,0 +1,4 @@
+pub mod Settings
+pub mod Change
+pub mod Laws
+pub mod Cases
