@@ -61,7 +61,8 @@ urzulempa_answer urzulempa_explain_edition(const uint8_t *file, size_t file_len,
 /* The explanation of a small load, for a server that is on air: that of urzulempa_explain where the core has no Lock and the graph has
  * at most 64 nodes, as urzulempa_nodes lists them, and no cycle; else 15, 16 or 17. 11 is never given: with room the text is whole. */
 urzulempa_answer urzulempa_explain_air(const uint8_t *file, size_t file_len, uint64_t option, uint8_t *room, size_t room_len);
-/* The graph in the DOT language; option 1 draws each merge group once. */
+/* The graph in the DOT language; option 1 draws each merge group once. Each double quote of a text has a backslash before it; a backslash
+ * stands as it is. */
 urzulempa_answer urzulempa_graphviz(const uint8_t *file, size_t file_len, uint64_t option, uint8_t *room, size_t room_len);
 /* Refusals 1 to 9, and no text. */
 urzulempa_answer urzulempa_check(const uint8_t *file, size_t file_len);

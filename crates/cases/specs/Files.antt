@@ -137,6 +137,12 @@ shared =
     ++ requirement 0 "a *" ++ requirement 1 "b *" ++ requirement 2 "d *" ++ candidate 0 0 ++ candidate 1 1 ++ candidate 2 2
     ++ rootVariable 0 ++ variableOf 1 0 ++ variableOf 2 1 ++ variableOf 3 2 ++ requires 0 0 ++ requires 0 1 ++ requires 1 2 ++ requires 2 2
 
+-- ---- order 5
+
+-- "A version named 4" monitor", and a requirement with two quotes
+abbrev pub monitor : List ℕ
+monitor = name 0 "panel" ++ solvable 0 0 "4\" monitor" ++ requirement 0 "any \"panel\"" ++ candidate 0 0 ++ rootVariable 0 ++ requires 0 0
+
 -- ---- order 9
 
 -- P11's file and a Lock, which is clause 1

@@ -8,6 +8,7 @@ pub mod Right
 pub mod Wrong
 pub mod Plain
 pub mod Short
+pub mod Quotes
 pub mod Editions
 pub mod Air
 pub mod Drawing

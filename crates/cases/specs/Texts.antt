@@ -65,6 +65,10 @@ sevenLines = "x * can be installed with any of the following options:" ∷ "└�
 abbrev pub eightLines : List String
 eightLines = "x * can be installed with any of the following options:" ∷ "└─ x 7 | 0 | 1 | ... | 6" ∷ []
 
+-- order 5: quotes as they stand
+abbrev pub monitorLines : List String
+monitorLines = "any \"panel\" can be installed with any of the following options:" ∷ "└─ panel 4\" monitor" ∷ []
+
 -- two runs below one package
 abbrev pub deskLines : List String
 deskLines =

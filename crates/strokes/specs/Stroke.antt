@@ -1,4 +1,5 @@
--- The text of one edge of the graph text (conflict.rs: `graphviz`). "Text is quoted there as it stands."
+-- The text of one edge of the graph text (conflict.rs: `graphviz`). Document 01: "Text is quoted there as it stands"; order 5 mends that, and
+-- the texts themselves stay plain.
 use mathlib.Core.Bool.{Bool, true, cond}
 use mathlib.Core.List.{List, _++_}
 use Rattle.basis.specs.Quote.{utf8}
@@ -11,6 +12,7 @@ use Rattle.store.specs.declared.ConflictEdge.{ConflictEdge}
 use Rattle.store.specs.declared.ConflictEdge.the-variants as W
 use Rattle.store.specs.Graph.{isUnresolved}
 use Prim.Native.Nat.{ℕ}
+use Rattle.strokes.specs.Quoted.{quoted}
 
 -- "Solvable text: name, space, version"
 unfoldable pub solvableText : Tables → ℕ → List ℕ
@@ -45,7 +47,9 @@ colour red = cond red (utf8 "red") (utf8 "black")
 unfoldable pub paint : Bool → List ℕ
 paint red = utf8 "\"[color=" ++ colour red ++ utf8 ", label=\""
 
--- `"\"{}\" -> \"{}\"[color={color}, label=\"{label}\"];"`
+-- `"\"{}\" -> \"{}\"[color={color}, label=\"{label}\"];"`; order 5: "each double quote in a name, version, requirement, version set or reason is
+-- preceded by a backslash". The other words of a node or label have no quote, and the quotes around them are not escaped.
 unfoldable pub stroke : Tables → ConflictNode → ConflictNode → Bool → ConflictEdge → List ℕ
-unfolding nodeText label paint
-stroke T x y red w = utf8 "\"" ++ nodeText T x ++ utf8 "\" -> \"" ++ nodeText T y ++ paint red ++ label T w ++ utf8 "\"];"
+unfolding nodeText label paint quoted
+stroke T x y red w =
+    utf8 "\"" ++ quoted (nodeText T x) ++ utf8 "\" -> \"" ++ quoted (nodeText T y) ++ paint red ++ quoted (label T w) ++ utf8 "\"];"

@@ -1,12 +1,13 @@
 // The text of one edge of the graph text (conflict.rs: `graphviz`): its length, and its bytes behind the earlier ones.
+mod quotes;
 pub mod sizes;
 
+use quotes::put_quoted;
 use store::ConflictCause;
 use store::ConflictEdge;
 use store::ConflictNode;
 use texts::graphviz;
 use texts::wordings;
-use texts::writers::put;
 ghost use mathlib.Core.Path.{_≡_};
 ghost use mathlib.Core.List.{_++_};
 ghost use Prim.Native.Nat.{_+_, _≤_};
@@ -15,23 +16,24 @@ ghost use Rattle.basis.specs.Quote.{utf8};
 ghost use Rattle.records.specs.Read.{tablesOf};
 ghost use Rattle.index.specs.Index.{Loaded};
 ghost use Rattle.texts.specs.Wrote.{Wrote};
+ghost use Rattle.strokes.specs.Quoted.{quoted};
 ghost use Rattle.strokes.specs.Stroke.{solvableText, excludedText, nodeText, label, isRed, paint, stroke};
 ghost use Rattle.strokes.specs.Sizes.{strokeSize};
 
 // Name, space, version.
 fn put_named(out: &mut [u8], name: &[u8], version: &[u8]) -> usize
-    requires { ⌜ length (now name) + 1 + length (now version) ≤ length (now out) ⌝ }
-    ensures { λ r. ⌜ Wrote (now (name .entry) ++ utf8 " " ++ now (version .entry)) (now (out .entry)) (now (out .exit)) r ⌝ }
+    requires { ⌜ length (quoted (now name)) + 1 + length (quoted (now version)) ≤ length (now out) ⌝ }
+    ensures { λ r. ⌜ Wrote (quoted (now (name .entry)) ++ utf8 " " ++ quoted (now (version .entry))) (now (out .entry)) (now (out .exit)) r ⌝ }
 {
-    let a = put(out, name);
+    let a = put_quoted(out, name);
     let b = a + wordings::space(&mut out[a..]);
-    b + put(&mut out[b..], version)
+    b + put_quoted(&mut out[b..], version)
 }
 
 fn put_solvable(file: &[u8], ix: &[u16; 10432], out: &mut [u8], s: u16) -> usize
     requires { ⌜ Loaded (now file) (now ix) ⌝ }
-    requires { ⌜ length (solvableText (tablesOf (now file)) s) ≤ length (now out) ⌝ }
-    ensures { λ r. ⌜ Wrote (solvableText (tablesOf (now (file .entry))) s) (now (out .entry)) (now (out .exit)) r ⌝ }
+    requires { ⌜ length (quoted (solvableText (tablesOf (now file)) s)) ≤ length (now out) ⌝ }
+    ensures { λ r. ⌜ Wrote (quoted (solvableText (tablesOf (now (file .entry))) s)) (now (out .entry)) (now (out .exit)) r ⌝ }
 {
     let name = views::name_text(file, ix, views::solvable_name(file, ix, s));
     let version = views::version_text(file, ix, s);
@@ -40,26 +42,26 @@ fn put_solvable(file: &[u8], ix: &[u16; 10432], out: &mut [u8], s: u16) -> usize
 
 fn put_excluded(file: &[u8], ix: &[u16; 10432], out: &mut [u8], r: u16) -> usize
     requires { ⌜ Loaded (now file) (now ix) ⌝ }
-    requires { ⌜ length (excludedText (tablesOf (now file)) r) ≤ length (now out) ⌝ }
-    ensures { λ x. ⌜ Wrote (excludedText (tablesOf (now (file .entry))) r) (now (out .entry)) (now (out .exit)) x ⌝ }
+    requires { ⌜ length (quoted (excludedText (tablesOf (now file)) r)) ≤ length (now out) ⌝ }
+    ensures { λ x. ⌜ Wrote (quoted (excludedText (tablesOf (now (file .entry))) r)) (now (out .entry)) (now (out .exit)) x ⌝ }
 {
     let text = views::reason_text(file, ix, r);
     put_reason(out, text)
 }
 
 fn put_reason(out: &mut [u8], text: &[u8]) -> usize
-    requires { ⌜ 8 + length (now text) ≤ length (now out) ⌝ }
-    ensures { λ r. ⌜ Wrote (utf8 "reason: " ++ now (text .entry)) (now (out .entry)) (now (out .exit)) r ⌝ }
+    requires { ⌜ 8 + length (quoted (now text)) ≤ length (now out) ⌝ }
+    ensures { λ r. ⌜ Wrote (utf8 "reason: " ++ quoted (now (text .entry))) (now (out .entry)) (now (out .exit)) r ⌝ }
 {
     let a = graphviz::reason(out);
-    a + put(&mut out[a..], text)
+    a + put_quoted(&mut out[a..], text)
 }
 
 // A node as it is shown (`solvable_or_root` displayed, and the two other kinds).
 fn put_node(file: &[u8], ix: &[u16; 10432], out: &mut [u8], x: ConflictNode) -> usize
     requires { ⌜ Loaded (now file) (now ix) ⌝ }
-    requires { ⌜ length (nodeText (tablesOf (now file)) x) ≤ length (now out) ⌝ }
-    ensures { λ r. ⌜ Wrote (nodeText (tablesOf (now (file .entry))) x) (now (out .entry)) (now (out .exit)) r ⌝ }
+    requires { ⌜ length (quoted (nodeText (tablesOf (now file)) x)) ≤ length (now out) ⌝ }
+    ensures { λ r. ⌜ Wrote (quoted (nodeText (tablesOf (now (file .entry))) x)) (now (out .entry)) (now (out .exit)) r ⌝ }
 {
     match x {
         ConflictNode::Root => wordings::root(out),
@@ -71,12 +73,12 @@ fn put_node(file: &[u8], ix: &[u16; 10432], out: &mut [u8], x: ConflictNode) -> 
 
 fn put_cause(file: &[u8], ix: &[u16; 10432], out: &mut [u8], c: ConflictCause) -> usize
     requires { ⌜ Loaded (now file) (now ix) ⌝ }
-    requires { ⌜ length (label (tablesOf (now file)) (ConflictEdge.Conflict c)) ≤ length (now out) ⌝ }
-    ensures { λ r. ⌜ Wrote (label (tablesOf (now (file .entry))) (ConflictEdge.Conflict c)) (now (out .entry)) (now (out .exit)) r ⌝ }
+    requires { ⌜ length (quoted (label (tablesOf (now file)) (ConflictEdge.Conflict c))) ≤ length (now out) ⌝ }
+    ensures { λ r. ⌜ Wrote (quoted (label (tablesOf (now (file .entry))) (ConflictEdge.Conflict c))) (now (out .entry)) (now (out .exit)) r ⌝ }
 {
     match c {
         ConflictCause::Locked(_) => graphviz::already_installed(out),
-        ConflictCause::Constrains(v) => put(out, views::set_text(file, ix, v)),
+        ConflictCause::Constrains(v) => put_quoted(out, views::set_text(file, ix, v)),
         ConflictCause::ForbidMultipleInstances => graphviz::already_installed(out),
         ConflictCause::Excluded => graphviz::excluded(out),
     }
@@ -84,11 +86,11 @@ fn put_cause(file: &[u8], ix: &[u16; 10432], out: &mut [u8], c: ConflictCause) -
 
 fn put_label(file: &[u8], ix: &[u16; 10432], out: &mut [u8], w: ConflictEdge) -> usize
     requires { ⌜ Loaded (now file) (now ix) ⌝ }
-    requires { ⌜ length (label (tablesOf (now file)) w) ≤ length (now out) ⌝ }
-    ensures { λ r. ⌜ Wrote (label (tablesOf (now (file .entry))) w) (now (out .entry)) (now (out .exit)) r ⌝ }
+    requires { ⌜ length (quoted (label (tablesOf (now file)) w)) ≤ length (now out) ⌝ }
+    ensures { λ r. ⌜ Wrote (quoted (label (tablesOf (now (file .entry))) w)) (now (out .entry)) (now (out .exit)) r ⌝ }
 {
     match w {
-        ConflictEdge::Requires(q) => put(out, views::requirement_text(file, ix, q)),
+        ConflictEdge::Requires(q) => put_quoted(out, views::requirement_text(file, ix, q)),
         ConflictEdge::Conflict(c) => put_cause(file, ix, out, c),
     }
 }
@@ -112,9 +114,9 @@ fn put_ends(
     y: ConflictNode,
 ) -> usize
     requires { ⌜ Loaded (now file) (now ix) ⌝ }
-    requires { ⌜ length (nodeText (tablesOf (now file)) x) + length (nodeText (tablesOf (now file)) y) + 7 ≤ length (now out) ⌝ }
-    ensures { λ r. ⌜ r ≡ length (nodeText (tablesOf (now (file .entry))) x) + length (nodeText (tablesOf (now (file .entry))) y) + 7 ⌝ }
-    ensures { λ r. ⌜ Wrote (utf8 "\"" ++ nodeText (tablesOf (now (file .entry))) x ++ utf8 "\" -> \"" ++ nodeText (tablesOf (now (file .entry))) y) (now (out .entry)) (now (out .exit)) r ⌝ }
+    requires { ⌜ length (quoted (nodeText (tablesOf (now file)) x)) + length (quoted (nodeText (tablesOf (now file)) y)) + 7 ≤ length (now out) ⌝ }
+    ensures { λ r. ⌜ r ≡ length (quoted (nodeText (tablesOf (now (file .entry))) x)) + length (quoted (nodeText (tablesOf (now (file .entry))) y)) + 7 ⌝ }
+    ensures { λ r. ⌜ Wrote (utf8 "\"" ++ quoted (nodeText (tablesOf (now (file .entry))) x) ++ utf8 "\" -> \"" ++ quoted (nodeText (tablesOf (now (file .entry))) y)) (now (out .entry)) (now (out .exit)) r ⌝ }
 {
     let a = graphviz::quote(out);
     let b = a + put_node(file, ix, &mut out[a..], x);

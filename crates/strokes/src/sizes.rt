@@ -1,4 +1,5 @@
 // How many bytes an edge takes. A unit is written whole, so its length is known before its first byte is.
+use super::quotes::quoted_size;
 use store::ConflictCause;
 use store::ConflictEdge;
 use store::ConflictNode;
@@ -7,39 +8,33 @@ ghost use Prim.Native.Nat.{_+_, _≤_};
 ghost use lib.ListN.{length};
 ghost use Rattle.records.specs.Read.{tablesOf};
 ghost use Rattle.index.specs.Index.{Loaded};
+ghost use Rattle.strokes.specs.Quoted.{quoted};
 ghost use Rattle.strokes.specs.Stroke.{solvableText, excludedText, nodeText, label, paint};
 ghost use Rattle.strokes.specs.Sizes.{strokeSize};
 
-fn short(text: &[u8]) -> usize
-    requires { ⌜ length (now text) ≤ 24 ⌝ }
-    ensures { λ r. ⌜ (r ≡ length (now (text .entry))) × (r ≤ 24) ⌝ }
-{
-    text.len()
-}
-
 fn solvable_size(file: &[u8], ix: &[u16; 10432], s: u16) -> usize
     requires { ⌜ Loaded (now file) (now ix) ⌝ }
-    ensures { λ r. ⌜ (r ≡ length (solvableText (tablesOf (now (file .entry))) s)) × (r ≤ 49) ⌝ }
+    ensures { λ r. ⌜ (r ≡ length (quoted (solvableText (tablesOf (now (file .entry))) s))) × (r ≤ 97) ⌝ }
 {
     let name = views::name_text(file, ix, views::solvable_name(file, ix, s));
     let version = views::version_text(file, ix, s);
-    let a = short(name);
-    let b = short(version);
+    let a = quoted_size(name);
+    let b = quoted_size(version);
     a + 1 + b
 }
 
 fn excluded_size(file: &[u8], ix: &[u16; 10432], n: u16) -> usize
     requires { ⌜ Loaded (now file) (now ix) ⌝ }
-    ensures { λ r. ⌜ (r ≡ length (excludedText (tablesOf (now (file .entry))) n)) × (r ≤ 32) ⌝ }
+    ensures { λ r. ⌜ (r ≡ length (quoted (excludedText (tablesOf (now (file .entry))) n))) × (r ≤ 56) ⌝ }
 {
     let text = views::reason_text(file, ix, n);
-    let a = short(text);
+    let a = quoted_size(text);
     8 + a
 }
 
 fn node_size(file: &[u8], ix: &[u16; 10432], x: ConflictNode) -> usize
     requires { ⌜ Loaded (now file) (now ix) ⌝ }
-    ensures { λ r. ⌜ (r ≡ length (nodeText (tablesOf (now (file .entry))) x)) × (r ≤ 49) ⌝ }
+    ensures { λ r. ⌜ (r ≡ length (quoted (nodeText (tablesOf (now (file .entry))) x))) × (r ≤ 97) ⌝ }
 {
     match x {
         ConflictNode::Root => 6,
@@ -51,13 +46,13 @@ fn node_size(file: &[u8], ix: &[u16; 10432], x: ConflictNode) -> usize
 
 fn cause_size(file: &[u8], ix: &[u16; 10432], c: ConflictCause) -> usize
     requires { ⌜ Loaded (now file) (now ix) ⌝ }
-    ensures { λ r. ⌜ (r ≡ length (label (tablesOf (now (file .entry))) (ConflictEdge.Conflict c))) × (r ≤ 24) ⌝ }
+    ensures { λ r. ⌜ (r ≡ length (quoted (label (tablesOf (now (file .entry))) (ConflictEdge.Conflict c)))) × (r ≤ 48) ⌝ }
 {
     match c {
         ConflictCause::Locked(_) => 17,
         ConflictCause::Constrains(v) => {
             let text = views::set_text(file, ix, v);
-            short(text)
+            quoted_size(text)
         }
         ConflictCause::ForbidMultipleInstances => 17,
         ConflictCause::Excluded => 8,
@@ -66,12 +61,12 @@ fn cause_size(file: &[u8], ix: &[u16; 10432], c: ConflictCause) -> usize
 
 fn label_size(file: &[u8], ix: &[u16; 10432], w: ConflictEdge) -> usize
     requires { ⌜ Loaded (now file) (now ix) ⌝ }
-    ensures { λ r. ⌜ (r ≡ length (label (tablesOf (now (file .entry))) w)) × (r ≤ 24) ⌝ }
+    ensures { λ r. ⌜ (r ≡ length (quoted (label (tablesOf (now (file .entry))) w))) × (r ≤ 48) ⌝ }
 {
     match w {
         ConflictEdge::Requires(q) => {
             let text = views::requirement_text(file, ix, q);
-            short(text)
+            quoted_size(text)
         }
         ConflictEdge::Conflict(c) => cause_size(file, ix, c),
     }
@@ -96,7 +91,7 @@ pub fn stroke_size(
     w: ConflictEdge,
 ) -> usize
     requires { ⌜ Loaded (now file) (now ix) ⌝ }
-    ensures { λ r. ⌜ (r ≡ strokeSize (tablesOf (now (file .entry))) x y red w) × (r ≤ 154) ⌝ }
+    ensures { λ r. ⌜ (r ≡ strokeSize (tablesOf (now (file .entry))) x y red w) × (r ≤ 274) ⌝ }
 {
     let a = node_size(file, ix, x);
     let b = node_size(file, ix, y);

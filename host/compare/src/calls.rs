@@ -126,7 +126,8 @@ fn same(trial: &Trial, theirs: oracle::Answer, ours: urzulempa::Answer, their_ro
 }
 
 /// Every call on a file: options 0, 1 and bad ones; rooms 0, exact, one short, random and ample, for the plain call one more as well, and
-/// those that end within a group that is shown short; lists of edges with one number more; both editions and bad ones; the air profile.
+/// those that end within a group that is shown short or, in the graph text, between a backslash and its quote; lists of edges with one
+/// number more; both editions and bad ones; the air profile.
 pub fn trials(file: &[u8], rng: &mut Rng) -> Vec<Trial> {
     let mut trials = vec![Trial { call: Call::Check, option: 0, room: 0, fill: 0 }];
     let whole = oracle::check(file).number == 0;
@@ -135,7 +136,11 @@ pub fn trials(file: &[u8], rng: &mut Rng) -> Vec<Trial> {
             let mut room = vec![0; AMPLE];
             let exact = if whole { measure(call, file, option, &mut room) } else { 0 };
             let some = (rng.next() % (exact as u64 + 40)) as usize;
-            let rooms = [0, exact, exact.saturating_sub(1), some, AMPLE].into_iter().chain(dots(&room[..exact], rng, 2));
+            let mut rooms = vec![0, exact, exact.saturating_sub(1), some, AMPLE];
+            rooms.extend(dots(&room[..exact], rng, 2));
+            if call == Call::Graph {
+                rooms.extend(quotes(file, option, &room[..exact], rng, 2));
+            }
             for room in rooms {
                 trials.push(Trial { call, option, room, fill: rng.next() });
             }
@@ -203,6 +208,21 @@ fn dots(text: &[u8], rng: &mut Rng, groups: usize) -> Vec<usize> {
     }
     let end = |at: usize| at + text[at..].iter().position(|byte| *byte == b'\n').map_or(0, |rest| rest + 1);
     found.into_iter().flat_map(|at| (at..=at + DOTS.len()).chain([end(at).saturating_sub(1), end(at), end(at) + 1])).collect()
+}
+
+/// The places around at most so many quotes that have a backslash before them in a graph text, chosen at random, and around the ends of
+/// the units that they stand in.
+fn quotes(file: &[u8], option: u64, text: &[u8], rng: &mut Rng, most: usize) -> Vec<usize> {
+    let mut found: Vec<usize> = text.windows(2).enumerate().filter(|(_, two)| *two == b"\\\"").map(|(at, _)| at).collect();
+    while found.len() > most {
+        found.swap_remove((rng.next() % found.len() as u64) as usize);
+    }
+    let ends = |at: usize| {
+        let fits = |room: &usize| measure(Call::Graph, file, option, &mut vec![0; *room]) > at;
+        let end = (at + 1..=text.len()).collect::<Vec<_>>().partition_point(|room| !fits(room)) + at + 1;
+        [at, at + 1, at + 2, end - 1, end, end + 1]
+    };
+    found.into_iter().flat_map(ends).collect()
 }
 
 /// The explanation by edition: both with options 0 and 1, in rooms 0, exact, one short, one more, random and ample, and around the

@@ -60,11 +60,12 @@ const LINE_ENDS: usize = 8;
 const CHECK: Trial = Trial { call: Call::Check, option: 0, room: 0, fill: 0 };
 
 /// Files made by hand: the samples, a group whose members differ in their labels, packages whose fingerprints collide, groups of 5 to
-/// 120 packages.
+/// 120 packages, texts with quotes and backslashes.
 fn hand_made() -> Vec<(String, Vec<u8>)> {
     let others = [("unequal labels", oracle::samples::unequal_labels()), ("equal fingerprints", oracle::samples::equal_fingerprints())];
     let named = oracle::samples::all().into_iter().chain(others).map(|(name, file)| (name.to_string(), file));
-    named.chain(oracle::samples::groups()).collect()
+    let quotes = oracle::samples::QUOTES.map(|text| (format!("{text} everywhere"), oracle::samples::everywhere(text)));
+    named.chain(oracle::samples::groups()).chain(quotes).collect()
 }
 
 /// True if a difference was found.

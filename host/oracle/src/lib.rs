@@ -28,6 +28,8 @@ mod limits;
 #[cfg(has_conflict_rs)]
 mod provider;
 #[cfg(has_conflict_rs)]
+mod quoted;
+#[cfg(has_conflict_rs)]
 mod rooms;
 #[cfg(has_conflict_rs)]
 mod standins;

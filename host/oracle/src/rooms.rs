@@ -80,8 +80,8 @@ impl fmt::Write for Lines<'_> {
 }
 
 /// The sink of the graph text: `graphviz` makes one `write!` for the opening, each edge and the
-/// closing brace, and each is one call of `write_fmt`. Cutting at `;` would not do: labels are
-/// quoted as they stand.
+/// closing brace, and each is one call of `write_fmt`. Cutting at `;` would not do: a label may hold
+/// one, and the quotes around a label do not always end where it does.
 pub struct Pieces<'r> {
     pub room: Room<'r>,
 }

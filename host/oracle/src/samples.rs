@@ -102,6 +102,22 @@ pub fn rack() -> Vec<u8> {
     d.file()
 }
 
+/// Order 5 of document 02: "A version named 4" monitor broke the drawing for the whole load." A gallery needs a panel of up to seven
+/// inches; one is excluded, the other needs a driver that nobody has.
+pub fn monitor() -> Vec<u8> {
+    let mut d = Draft::new();
+    let gallery = d.package("gallery", "2");
+    let panel = d.name("panel");
+    let four = d.solvable(panel, "4\" monitor");
+    let seven = d.solvable(panel, "7\" monitor");
+    d.root_needs("gallery *", &[gallery]);
+    d.needs(gallery, "panel <=7\"", &[four, seven]);
+    let cracked = d.reason("its glass is cracked");
+    d.excludes(four, cracked);
+    d.needs(seven, "driver 12", &[]);
+    d.file()
+}
+
 /// A cycle in which two members of a group differ in their labels: deck 1 and deck 2 require x, x requires either of them and a
 /// codec that nobody has.
 pub fn unequal_labels() -> Vec<u8> {
@@ -221,6 +237,33 @@ pub fn groups() -> Vec<(String, Vec<u8>)> {
     Line::ALL.into_iter().flat_map(each).collect()
 }
 
+/// A load in which every text is this one: a name, versions, requirements, a version set and a reason. The root requires four packages,
+/// of which one is excluded, one constrains another, and one requires what nobody has.
+pub fn everywhere(text: &str) -> Vec<u8> {
+    let mut d = Draft::new();
+    let name = d.name(text);
+    let all = [0; 4].map(|_| d.solvable(name, text));
+    d.root_needs(text, &all);
+    let (reason, set) = (d.reason(text), d.version_set(name, text));
+    d.excludes(all[0], reason);
+    d.constrains(all[1], all[2], set);
+    d.needs(all[2], text, &[]);
+    d.file()
+}
+
+/// Texts with quotes and backslashes, alone and in runs of both.
+pub const QUOTES: [&str; 9] = [
+    r#"""#,
+    r"\",
+    r#"\""#,
+    r#"\\""#,
+    r#""\"#,
+    r#"4" monitor"#,
+    r#""];}""#,
+    r#""""""""""""""""""""""""""#,
+    r#"\\\\\\\\\\\\\\\\\\\\\\\""#,
+];
+
 /// The sample files by name.
 pub fn all() -> Vec<(&'static str, Vec<u8>)> {
     vec![
@@ -229,5 +272,6 @@ pub fn all() -> Vec<(&'static str, Vec<u8>)> {
         ("merged-pair.rec", merged_pair()),
         ("lone.rec", lone_package()),
         ("rack.rec", rack()),
+        ("monitor.rec", monitor()),
     ]
 }

@@ -178,6 +178,16 @@ pub fn explain_air(file: &[u8], option: u64, room: &mut [u8]) -> Answer {
 }
 
 /// Writes the graph in the DOT language; option 1 draws each merge group once.
+///
+/// Each double quote of a name, version, requirement, version set or reason has a backslash before it; a backslash stands as it is.
+///
+/// ```
+/// // A version `4" monitor`.
+/// let file = include_bytes!("../../../samples/monitor.rec");
+/// let (answer, text) = urzulempa::grown(1 << 20, |room| urzulempa::graphviz(file, 0, room));
+/// assert!(answer.is_done());
+/// assert!(String::from_utf8_lossy(&text).contains(r#""panel 4\" monitor""#));
+/// ```
 pub fn graphviz(file: &[u8], option: u64, room: &mut [u8]) -> Answer {
     ffi::graphviz(file, option, room)
 }

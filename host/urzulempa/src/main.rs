@@ -23,7 +23,8 @@ urzulempa: why a load of packages has no solution, from a file of clause records
             [--air]                              only what is safe on air: a load without a lock in its core, without a cycle, and
                                                  with at most 64 nodes; any other is refused with 15 to 17, and the text always ends
   urzulempa graph FILE [--no-simplify]           the graph in the DOT language; a merge group is drawn once (--simplify, the
-            [--room N] [--settings SET]          default) or, with --no-simplify, each package of it; the last one counts
+            [--room N] [--settings SET]          default) or, with --no-simplify, each package of it; the last one counts; a
+                                                 quote in a text has a backslash before it
   urzulempa nodes FILE                           the nodes: number, kind, what it names, first node of its group, labels, and the
                                                  clause that first added it (65535: none) with its record
   urzulempa edges FILE [PACKAGE]                 the edges, oldest first, each with the clause that added it and that clause's
@@ -45,7 +46,7 @@ Examples:
   urzulempa explain samples/replay.rec
   urzulempa explain samples/deck-panel.rec --edition 2
   urzulempa explain samples/replay.rec --air
-  urzulempa graph samples/replay.rec | dot -Tsvg > replay.svg
+  urzulempa graph samples/monitor.rec | dot -Tsvg > monitor.svg
   urzulempa edges samples/rack.rec deck 3.1
   urzulempa check - < samples/rack.rec
   urzulempa salvage cut.rec -o mended.rec

@@ -29,6 +29,7 @@ fn said(bytes: &[u8]) -> String {
 const REPLAY: &[u8] = include_bytes!("../../../samples/replay.rec");
 const RACK: &[u8] = include_bytes!("../../../samples/rack.rec");
 const DECK_PANEL: &[u8] = include_bytes!("../../../samples/deck-panel.rec");
+const MONITOR: &[u8] = include_bytes!("../../../samples/monitor.rec");
 
 #[test]
 fn explain_prints_the_text_and_nothing_else() {
@@ -89,6 +90,33 @@ fn a_long_group_shows_its_first_three_versions_and_its_last() {
             └─ panel <5, which conflicts with any installable versions previously reported
 ";
     assert_eq!(said(&out.stdout), wanted);
+}
+
+/// What dot draws of a graph text in a format.
+fn drawn_by_dot(format: &str, text: &[u8]) -> String {
+    let dot = Command::new("dot").arg(format).stdin(Stdio::piped()).stdout(Stdio::piped()).spawn();
+    let mut dot = dot.expect("dot is on PATH: it comes with graphviz, which ./test installs");
+    dot.stdin.take().expect("a pipe").write_all(text).expect("dot reads it");
+    let out = dot.wait_with_output().expect("dot ends");
+    assert!(out.status.success(), "dot does not take {}", said(text));
+    said(&out.stdout)
+}
+
+#[test]
+fn dot_draws_a_version_with_a_quote() {
+    for words in [&["graph", "-"][..], &["graph", "-", "--simplify"]] {
+        let out = run(words, MONITOR);
+        assert_eq!(out.status.code(), Some(0));
+        let plain = drawn_by_dot("-Tplain", &out.stdout);
+        // A node's line has its name, place and size, its label, then how it is drawn.
+        let node = plain.lines().find(|line| line.starts_with("node \"panel 4")).expect("the monitor is drawn");
+        assert_eq!(node.matches(r#""panel 4\" monitor""#).count(), 2, "{node}");
+        assert!(plain.contains(r#""panel <=7\"""#), "{plain}");
+        // What is seen has the quote and no backslash.
+        assert!(drawn_by_dot("-Tsvg", &out.stdout).contains(">panel 4&quot; monitor</text>"));
+    }
+    let out = run(&["explain", "-"], MONITOR);
+    assert!(said(&out.stdout).contains("├─ panel 4\" monitor is excluded because its glass is cracked\n"));
 }
 
 #[test]

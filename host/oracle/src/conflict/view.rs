@@ -9,6 +9,7 @@ use petgraph::visit::EdgeRef as _;
 use super::{Conflict, ConflictCause, ConflictEdge, ConflictGraph, ConflictNode, DisplayUnsat};
 use crate::limits::{self, AddedBy};
 use crate::provider::{FileSolver, Provider};
+use crate::quoted::Quoted;
 use crate::rooms::{Lines, Pieces, Room};
 use crate::standins::internal::id::ClauseId;
 use crate::standins::Interner;
@@ -112,10 +113,12 @@ impl<'p, 'a> View<'p, 'a> {
         }
     }
 
+    /// `graphviz`, with the texts as it quotes them.
     pub fn graphviz(&self, simplify: bool, room: Room<'_>) -> Answer {
         let mut pieces = Pieces { room };
         let unsat = &self.unsat;
-        let whole = unsat.graph.graphviz(&mut pieces, unsat.interner, simplify);
+        let texts = Quoted(unsat.interner);
+        let whole = unsat.graph.graphviz(&mut pieces, &texts, simplify);
         let units = pieces.room.units_written();
         let (number, place) = match whole {
             Ok(()) => (0, 0),

@@ -11,6 +11,7 @@ mod gates;
 mod kinds;
 pub mod limits;
 mod merges;
+mod quotes;
 mod texts;
 mod trees;
 mod world;
@@ -102,6 +103,8 @@ const SHAPES: &[Shape] = &[
     light("merge-around-six", merges::around_six),
     light("merge-long", merges::long),
     heavy("merge-longest", merges::longest),
+    light("quotes", quotes::everywhere),
+    heavy("quotes-alone", quotes::alone),
     light("twin-variables", trees::twin_variables),
     light("last-mark-skipped", trees::last_mark_skipped),
     light("cycle-unmerged", trees::cycle_unmerged),

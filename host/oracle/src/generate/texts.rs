@@ -47,10 +47,24 @@ pub fn reason(rng: &mut Rng) -> String {
     }
 }
 
-/// Any text that the reader takes: quotes, brackets, spaces, up to the full 24 bytes.
+/// Any text that the reader takes, up to the full 24 bytes; at times one of few bytes only.
 pub fn odd(rng: &mut Rng) -> String {
+    if rng.chance(40) {
+        return quotes(rng);
+    }
     let length = *rng.pick(&[1, 2, 7, 23, 24]);
     (0..length)
         .map(|_| char::from(rng.between(32, 126) as u8))
         .collect()
+}
+
+/// Quotes and backslashes in runs, among bytes that mean something to the DOT language, or quotes alone.
+pub fn quotes(rng: &mut Rng) -> String {
+    let length = *rng.pick(&[1, 2, 3, 8, 23, 24]);
+    let from: &[char] = match rng.below(4) {
+        0 => &['"'],
+        1 => &['"', '\\'],
+        _ => &['"', '"', '\\', '4', ' ', ';', ']'],
+    };
+    (0..length).map(|_| *rng.pick(from)).collect()
 }
