@@ -93,6 +93,14 @@ urzulempa_settings urzulempa_settings_read(const uint8_t *file, size_t file_len,
  * 12 as above; 1 if `used` is above room_len or 4,096 or no multiple of 16; the file's own 18 and 3; 3 with place 0 for a setting or
  * content that this version does not know; 10 with place 0 if the record would pass 4,096 bytes or the room. */
 urzulempa_answer urzulempa_settings_set(uint8_t *room, size_t room_len, uint64_t used, uint64_t version, uint64_t setting, uint64_t content);
+/* Writes a record file into the room from filled tables. They are lent as rows of 32 bytes in the record's own layout, in any order of
+ * kinds. A row's number is its place among the rows of its kind, all clauses being one table; in kinds 1, 2, 3, 4, 6 and 7 field a is
+ * not looked at, and gets that number. All other fields name rows by these numbers. The file has kinds 1 to 7 in ascending order, each
+ * in its own, then the clauses in theirs, then kind 8 by variable. Done: `bytes` is its length, `units` its records, `depth` 0.
+ * 1, place 0, if rows_len is no multiple of 32; then 2 to 6, whatever that file would get, with the place in that file (a row of an
+ * unknown kind stands among the clauses); then 1, place 0, if it would pass 65,536 bytes; then 10, place 0, if it does not fit.
+ * Nothing is written on any refusal, and what lies behind the file stays. */
+urzulempa_answer urzulempa_write(const uint8_t *rows, size_t rows_len, uint8_t *room, size_t room_len);
 
 #ifdef __cplusplus
 }

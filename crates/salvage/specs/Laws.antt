@@ -1,4 +1,3 @@
-pub mod Pieces
 pub mod Mending
 pub mod Repaired
 pub mod Pass

@@ -1,9 +1,9 @@
 -- Salvage of a record file (document 02, order 7): what becomes of each record, and the repaired file.
 use mathlib.Core.Bool.{Bool, true, false, cond, _&&_, not}
-use mathlib.Core.List.{List, [], _∷_, _++_}
+use mathlib.Core.List.{List, [], _∷_}
 use mathlib.Core.Option.{none, some}
 use Prim.Native.Nat.{ℕ, zero, suc, _/_, _%_}
-use lib.ListN.{length, take, drop, replicate}
+use lib.ListN.{length, replicate}
 use lib.Dec.{leb, ltb, eqb}
 use Rattle.records.specs.declared.Table.{Table}
 use Rattle.records.specs.declared.Table.the-variants.{Names, Solvables, VersionSets, Requirements, Candidates, Reasons, Variables, Assigned, Clauses}
@@ -11,6 +11,7 @@ use Rattle.records.specs.declared.Shape.{Shape}
 use Rattle.records.specs.Shapes.{Rec, recOf, shapeOf, limit}
 use Rattle.records.specs.Tables.{Tables, noTables, put}
 use Rattle.records.specs.Read.{refusalIn}
+use Rattle.pieces.specs.Pieces.{pieces, joined}
 use Rattle.salvage.specs.declared.Verdict.{Verdict}
 use Rattle.salvage.specs.declared.Verdict.the-variants.{Stays, Replaced, Stops}
 
@@ -57,15 +58,6 @@ verdictOf T r = elim (shapeOf (r .kind)) [ none ↦ Stops 2 | some s ↦ onKnown
 abbrev pub blank : List ℕ
 blank = 16 ∷ replicate 31 0
 
--- the first n records of a file, 32 bytes each: "drop the bytes after the last whole record"
-unfoldable pub pieces : ℕ → List ℕ → List (List ℕ)
-pieces zero s = []
-pieces (suc n) s = take 32 s ∷ pieces n (drop 32 s)
-
-unfoldable pub joined : List (List ℕ) → List ℕ
-joined [] = []
-joined (x ∷ xs) = x ++ joined xs
-
 -- the repaired records and the numbers of those that were replaced, or a refusal with its place
 pub data Mended : Type 0 where
   mended : List (List ℕ) → List ℕ → Mended
@@ -102,7 +94,7 @@ abbrev pub finished : ℕ → Mended → Salvage
 finished d (mended ys ls) = repaired (joined ys) ls d
 finished d (halted n i) = refused n i
 
--- "1 only for above 65,536; then the record refusals"
+-- "1 only for above 65,536; then the record refusals"; the pieces are whole records: "drop the bytes after the last whole record"
 unfoldable pub salvageOf : List ℕ → Salvage
 unfolding pieces mendFrom
 salvageOf file =

@@ -11,10 +11,6 @@ use Rattle.salvage.specs.declared.Salvaged.{Salvaged}
 use Rattle.salvage.specs.Salvage.{blank}
 use Rattle.salvage.specs.Lent.{refusalOf, doneOf, fits}
 
--- o is d, with its n elements from `at` on those of s
-pub record Pasted (d : List ℕ) (at : ℕ) (s : List ℕ) (n : ℕ) (o : List ℕ) : Type 0 where
-  pub is : o ≡ paste d at s n
-
 -- record l of d, if it is there, "kind 16 with flag 0 and all else zero"
 unfoldable pub blankAt : List ℕ → ℕ → List ℕ
 blankAt d l = guard (leb (32 * l + 32) (length d)) d (paste d (32 * l) blank 32)

@@ -3,22 +3,12 @@ use crate::Salvaged;
 use crate::refusal;
 use basis::get16;
 use basis::wide16;
+use pieces::paste_bytes;
 ghost use mathlib.Core.Path.{_≡_};
 ghost use Prim.Native.Nat.{_+_, _≤_, _<_};
 ghost use lib.ListN.{length, take};
-ghost use Rattle.salvage.specs.Writing.{Pasted, blankAt, blanks, Laid};
-
-// n bytes of `s` over those of `d` from `at` on.
-fn paste_bytes(d: &mut [u8], at: usize, s: &[u8], n: usize)
-    requires { ⌜ (at + n ≤ length (now d)) × (n ≤ length (now s)) ⌝ }
-    ensures { λ _. ⌜ Pasted (now (d .entry)) at (now (s .entry)) n (now (d .exit)) ⌝ }
-{
-    let mut i = 0;
-    while i < n {
-        d[at + i] = s[i];
-        i += 1;
-    }
-}
+ghost use Rattle.pieces.specs.Pieces.{Pasted};
+ghost use Rattle.salvage.specs.Writing.{blankAt, blanks, Laid};
 
 // n numbers of `s` over the first of `d`.
 fn paste_numbers(d: &mut [u16], at: usize, s: &[u16], n: usize)

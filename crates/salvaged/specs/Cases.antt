@@ -9,7 +9,8 @@ use Rattle.records.specs.Read.{readFrom}
 use Rattle.graph.specs.Graphs.{refused}
 use Rattle.graph.specs.Files.{outcomeOf}
 use Rattle.salvage.specs.Salvage as S
-use Rattle.salvage.specs.Salvage.{pieces, joined, verdictOf, mendFrom, salvageOf, Salvage}
+use Rattle.pieces.specs.Pieces.{pieces, joined}
+use Rattle.salvage.specs.Salvage.{verdictOf, mendFrom, salvageOf, Salvage}
 
 abbrev rec : ℕ → ℕ → ℕ → ℕ → ℕ → List ℕ → List ℕ
 rec k f a b c t = k ∷ f ∷ a % 256 ∷ a / 256 ∷ b % 256 ∷ b / 256 ∷ c % 256 ∷ c / 256 ∷ t ++ replicate (24 - length t) 0

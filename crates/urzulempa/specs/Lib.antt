@@ -6,4 +6,5 @@ pub mod Plain
 pub mod Edges
 pub mod Air
 pub mod Settings
+pub mod Write
 pub mod Laws

@@ -32,6 +32,8 @@ ghost use Rattle.urzulempa.specs.Edges.{edgesAnswer, edgesLeft};
 ghost use Rattle.urzulempa.specs.Plain.{plainOption};
 ghost use Rattle.urzulempa.specs.Says.{Says};
 ghost use Rattle.urzulempa.specs.Settings.{changeAnswer};
+ghost use Rattle.urzulempa.specs.Write.{writtenAnswer};
+ghost use Rattle.writing.specs.Write.{writeAnswer, writeRoom};
 
 // Refusals 1 to 9, and no text.
 #[no_mangle]
@@ -183,6 +185,24 @@ pub extern "C" fn urzulempa_settings_set(
         place: c.place,
         bytes: c.bytes,
         units: c.units,
+        depth: 0,
+    }
+}
+
+// Writes the record file that the rows make into the room (order 1): kinds 1 to 7 in ascending order with their own numbers, the clauses
+// in their order, kind 8 by variable. 1 where the rows are no multiple of 32 bytes, a record's refusal with its place in that file, 1
+// where the file would pass 65,536 bytes, 10 where the room is short: it is as before then. Bytes past those written stay.
+#[no_mangle]
+pub extern "C" fn urzulempa_write(rows: &[u8], room: &mut [u8]) -> Answer
+    ensures { λ r. ⌜ r ≡ writtenAnswer (writeAnswer (now (rows .entry)) (length (now (room .entry)))) ⌝ }
+    ensures { λ _. ⌜ now (room .exit) ≡ writeRoom (now (rows .entry)) (now (room .entry)) ⌝ }
+{
+    let w = writing::write(rows, room);
+    Answer {
+        number: w.number,
+        place: w.place,
+        bytes: w.bytes,
+        units: w.units,
         depth: 0,
     }
 }

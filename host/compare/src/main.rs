@@ -5,6 +5,7 @@ mod calls;
 mod salvage;
 mod settings;
 mod shrink;
+mod write;
 
 use calls::{Call, Trial};
 use oracle::generate;
@@ -19,6 +20,8 @@ const USAGE: &str = "usage: compare files N SEED   the hand-made files, then N g
        compare editions N SEED the same with the explanation by edition alone, in rooms around the ends of more lines
        compare salvage N SEED the repair alone: a small file with every kind of record damaged in full, files around 1,024 clauses,
                               then N generated files, damaged; what is repaired is explained on both sides
+       compare write N SEED   the writer alone: every table around its limit, up to 200,000 rows, then N generated files as they
+                              stand, mixed and damaged; what is written is explained on both sides
        compare air N SEED     the same with the air profile alone, half of the files near it, in rooms around the ends of more lines
        compare settings N SEED the settings file alone: every one of up to two records over a small alphabet, read and changed in
                               every way, then N random ones
@@ -29,7 +32,7 @@ fn main() -> ExitCode {
     let words: Vec<String> = std::env::args().skip(1).collect();
     let words: Vec<&str> = words.iter().map(String::as_str).collect();
     let job = match words[..] {
-        ["files" | "check" | "nodes" | "edges" | "editions" | "air" | "salvage" | "settings", n, seed] => match (n.parse(), seed.parse()) {
+        ["files" | "check" | "nodes" | "edges" | "editions" | "air" | "salvage" | "settings" | "write", n, seed] => match (n.parse(), seed.parse()) {
             (Ok(n), Ok(seed)) => Some((n, seed)),
             _ => None,
         },
@@ -49,6 +52,7 @@ fn main() -> ExitCode {
         "bytes" => bytes(),
         "salvage" => salvages(n, seed),
         "settings" => settings::differ(n, seed, true),
+        "write" => write::writes(n, seed),
         only => files(n, seed, only),
     };
     if found { ExitCode::from(1) } else { ExitCode::SUCCESS }
@@ -188,10 +192,13 @@ impl Tally {
                 }
             }
         }
-        // Three of the lent places for the file and three for a damaged one; `compare salvage` takes all.
+        // Three of the lent places for the file and three for a damaged one, two for each of the rows; `compare salvage` and
+        // `compare write` take all.
         only == "files" && {
             let damaged = salvage::damaged(file.to_vec(), rng);
-            self.repairs_differ(whence, file, rng, 3) || self.repairs_differ(&format!("{whence}, damaged"), &damaged, rng, 3)
+            self.repairs_differ(whence, file, rng, 3)
+                || self.repairs_differ(&format!("{whence}, damaged"), &damaged, rng, 3)
+                || self.writes_differ(whence, file, rng, 2)
         }
     }
 }

@@ -4,7 +4,7 @@
 //! [`explain`], [`explain_plain`], [`explain_edition`], [`explain_air`], [`graphviz`], [`check`],
 //! [`nodes`] and [`edges`] take any bytes. [`Problem`] and its [`Model`] are the same in steps, for many calls on one file. Where
 //! conflict.rs could not be had at build time, [`AVAILABLE`] is false and these must not be called;
-//! the reader, the generator, the samples, [`salvage`] and [`settings`], which the Rust does not have,
+//! the reader, the generator, the samples, [`salvage`], [`settings`] and [`write`], which the Rust does not have,
 //! are there all the same.
 
 mod answer;
@@ -18,6 +18,7 @@ pub mod salvage;
 pub mod samples;
 pub mod settings;
 pub mod survey;
+pub mod writing;
 
 #[cfg(has_conflict_rs)]
 mod calls;
@@ -50,6 +51,7 @@ pub use calls::{
 
 pub use salvage::salvage;
 pub use settings::Settings;
+pub use writing::write;
 
 /// Whether conflict.rs was there when this crate was built.
 pub const AVAILABLE: bool = cfg!(has_conflict_rs);

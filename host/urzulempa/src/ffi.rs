@@ -15,6 +15,7 @@ extern "C" {
     fn urzulempa_salvage(file: *const u8, file_len: usize, room: *mut u8, room_len: usize, list: *mut u16, list_len: usize) -> Salvaged;
     fn urzulempa_settings_read(file: *const u8, file_len: usize, version: u64) -> Settings;
     fn urzulempa_settings_set(room: *mut u8, room_len: usize, used: u64, version: u64, setting: u64, content: u64) -> Answer;
+    fn urzulempa_write(rows: *const u8, rows_len: usize, room: *mut u8, room_len: usize) -> Answer;
 }
 
 // What the library reads and writes lies as the header lays it out: no field has a gap before it.
@@ -67,4 +68,8 @@ pub fn settings_read(file: &[u8], version: u64) -> Settings {
 
 pub fn settings_set(room: &mut [u8], used: u64, version: u64, setting: u64, content: u64) -> Answer {
     unsafe { urzulempa_settings_set(room.as_mut_ptr(), room.len(), used, version, setting, content) }
+}
+
+pub fn write(rows: &[u8], room: &mut [u8]) -> Answer {
+    unsafe { urzulempa_write(rows.as_ptr(), rows.len(), room.as_mut_ptr(), room.len()) }
 }

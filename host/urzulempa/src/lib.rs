@@ -1,8 +1,8 @@
 //! Why a load of packages has no solution: safe functions over the proved library.
 //!
 //! Every call takes any bytes and any room and gives an [`Answer`], [`salvage`] its [`Salvaged`], [`settings_read`] its [`Settings`];
-//! none of them panics or keeps anything, and none allocates but [`edges`], [`repaired`] and [`appended`], which make what they fill.
-//! [`grown`] makes the room for one.
+//! none of them panics or keeps anything, and none allocates but [`edges`], [`repaired`], [`appended`] and [`written`], which make what
+//! they fill. [`grown`] makes the room for one. [`Tables`] and [`list`] make files: from a program, and from a text that a person writes.
 //!
 //! ```
 //! use urzulempa::{explain, Refusal};
@@ -31,9 +31,12 @@
 mod edge;
 mod edition;
 mod ffi;
+pub mod list;
 mod refusal;
 mod salvaged;
 mod settings;
+pub mod tables;
+mod written;
 
 pub use edge::{Edge, EdgeKind};
 pub use edition::Edition;
@@ -43,6 +46,8 @@ pub use settings::{
     appended, choices, settings_read, settings_set, Choices, Setting, Settings, SettingsRefusal, MOST_SETTINGS, SETTINGS_RECORD,
     SETTINGS_VERSION,
 };
+pub use tables::Tables;
+pub use written::{write, written, MOST_BYTES};
 
 /// What a call says: the text is whole, or a numbered refusal with its place; and what was written.
 #[repr(C)]

@@ -1,10 +1,11 @@
-//! The command: explain, graph, nodes, edges, check, salvage, settings.
+//! The command: explain, graph, nodes, edges, check, salvage, settings, dump, make.
 
 mod choose;
 mod cycle;
 mod decode;
 mod keep;
 mod lists;
+mod made;
 mod mended;
 
 use std::ffi::OsString;
@@ -36,9 +37,13 @@ urzulempa: why a load of packages has no solution, from a file of clause records
                                                  OUT is written whole or not at all; it may be FILE itself only with --force
   urzulempa settings SET                         what a settings file says: indent, simplify (0 or 1) and edition (1 or 2)
   urzulempa settings SET NAME CONTENT            sets one of them, by a record behind the others; makes SET where there is none
+  urzulempa dump FILE                            the file as a list that a person reads: one line a record, names instead of
+                                                 numbers (docs/FORMAT.md)
+  urzulempa make LIST -o FILE [--force]          the file of such a list, whose lines may stand in any order: `make` numbers them.
+                                                 A fault is told by its line, and nothing is written; FILE as OUT above
 
 SET is a settings file, whose settings are the defaults under the flags that are given.
-FILE may be - for standard input. N is the most bytes of text (default 67108864).
+FILE and LIST may be - for standard input. N is the most bytes of text (default 67108864).
 Text goes to standard output, everything else to standard error.
 Exit status: 0 done, 2 refused, 1 trouble with a file, 64 wrong usage.
 
@@ -52,6 +57,8 @@ Examples:
   urzulempa salvage cut.rec -o mended.rec
   urzulempa settings truck.set edition 2
   urzulempa explain samples/deck-panel.rec --settings truck.set
+  urzulempa dump samples/replay.rec
+  urzulempa make samples/replay.list -o replay.rec
 ";
 
 const DEFAULT_ROOM: usize = 64 << 20;
@@ -75,6 +82,9 @@ fn run(words: &[String]) -> Result<ExitCode, String> {
     }
     if words[0] == "settings" {
         return choose::run(&words[1..]);
+    }
+    if let Some(ran) = made::run(words) {
+        return ran;
     }
     let (mut file, mut package) = (None, None);
     let (mut out, mut force) = (None, false);

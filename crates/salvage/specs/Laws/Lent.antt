@@ -16,11 +16,12 @@ use Rattle.salvage.specs.declared.Salvaged.{Salvaged}
 use Rattle.salvage.specs.declared.Work.{Work}
 use Rattle.salvage.specs.declared.Turn.{Turn}
 use Rattle.salvage.specs.declared.Turn.the-variants.{On, Halt}
-use Rattle.salvage.specs.Salvage.{pieces, joined, Mended, mended, halted, mendFrom, refused, finished, salvageOf}
+use Rattle.pieces.specs.Pieces.{pieces, joined, Pasted}
+use Rattle.pieces.specs.Laws.Pieces.{length-pieces, pieces-whole, cut-pieces, length-joined, joined-pieces}
+use Rattle.salvage.specs.Salvage.{Mended, mended, halted, mendFrom, refused, finished, salvageOf}
 use Rattle.salvage.specs.Lent.{refusalOf, doneOf, salvageAnswer, salvageRoom, salvageList}
 use Rattle.salvage.specs.Pass.{Judgement, judgeFrom, noWork}
-use Rattle.salvage.specs.Writing.{Pasted, blanks, wholeOf, Laid}
-use Rattle.salvage.specs.Laws.Pieces.{length-pieces, pieces-whole, cut-pieces, length-joined, joined-pieces}
+use Rattle.salvage.specs.Writing.{blanks, wholeOf, Laid}
 use Rattle.salvage.specs.Laws.Mending.{Mends, mends, mends-whole, mends-length}
 use Rattle.salvage.specs.Laws.Agree.{Agrees, judge-is-mend}
 use Rattle.salvage.specs.Laws.Paste.{blanks-mend}

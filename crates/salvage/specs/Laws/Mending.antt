@@ -25,7 +25,7 @@ use Rattle.salvage.specs.Salvage.{blank, coreLearnt, isClauses, onClause
 use Rattle.salvage.specs.Salvage.{Mended, mended, halted, with-kept, with-blank, mendFrom}
 use Rattle.salvage.specs.declared.Verdict.{Verdict}
 use Rattle.salvage.specs.declared.Verdict.the-variants.{Stays, Replaced, Stops}
-use Rattle.salvage.specs.Laws.Pieces.{Whole}
+use Rattle.pieces.specs.Laws.Pieces.{Whole}
 
 -- ---- one record
 

@@ -1,28 +1,19 @@
--- Copies over a part of a list; the blank clause over the listed records of a file makes the repaired one.
+-- The blank clause over the listed records of a file makes the repaired one.
 use mathlib.Core.Path.{_≡_, refl, sym, ap, _∙_}
 use mathlib.Core.List.{List, _++_, append-assoc}
 use Prim.Native.Nat.{ℕ, _+_, _*_, _≤_, _<_}
 use native.Mathlib.Omega.{arith}
 use native.Mathlib.Numerals.{add-one}
-use lib.ListN.{length, set, getD, take, drop, length-append, length-take, drop-of-length-le}
-use lib.Seq.{paste-zero, paste-suc, drop-cons, getD-take, take-at, drop-at}
+use lib.ListN.{length, getD, take, drop, length-append, length-take, drop-of-length-le}
+use lib.Seq.{drop-cons, getD-take, take-at, drop-at}
 use borrow.Author.Tests.{le-leb, lt-leb}
 use Rattle.basis.specs.Guard.{guard}
 use Rattle.records.specs.Tables.{Tables}
-use Rattle.salvage.specs.Salvage.{blank, joined}
-use Rattle.salvage.specs.Writing.{Pasted, blankAt, blanks}
-use Rattle.salvage.specs.Laws.Pieces.{Whole}
+use Rattle.pieces.specs.Pieces.{joined, Pasted}
+use Rattle.pieces.specs.Laws.Pieces.{Whole}
+use Rattle.salvage.specs.Salvage.{blank}
+use Rattle.salvage.specs.Writing.{blankAt, blanks}
 use Rattle.salvage.specs.Laws.Mending.{Mends, ends, keeps, blanks as blanked}
-
-pub pasted-none : (d : List ℕ) (at : ℕ) (s : List ℕ) → Pasted d at s 0 d
-pasted-none d at s = record { is = paste-zero d at s }
-
-pub pasted-more : (d : List ℕ) (at : ℕ) (s : List ℕ) (i n : ℕ) (o : List ℕ)
-    → Pasted d at s i o → i < n → at + n ≤ length d → n ≤ length s → Pasted d at s (i + 1) (set o (at + i) (getD s i 0))
-pasted-more d at s i n o p h k l = record { is = rw (p .is, add-one) (paste-suc d at s i 0 (omega arith) (omega arith)) }
-
-pub pasted-all : (d : List ℕ) (at : ℕ) (s : List ℕ) (i n : ℕ) (o : List ℕ) → Pasted d at s i o → i ≤ n → n ≤ i → Pasted d at s n o
-pasted-all d at s i n o p h k = let e : i ≡ n = omega arith in rw e at p
 
 pub blank-out : (d : List ℕ) (l : ℕ) → length d < 32 * l + 32 → d ≡ blankAt d l
 unfolding blankAt guard

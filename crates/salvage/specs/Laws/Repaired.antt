@@ -15,10 +15,11 @@ use Rattle.records.specs.Shapes.{Rec, recOf, recordsOf}
 use Rattle.records.specs.Tables.{Tables, noTables}
 use Rattle.records.specs.Read.{good, readOf}
 use Rattle.index.specs.Steps.{read-accepted, table-is, isIn}
-use Rattle.salvage.specs.Salvage.{blank, pieces, joined, coreLearnt, Mended, mended, halted, mendFrom}
+use Rattle.pieces.specs.Pieces.{pieces, joined}
+use Rattle.pieces.specs.Laws.Pieces.{Whole, length-pieces, pieces-whole, cut-pieces, pieces-at}
+use Rattle.pieces.specs.Laws.Pieces.{length-joined, pieces-joined, joined-file, records-joined}
+use Rattle.salvage.specs.Salvage.{blank, coreLearnt, Mended, mended, halted, mendFrom}
 use Rattle.salvage.specs.Salvage.{repaired, refused, finished, salvageOf}
-use Rattle.salvage.specs.Laws.Pieces.{Whole, length-pieces, pieces-whole, cut-pieces, pieces-at}
-use Rattle.salvage.specs.Laws.Pieces.{length-joined, pieces-joined, joined-file, records-joined}
 use Rattle.salvage.specs.Laws.Mending.{Mends, mends, mends-read, mends-unlearnt, mends-whole, mends-length, Rising, mends-rising}
 use Rattle.salvage.specs.Laws.Mending.{mends-same, mends-blank, mends-clauses, sound-stays, halts}
 

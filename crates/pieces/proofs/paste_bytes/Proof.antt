@@ -2,10 +2,10 @@ use borrow.Author.Needs.{needs}
 use mathlib.Core.Path.{_≡_}
 use Prim.Native.Nat.{_≤_, _-_}
 use lib.ListN.{length}
-use Rattle.salvage.specs.Writing.{Pasted}
-use Rattle.salvage.specs.Laws.Paste.{pasted-none, pasted-more, pasted-all}
-use Rattle.salvage.proofs.repair.paste_bytes.Statement.{statement}
-use Rattle.salvage.proofs.repair.paste_bytes.Tie as tie
+use Rattle.pieces.specs.Pieces.{Pasted}
+use Rattle.pieces.specs.Laws.Paste.{pasted-none, pasted-more, pasted-all}
+use Rattle.pieces.proofs.paste_bytes.Statement.{statement}
+use Rattle.pieces.proofs.paste_bytes.Tie as tie
 
 abbrev Inv-loop : tie.InvT-loop
 Inv-loop d₀ at s n i₀ d i = (i ≤ n) × (length d ≡ length d₀) × Pasted d₀ at s i d

@@ -8,7 +8,7 @@ use lib.ListN.{length, getD, take, drop, length-take, length-drop, length-append
 use lib.Seq.{drop-drop, take-at, drop-at, take-add, take-all}
 use Rattle.basis.specs.Members.{All}
 use Rattle.records.specs.Shapes.{Rec, cut, recOf, recordsOf}
-use Rattle.salvage.specs.Salvage.{pieces, joined}
+use Rattle.pieces.specs.Pieces.{pieces, joined}
 
 -- 32 bytes each
 abbrev pub Whole : List (List ℕ) → Type 0

@@ -1,0 +1,10 @@
+use borrow.Author.Needs.{needs}
+use Rattle.urzulempa.specs.Write.{written-is}
+use Rattle.urzulempa.proofs.urzulempa_write.Statement.{statement}
+use Rattle.urzulempa.proofs.urzulempa_write.Tie as tie
+
+pub urzulempa-write-spec : {M : Type 1} → statement M
+urzulempa-write-spec =
+    tie.close
+    (tie.spec
+    (λ c κs. search needs) (λ c. search needs) (λ c. (search written-is, search needs)))

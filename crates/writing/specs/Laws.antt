@@ -1,0 +1,15 @@
+pub mod Bytes
+pub mod Segments
+pub mod Written
+pub mod Ordered
+pub mod Again
+pub mod Accepted
+pub mod Read
+pub mod Agree
+pub mod Sorted
+pub mod Picks
+pub mod Judged
+pub mod Ways
+pub mod Eights
+pub mod Lent
+pub mod Promises
