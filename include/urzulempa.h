@@ -11,6 +11,10 @@
  *  15 a Lock in the core                                                                 (place: the first one's clause)
  *  16 more than 64 nodes                                                                 (place: 0)
  *  17 a cycle: a node leads back to itself, by whatever edges                            (place: the lowest node on one)
+ * Of urzulempa_what_if and urzulempa_what_if_explain, tested in this order after 9:
+ *   4 no such solvable or reason, or no node stands for the solvable                     (place: 0)
+ *   8 the graph has no room for the exclusion, unresolved counted even where it has gone (place: the number of clauses)
+ *  17 as above
  * Of a settings file alone:
  *  18 a version that the reader does not know                                            (place: the record)
  * Refusals 1 to 9, 12 and 15 to 18 leave the room and the list as they were; 10 and 11 leave the whole units written before the stop.
@@ -74,6 +78,13 @@ urzulempa_answer urzulempa_nodes(const uint8_t *file, size_t file_len, urzulempa
  * list_len counts numbers: 5 * 1,024 are enough. Numbers past the last edge stay; `bytes` is 10 times the edges.
  * 10 with place 0 and nothing written if the list is shorter than that. */
 urzulempa_answer urzulempa_edges(const uint8_t *file, size_t file_len, uint16_t *list, size_t list_len);
+/* What urzulempa_nodes would list if this solvable were excluded for this reason too: as if one more Excluded clause stood at the end of
+ * the core, by way of a variable of that solvable. Nodes that are there keep their places; a reason that has no node yet gets one behind
+ * them, whose clause is the number of clauses. Groups are worked out afresh. 10 with place 0 if the list is too short. Any refusal leaves
+ * the list as it was. The graph must have no cycle. */
+urzulempa_answer urzulempa_what_if(const uint8_t *file, size_t file_len, uint64_t solvable, uint64_t reason, urzulempa_node *list, size_t list_len);
+/* The explanation then; option 1 indents the top level, and 12 is tested first. 11 is never given: with room the text is whole. */
+urzulempa_answer urzulempa_what_if_explain(const uint8_t *file, size_t file_len, uint64_t solvable, uint64_t reason, uint64_t option, uint8_t *room, size_t room_len);
 /* Repairs a file that was cut or damaged into the room. Bytes behind the last whole record are dropped; each clause that would get 3, 4
  * or 5, and each Learnt in the core, is replaced by kind 16 with flag 0 and all else zero, so that clause numbers hold. The list gets the
  * numbers of the replaced records, in order. What is repaired never gets 1 to 7. file_len bytes of room and 1,024 numbers are enough;

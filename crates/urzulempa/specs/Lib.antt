@@ -7,4 +7,5 @@ pub mod Edges
 pub mod Air
 pub mod Settings
 pub mod Write
+pub mod WhatIf
 pub mod Laws

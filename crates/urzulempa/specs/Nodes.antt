@@ -60,7 +60,7 @@ noWords = replicate 128 0
 abbrev pub answerOf : Counted → Answer
 answerOf c = record { number = c .number; place = c .place; bytes = 0; units = c .units; depth = 0 }
 
-answer-counted : (X : Nodes) (len : ℕ) → answerOf (countedBy X len) ≡ nodesBy X len
+pub answer-counted : (X : Nodes) (len : ℕ) → answerOf (countedBy X len) ≡ nodesBy X len
 answer-counted (denied k p) len = refl
 answer-counted (entered es) len = split (ltb len (length es)) (λ t. rw (t, cond)) (λ t. rw (t, cond))
 

@@ -27,20 +27,23 @@ use Rattle.graph.specs.Graphs.{drawn, refused, graphOf}
 use Rattle.graph.specs.Files.{Makes, makes-refused}
 use Rattle.shape.specs.Graphed.{Graphed, graphed}
 use Rattle.machine.specs.Units.{Result}
+use Rattle.machine.specs.Explained.{Explained}
+use Rattle.machine.specs.Edition.{edited}
 use Rattle.texts.specs.Wrote.{Wrote, over}
-use Rattle.plan.specs.Plan.{Shown, shownOf}
+use Rattle.plan.specs.Plan.{Shown, shownOf, planOf, startOf}
+use Rattle.plan.specs.Display.{solvableOf}
 use Rattle.plan.specs.Planned.{Planned}
 use Rattle.plan.specs.Marking.{readAs}
 use Rattle.plan.specs.Laws.Marking.{Reads, read-reads}
 use Rattle.measuring.specs.Exact.{PlanMade}
 use Rattle.measuring.specs.Assembly.{Labelled, marks-are, lead-group}
-use Rattle.lines.specs.Lines.{topOf}
+use Rattle.lines.specs.Lines.{topOf, linesOf}
 use Rattle.explanation.specs.declared.walk.Told.{Told}
 use Rattle.explanation.specs.Walk.{Ready}
 use Rattle.explanation.specs.Walk.{Answered}
 use Rattle.explanation.specs.Explain.{isEdition, explainEdition, explainTables, refusal}
-use Rattle.explanation.specs.Contract.{ExplainedFile, Drawn, file-unique}
-use Rattle.explanation.specs.Laws.Reading.{read-ready, read-file}
+use Rattle.explanation.specs.Contract.{ExplainedFile, Drawn, drawn-file, file-unique}
+use Rattle.explanation.specs.Laws.Reading.{read-ready, read-shown}
 use Rattle.drawing.specs.Same.{optionOf}
 use Rattle.urzulempa.specs.declared.Answer.{Answer}
 use Rattle.urzulempa.specs.Answers.{refusalOf}
@@ -62,6 +65,13 @@ says-one e file opt out a b r q S T =
       ap (λ (x : Result). record { number = x .number; place = x .place; bytes = x .bytes; units = x .units; depth = x .depth }) h,
       S .room ∙ ap (λ (x : Result). over (x .text) out) h ∙ sym (T .room),
     )
+
+-- the answer is what an edition shows of the graph G in the room out, and left is what became of the room: of a graph that a file draws, or
+-- of one that is asked for (document 02, order 10)
+pub record Shows (e : ℕ) (T : Tables) (G : Graph) (opt : ℕ) (out left : List ℕ) (r : Answer) : Type 0 where
+  pub text : List ℕ
+  pub is : Explained (edited e (planOf (shownOf T G))) (linesOf (shownOf T G) opt) (solvableOf (shownOf T G)) (startOf (shownOf T G)) (length out) (resultBy r text)
+  pub room : left ≡ over text out
 
 -- the edition that reports every package, and the one that does not
 abbrev pub editionOf : Bool → ℕ
@@ -111,11 +121,20 @@ pub told-via : (t : Told) (b c e f : ℕ) → b ≡ t .place → c ≡ t .bytes 
     → _≡_ {A = Answer} (record { number = t .number; place = b; bytes = c; units = e; depth = f }) (toldAs t)
 told-via t b c e f p q r s = rw (p, q, r, s)
 
+-- an answer that the walk over a plan gives
+pub record Walked (T : Tables) (q k : List ℕ) (t : Bool) (out left : List ℕ) (r : Answer) : Type 0 where
+  pub told : Told
+  pub is : r ≡ toldAs told
+  pub answered : Answered T q k t out left told
+
+pub walked : (T : Tables) (q k : List ℕ) (t : Bool) (out left : List ℕ) (a : Told) (r : Answer) → r ≡ toldAs a → Answered T q k t out left a → Walked T q k t out left r
+walked T q k t out left a r u w = record { told = a; is = u; answered = w }
+
 option-top : (t : Bool) → topOf (optionOf t) ≡ t
 option-top true = refl
 option-top false = refl
 
-option-low : (t : Bool) → optionOf t ≤ 1
+pub option-low : (t : Bool) → optionOf t ≤ 1
 option-low true = omega arith
 option-low false = zero-le
 
@@ -131,29 +150,33 @@ edition-every false = refl
 both-asked : (every t : Bool) → isEdition (editionOf every) && leb (optionOf t) 1 ≡ true
 both-asked every t = rw (edition-is every) (le-leb (optionOf t) 1 (option-low t))
 
+module _ (T : Tables) (G : Graph) (g : Graphed T G) (q k : List ℕ) (every : Bool) (z : PlannedAs every (shownOf T G) q k) where
+  reads : Reads every (z .before) q
+  reads = rw (z .read) (read-reads every (z .before) (z .long))
+
+  pub whole-ready : Ready T q k
+  whole-ready = read-ready T G g (z .before) q k (z .plan) every reads
+
+  pub whole-shows : (t : Bool) (out left : List ℕ) (r : Answer) → Walked T q k t out left r → Shows (editionOf every) T G (optionOf t) out left r
+  whole-shows t out left r W =
+      let w : Answered T q k (topOf (optionOf t)) out left (W .told) = rw (option-top t) (W .answered) in
+      rw (W .is)
+      (record {
+        text = w .text;
+        is = read-shown T G g (z .before) q k (z .plan) every reads (editionOf every) (edition-every every) (optionOf t) out left (W .told) w;
+        room = w .room .leaves;
+      })
+
 module _ (file ix g : List ℕ) (s : Size) (L : Loaded file ix) (e : graphOf (tablesOf file) ≡ drawn (graphIn g s)) where
-  is-graphed : Graphed (tablesOf file) (graphIn g s)
-  is-graphed = graphed (tablesOf file) (loaded-valid file ix L) (graphIn g s) e .0
+  pub whole-graphed : Graphed (tablesOf file) (graphIn g s)
+  whole-graphed = graphed (tablesOf file) (loaded-valid file ix L) (graphIn g s) e .0
 
-  module _ (q k : List ℕ) (every : Bool) (z : PlannedAs every (shownOf (tablesOf file) (graphIn g s)) q k) where
-    reads : Reads every (z .before) q
-    reads = rw (z .read) (read-reads every (z .before) (z .long))
-
-    pub whole-ready : Ready (tablesOf file) q k
-    whole-ready = read-ready (tablesOf file) (graphIn g s) is-graphed (z .before) q k (z .plan) every reads
-
-    pub whole-says : (out left : List ℕ) (t : Bool) (a : Told) (r : Answer) → r ≡ toldAs a → Answered (tablesOf file) q k t out left a
-        → Says (editionOf every) file (optionOf t) out left r
-    whole-says out left t a r u w =
-        let w′ : Answered (tablesOf file) q k (topOf (optionOf t)) out left a = rw (option-top t) w in
-        let d : Drawn (editionOf every) file (optionOf t) (tablesOf file) (graphIn g s) =
-        record { edition = edition-is every; option = option-low t; tables = loaded-good file ix L; graph = e } in
-        rw u
-        (record {
-          text = w′ .text;
-          is = read-file (tablesOf file) (graphIn g s) is-graphed (z .before) q k (z .plan) every reads (editionOf every) (edition-every every) file (optionOf t) d out left a w′;
-          room = w′ .room .leaves;
-        })
+  -- what is shown of the graph that a file draws is its explanation
+  pub whole-says : (every t : Bool) (out left : List ℕ) (r : Answer) → Shows (editionOf every) (tablesOf file) (graphIn g s) (optionOf t) out left r → Says (editionOf every) file (optionOf t) out left r
+  whole-says every t out left r S =
+      let d : Drawn (editionOf every) file (optionOf t) (tablesOf file) (graphIn g s) =
+      record { edition = edition-is every; option = option-low t; tables = loaded-good file ix L; graph = e } in
+      record { text = S .text; is = drawn-file (editionOf every) file (optionOf t) (tablesOf file) (graphIn g s) d (length out) (resultBy r (S .text)) (S .is); room = S .room }
 
 -- ---- refusals write nothing
 

@@ -1,11 +1,13 @@
 // The public calls (include/urzulempa.h). Each owns its working arrays, takes any bytes, any room and any option, and has no
 // `requires`.
 mod airs;
+mod asks;
 mod checks;
 mod edges;
 mod explains;
 mod graphs;
 mod nodes;
+mod whatifs;
 
 // "An answer holds number, place, bytes, units, depth" (document 01, "Refusal numbers").
 #[repr(C)]
@@ -34,6 +36,7 @@ ghost use Rattle.urzulempa.specs.Says.{Says};
 ghost use Rattle.urzulempa.specs.Settings.{changeAnswer};
 ghost use Rattle.urzulempa.specs.Write.{writtenAnswer};
 ghost use Rattle.writing.specs.Write.{writeAnswer, writeRoom};
+ghost use Rattle.urzulempa.specs.WhatIf.{SaysWhatIf};
 
 // Refusals 1 to 9, and no text.
 #[no_mangle]
@@ -129,6 +132,38 @@ pub extern "C" fn urzulempa_explain_air(file: &[u8], option: u64, room: &mut [u8
     let mut tr = [0u64; 1280];
     let mut ls = [0u16; 3456];
     airs::air_in(file, option == 1, &mut ix, &mut g, &mut tr, &mut ls, room)
+}
+
+// The explanation by edition 1 of the graph with one more exclusion (order 10): 4 for a solvable or reason that can't be asked about, 8 where
+// the exclusion has no room, 17 for a cycle, after 9. Option 1 indents the top level.
+#[no_mangle]
+pub extern "C" fn urzulempa_what_if_explain(
+    file: &[u8],
+    solvable: u64,
+    reason: u64,
+    option: u64,
+    room: &mut [u8],
+) -> Answer
+    ensures { λ r. ⌜ SaysWhatIf (now (file .entry)) solvable reason option (now (room .entry)) (now (room .exit)) r ⌝ }
+{
+    if 1 < option {
+        return checks::refusal(12, 0);
+    }
+    let mut ix = [0u16; 10432];
+    let mut g = [0u64; 1152];
+    let mut tr = [0u64; 1280];
+    let mut ls = [0u16; 3456];
+    asks::ask_in(
+        file,
+        solvable,
+        reason,
+        option == 1,
+        &mut ix,
+        &mut g,
+        &mut tr,
+        &mut ls,
+        room,
+    )
 }
 
 // Five numbers an edge, oldest first: source, target, kind, the number that it names, clause. Refusals 1 to 9, 10 where the list is

@@ -1,6 +1,7 @@
 //! Port and conflict.rs side by side in one run: same inputs, both built for release, rooms cleared the same way.
 //! Times are the least of several rounds, taken in turns; ratios above 1 mean that the port is faster.
 
+mod asking;
 mod merging;
 
 use oracle::generate;
@@ -21,6 +22,7 @@ fn main() -> ExitCode {
     merging::table();
     editions();
     air();
+    asking::table();
     growth();
     ExitCode::SUCCESS
 }

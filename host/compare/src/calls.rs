@@ -92,11 +92,11 @@ fn word(bytes: &[u8], at: usize) -> u16 {
 }
 
 /// An entry as ten bytes of a lent list lay it out.
-fn their_node(b: &[u8]) -> oracle::Node {
+pub fn their_node(b: &[u8]) -> oracle::Node {
     oracle::Node { kind: word(b, 0), number: word(b, 2), group: word(b, 4), installable: b[6], missing: b[7], clause: word(b, 8) }
 }
 
-fn our_node(b: &[u8]) -> urzulempa::Node {
+pub fn our_node(b: &[u8]) -> urzulempa::Node {
     urzulempa::Node { kind: word(b, 0), number: word(b, 2), group: word(b, 4), installable: b[6], missing: b[7], clause: word(b, 8) }
 }
 
@@ -187,7 +187,7 @@ pub fn air(file: &[u8], rng: &mut Rng, lines: usize) -> Vec<Trial> {
 }
 
 /// The places around the ends of at most so many lines of a text, chosen at random, but for the last, whose end is the text's.
-fn line_ends(text: &[u8], rng: &mut Rng, lines: usize) -> Vec<usize> {
+pub fn line_ends(text: &[u8], rng: &mut Rng, lines: usize) -> Vec<usize> {
     let mut ends: Vec<usize> = text.iter().enumerate().filter(|(_, byte)| **byte == b'\n').map(|(at, _)| at + 1).collect();
     ends.pop();
     while ends.len() > lines {

@@ -5,9 +5,11 @@ mod calls;
 mod salvage;
 mod settings;
 mod shrink;
+mod what_if;
 mod write;
 
 use calls::{Call, Trial};
+use oracle::asking;
 use oracle::generate;
 use oracle::rng::Rng;
 use std::fmt::Debug;
@@ -25,6 +27,9 @@ const USAGE: &str = "usage: compare files N SEED   the hand-made files, then N g
        compare air N SEED     the same with the air profile alone, half of the files near it, in rooms around the ends of more lines
        compare settings N SEED the settings file alone: every one of up to two records over a small alphabet, read and changed in
                               every way, then N random ones
+       compare what-if N SEED what if one more package were excluded, alone: N generated files, half of them of shapes most of which
+                              have no cycle, each asked about every solvable and reason where it is small; each answer by itself
+                              and against conflict.rs on the file with one more clause
        compare bytes          a small file with every kind of record, each byte set to each value
 Status: 0 no difference, 1 a difference, 64 wrong usage, 77 without conflict.rs.";
 
@@ -32,7 +37,7 @@ fn main() -> ExitCode {
     let words: Vec<String> = std::env::args().skip(1).collect();
     let words: Vec<&str> = words.iter().map(String::as_str).collect();
     let job = match words[..] {
-        ["files" | "check" | "nodes" | "edges" | "editions" | "air" | "salvage" | "settings" | "write", n, seed] => match (n.parse(), seed.parse()) {
+        ["files" | "check" | "nodes" | "edges" | "editions" | "air" | "salvage" | "settings" | "write" | "what-if", n, seed] => match (n.parse(), seed.parse()) {
             (Ok(n), Ok(seed)) => Some((n, seed)),
             _ => None,
         },
@@ -53,10 +58,14 @@ fn main() -> ExitCode {
         "salvage" => salvages(n, seed),
         "settings" => settings::differ(n, seed, true),
         "write" => write::writes(n, seed),
+        "what-if" => questions(n, seed),
         only => files(n, seed, only),
     };
     if found { ExitCode::from(1) } else { ExitCode::SUCCESS }
 }
+
+/// So many calls a question gets from `compare what-if`, chosen at random.
+const CALLS: usize = 12;
 
 /// Around the ends of so many lines of a text rooms are lent by `compare editions` and `compare air`.
 const LINE_ENDS: usize = 8;
@@ -117,6 +126,28 @@ fn salvages(n: u64, seed: u64) -> bool {
     false
 }
 
+/// Questions alone; true if a difference was found.
+fn questions(n: u64, seed: u64) -> bool {
+    let mut tally = Tally::default();
+    let made = hand_made().into_iter().map(|(name, file)| (name, what_if_made(file)));
+    for (index, (whence, file)) in made.chain((0..n).filter_map(|index| asking::file(index, seed))).enumerate() {
+        let mut rng = Rng::new(seed ^ (index as u64).rotate_left(16));
+        if tally.questions_differ(&whence, &file, &mut rng, asking::ALL, CALLS) {
+            return true;
+        }
+    }
+    println!("compare: {n} generated files and {} made by hand, {} answers compared, 0 differences; {}", hand_made().len(), tally.answers, tally.asked);
+    println!("compare: answers by number: {}", tally.seen());
+    false
+}
+
+/// The file with a reason more.
+fn what_if_made(file: Vec<u8>) -> Vec<u8> {
+    let own = file.chunks_exact(32).filter(|r| r[0] == 6).count() as u16;
+    let more = oracle::draft::record(6, 0, [own, 0, 0], "asked");
+    [file, more.to_vec()].concat()
+}
+
 #[derive(Default)]
 struct Tally {
     answers: u64,
@@ -125,6 +156,7 @@ struct Tally {
     tried: u64,
     repaired: u64,
     mended: u64,
+    asked: asking::Tally,
 }
 
 impl Tally {
@@ -170,6 +202,33 @@ impl Tally {
         }
     }
 
+    /// Questions about a file, every one where those are at most so many, each with at most so many calls; a difference is reported.
+    fn questions_differ(&mut self, whence: &str, file: &[u8], rng: &mut Rng, most: usize, calls: usize) -> bool {
+        for question in generate::what_if::questions(file, rng, most) {
+            match what_if::outcome(file, question) {
+                Ok((number, agreed)) => self.asked.count(number, agreed),
+                Err(_) => {
+                    report(whence, file, &question, |f| what_if::outcome(f, question).err());
+                    return true;
+                }
+            }
+            let mut trials = what_if::trials(file, question, rng, LINE_ENDS);
+            while trials.len() > calls {
+                trials.swap_remove(rng.below(trials.len()));
+            }
+            for trial in trials {
+                match trial.run(file) {
+                    Ok(number) => self.count(number),
+                    Err(_) => {
+                        report(whence, file, &trial, |f| trial.run(f).err());
+                        return true;
+                    }
+                }
+            }
+        }
+        false
+    }
+
     /// All trials of a file, or those of one call; a difference is reported.
     fn differs(&mut self, only: &str, whence: &str, file: &[u8], rng: &mut Rng) -> bool {
         let mut trials = match only {
@@ -190,6 +249,14 @@ impl Tally {
                     report(whence, file, &trial, |f| trial.run(f).err());
                     return true;
                 }
+            }
+        }
+        // Up to six questions about the file with a few more reasons, and some that it does not know, in three calls each; `compare what-if`
+        // takes all.
+        if only == "files" {
+            let asked = generate::what_if::with_reasons(file.to_vec(), rng);
+            if self.questions_differ(&format!("{whence}, with more reasons"), &asked, rng, 6, 3) {
+                return true;
             }
         }
         // Three of the lent places for the file and three for a damaged one, two for each of the rows; `compare salvage` and

@@ -27,6 +27,7 @@ fn ten_thousand_damaged_files_get_an_answer() {
         &["nodes", "-"],
         &["edges", "-"],
         &["salvage", "-", "-o", &out],
+        &["what-if", "-", "#0", "#0", "--room", "3000"],
     ];
     let (mut refused, mut mended) = (0, 0);
     for index in 0..10_000 {

@@ -33,9 +33,29 @@ impl<'a> Problem<'a> {
     pub fn edges(&self) -> Result<Vec<Edge>, Refusal> {
         absent()
     }
+
+    pub fn longer(self, _: u16, _: u16) -> Problem<'a> {
+        absent()
+    }
+
+    pub fn counts(&self) -> (usize, usize, usize) {
+        absent()
+    }
 }
 
 impl Model<'_, '_> {
+    pub fn excluding(self, _: u64, _: u64) -> Result<Self, Refusal> {
+        absent()
+    }
+
+    pub fn edges(&self) -> Vec<Edge> {
+        absent()
+    }
+
+    pub fn by_number(&self, _: &mut [u8], _: u64) -> Answer {
+        absent()
+    }
+
     pub fn explain(&self, _: bool, _: &mut [u8]) -> Answer {
         absent()
     }
@@ -110,6 +130,14 @@ pub fn check(_: &[u8]) -> Answer {
 }
 
 pub fn nodes(_: &[u8], _: &mut [Node]) -> Answer {
+    absent()
+}
+
+pub fn what_if(_: &[u8], _: u64, _: u64, _: &mut [Node]) -> Answer {
+    absent()
+}
+
+pub fn what_if_explain(_: &[u8], _: u64, _: u64, _: u64, _: &mut [u8]) -> Answer {
     absent()
 }
 

@@ -1,5 +1,9 @@
 //! The calls of documents 01 and 02 on the oracle.
 
+mod what_if;
+
+pub use what_if::{what_if, what_if_explain};
+
 use crate::conflict::view::{self, View};
 use crate::provider::{solver_of, FileSolver};
 use crate::reader::{self, kind};
@@ -227,18 +231,22 @@ pub fn check(file: &[u8]) -> Answer {
 pub fn nodes(file: &[u8], list: &mut [Node]) -> Answer {
     answered(|| {
         let nodes = Problem::read(file)?.model()?.nodes();
-        let Some(part) = list.get_mut(..nodes.len()) else {
-            return Ok(Answer {
-                number: 10,
-                ..Answer::default()
-            });
-        };
-        part.copy_from_slice(&nodes);
-        Ok(Answer {
-            units: 1,
-            ..Answer::default()
-        })
+        Ok(listed(&nodes, list))
     })
+}
+
+fn listed(nodes: &[Node], list: &mut [Node]) -> Answer {
+    let Some(part) = list.get_mut(..nodes.len()) else {
+        return Answer {
+            number: 10,
+            ..Answer::default()
+        };
+    };
+    part.copy_from_slice(nodes);
+    Answer {
+        units: 1,
+        ..Answer::default()
+    }
 }
 
 /// The edge list, five numbers an edge, one unit: whole, or 10 with nothing changed. "Done: bytes = 10 × edges, units 1, place

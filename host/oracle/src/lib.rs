@@ -2,12 +2,14 @@
 //! document 01 describes and document 02 adds. Small stand-ins take the place of the solver's types.
 //!
 //! [`explain`], [`explain_plain`], [`explain_edition`], [`explain_air`], [`graphviz`], [`check`],
-//! [`nodes`] and [`edges`] take any bytes. [`Problem`] and its [`Model`] are the same in steps, for many calls on one file. Where
+//! [`nodes`], [`edges`], [`what_if`] and [`what_if_explain`] take any bytes. [`Problem`] and its [`Model`] are the same in steps, for many calls on one file. Where
 //! conflict.rs could not be had at build time, [`AVAILABLE`] is false and these must not be called;
 //! the reader, the generator, the samples, [`salvage`], [`settings`] and [`write`], which the Rust does not have,
 //! are there all the same.
 
 mod answer;
+pub mod asked;
+pub mod asking;
 pub mod cases;
 pub mod draft;
 pub mod generate;
@@ -46,7 +48,7 @@ mod calls;
 pub use answer::{Answer, Edge, Edition, Node, Refusal, Rules, Salvaged};
 pub use calls::{
     check, edges, explain, explain_air, explain_edition, explain_plain, graphviz, nodes, rewritten,
-    rules, written, Model, Problem,
+    rules, what_if, what_if_explain, written, Model, Problem,
 };
 
 pub use salvage::salvage;

@@ -15,6 +15,9 @@ usage: oracle cases                        P1 to P11 of document 01 on the real 
        oracle edges FILE                   the edge list
        oracle check FILE                   refusals 1 to 9
        oracle survey N SEED                N generated files, the distribution of answers
+       oracle what-if FILE SOLVABLE REASON [OPTION] [ROOM] the explanation with one more exclusion
+       oracle asked N SEED                 N questions of that kind over generated files: the graph with the exclusion behind it
+                                           against the file with one more clause
        oracle samples DIR                  the sample files
        oracle record OUT                   the recorded answers that crates/replay replays
        oracle written OUT                  samples/replay.rec, as a solver would write it (src/writer.rs)
@@ -80,7 +83,7 @@ fn usage() -> Result<u8, String> {
 fn run(args: &[&str]) -> Result<u8, String> {
     match *args {
         ["cases" | "explain" | "edition" | "air" | "graph" | "nodes" | "edges" | "check"
-        | "survey" | "record" | "written", ..]
+        | "survey" | "what-if" | "asked" | "record" | "written", ..]
             if !oracle::AVAILABLE =>
         {
             let step = args[0];
@@ -101,6 +104,17 @@ fn run(args: &[&str]) -> Result<u8, String> {
         ["nodes", file] => with_conflict::nodes(file),
         ["edges", file] => with_conflict::edges(file),
         ["check", file] => with_conflict::check(file),
+        ["what-if", file, solvable, reason, ref rest @ ..] => {
+            let (solvable, reason) = (number(solvable)?, number(reason)?);
+            let call = move |file: &[u8], option, room: &mut [u8]| {
+                oracle::what_if_explain(file, solvable, reason, option, room)
+            };
+            with_conflict::text(call, 1, file, rest)
+        }
+        ["asked", n, seed] => {
+            println!("{}", oracle::asking::questions(number(n)?, number(seed)?)?);
+            Ok(0)
+        }
         ["survey", n, seed] => oracle::survey::run(number(n)?, number(seed)?),
         ["record", out] => put(out, &oracle::record::list()?),
         ["written", out] => put(out, &oracle::written()),

@@ -5,29 +5,10 @@ mod common;
 
 use std::collections::{BTreeSet, HashSet};
 
-use common::{aired, edge_list, explain_air, list, ACCEPTED};
+use common::{aired, edge_list, explain_air, list, packages, wide, ACCEPTED};
 use oracle::draft::Draft;
 use oracle::reader::kind;
 use oracle::{generate, samples, Edge, Node, Problem};
-
-/// One package of each name, all of which the root requires, in this order.
-fn packages(names: &[&str]) -> (Draft, Vec<u16>) {
-    let mut d = Draft::new();
-    let all: Vec<u16> = names.iter().map(|name| d.package(name, "1")).collect();
-    d.root_needs("all *", &all);
-    (d, all)
-}
-
-/// So many packages that the root requires. Unresolved goes unless something is missing.
-fn wide(count: usize) -> (Draft, Vec<u16>) {
-    let mut d = Draft::new();
-    let name = d.name("wide");
-    let all: Vec<u16> = (0..count)
-        .map(|i| d.solvable(name, &i.to_string()))
-        .collect();
-    d.root_needs("wide *", &all);
-    (d, all)
-}
 
 /// What the nodes' solvables are numbered.
 fn solvables(file: &[u8]) -> Vec<u16> {

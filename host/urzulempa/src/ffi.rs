@@ -12,6 +12,8 @@ extern "C" {
     fn urzulempa_check(file: *const u8, file_len: usize) -> Answer;
     fn urzulempa_nodes(file: *const u8, file_len: usize, list: *mut Node, list_len: usize) -> Answer;
     fn urzulempa_edges(file: *const u8, file_len: usize, list: *mut u16, list_len: usize) -> Answer;
+    fn urzulempa_what_if(file: *const u8, file_len: usize, solvable: u64, reason: u64, list: *mut Node, list_len: usize) -> Answer;
+    fn urzulempa_what_if_explain(file: *const u8, file_len: usize, solvable: u64, reason: u64, option: u64, room: *mut u8, room_len: usize) -> Answer;
     fn urzulempa_salvage(file: *const u8, file_len: usize, room: *mut u8, room_len: usize, list: *mut u16, list_len: usize) -> Salvaged;
     fn urzulempa_settings_read(file: *const u8, file_len: usize, version: u64) -> Settings;
     fn urzulempa_settings_set(room: *mut u8, room_len: usize, used: u64, version: u64, setting: u64, content: u64) -> Answer;
@@ -56,6 +58,14 @@ pub fn nodes(file: &[u8], list: &mut [Node]) -> Answer {
 
 pub fn edges(file: &[u8], list: &mut [u16]) -> Answer {
     unsafe { urzulempa_edges(file.as_ptr(), file.len(), list.as_mut_ptr(), list.len()) }
+}
+
+pub fn what_if(file: &[u8], solvable: u64, reason: u64, list: &mut [Node]) -> Answer {
+    unsafe { urzulempa_what_if(file.as_ptr(), file.len(), solvable, reason, list.as_mut_ptr(), list.len()) }
+}
+
+pub fn what_if_explain(file: &[u8], solvable: u64, reason: u64, option: u64, room: &mut [u8]) -> Answer {
+    unsafe { urzulempa_what_if_explain(file.as_ptr(), file.len(), solvable, reason, option, room.as_mut_ptr(), room.len()) }
 }
 
 pub fn salvage(file: &[u8], room: &mut [u8], list: &mut [u16]) -> Salvaged {

@@ -1,8 +1,9 @@
 //! Why a load of packages has no solution: safe functions over the proved library.
 //!
 //! Every call takes any bytes and any room and gives an [`Answer`], [`salvage`] its [`Salvaged`], [`settings_read`] its [`Settings`];
-//! none of them panics or keeps anything, and none allocates but [`edges`], [`repaired`], [`appended`] and [`written`], which make what
-//! they fill. [`grown`] makes the room for one. [`Tables`] and [`list`] make files: from a program, and from a text that a person writes.
+//! none of them panics or keeps anything, and none allocates but [`edges`], [`repaired`], [`what_changes`], [`appended`] and [`written`],
+//! which make what they fill. [`grown`] makes the room for one. [`Tables`] and [`list`] make files: from a program, and from a text that
+//! a person writes.
 //!
 //! ```
 //! use urzulempa::{explain, Refusal};
@@ -28,6 +29,7 @@
 //! assert!(text.ends_with(b"codec 9, for which no candidates were found.\n"));
 //! ```
 
+mod asked;
 mod edge;
 mod edition;
 mod ffi;
@@ -38,6 +40,7 @@ mod settings;
 pub mod tables;
 mod written;
 
+pub use asked::{what_changes, what_if, what_if_explain, Change, Label};
 pub use edge::{Edge, EdgeKind};
 pub use edition::Edition;
 pub use refusal::Refusal;

@@ -1,4 +1,4 @@
-//! The command: explain, graph, nodes, edges, check, salvage, settings, dump, make.
+//! The command: explain, graph, nodes, edges, what-if, check, salvage, settings, dump, make.
 
 mod choose;
 mod cycle;
@@ -7,6 +7,7 @@ mod keep;
 mod lists;
 mod made;
 mod mended;
+mod what_if;
 
 use std::ffi::OsString;
 use std::io::{self, Write};
@@ -30,6 +31,10 @@ urzulempa: why a load of packages has no solution, from a file of clause records
                                                  clause that first added it (65535: none) with its record
   urzulempa edges FILE [PACKAGE]                 the edges, oldest first, each with the clause that added it and that clause's
                                                  record; with PACKAGE (a name, or name and version) those that touch it
+  urzulempa what-if FILE PACKAGE REASON          which labels would change if this package were excluded for this reason too, and
+            [--no-indent] [--room N]             the explanation then. PACKAGE is a name, or name and version, REASON its text, in
+                                                 quotes where it has spaces; or each is # and its number, as in '#3'. Where a text
+                                                 means several, their numbers are listed
   urzulempa check FILE                           looks for refusals 1 to 9; says nothing if there are none
   urzulempa salvage FILE -o OUT [--force]        repairs a file that was cut or damaged: drops the bytes behind the last whole
                                                  record and puts an InstallRoot outside the core in the place of each damaged
@@ -53,6 +58,7 @@ Examples:
   urzulempa explain samples/replay.rec --air
   urzulempa graph samples/monitor.rec | dot -Tsvg > monitor.svg
   urzulempa edges samples/rack.rec deck 3.1
+  urzulempa what-if samples/rack.rec 'driver 11' 'it was recalled'
   urzulempa check - < samples/rack.rec
   urzulempa salvage cut.rec -o mended.rec
   urzulempa settings truck.set edition 2
@@ -85,6 +91,9 @@ fn run(words: &[String]) -> Result<ExitCode, String> {
     }
     if let Some(ran) = made::run(words) {
         return ran;
+    }
+    if words[0] == "what-if" {
+        return what_if::run(&words[1..]);
     }
     let (mut file, mut package) = (None, None);
     let (mut out, mut force) = (None, false);

@@ -13,6 +13,8 @@ pub enum Refusal {
     Shape(u64),
     /// 4, by record
     Number(u64),
+    /// 4, of a question: [`what_changes`](crate::what_changes) tells it apart from that of a record
+    Asked,
     /// 5, by record
     Origin(u64),
     /// 6, by record
@@ -72,7 +74,7 @@ impl Refusal {
             Self::Length => 1,
             Self::Kind(_) => 2,
             Self::Shape(_) => 3,
-            Self::Number(_) => 4,
+            Self::Number(_) | Self::Asked => 4,
             Self::Origin(_) => 5,
             Self::TableFull(_) => 6,
             Self::Learnt(_) => 7,
@@ -105,6 +107,7 @@ impl fmt::Display for Refusal {
             Self::Kind(r) => write!(f, "record {r} has a kind that does not exist: the writer is newer than this reader, or the file is damaged"),
             Self::Shape(r) => write!(f, "record {r} has a bad length, flag, text byte or origin, or a byte that must be 0 is not: mend the writer"),
             Self::Number(r) => write!(f, "record {r} is out of order or names something that is not defined before it: put definitions first and number them from 0"),
+            Self::Asked => write!(f, "the file has no such solvable or reason, or no node of the conflict stands for that solvable: ask about a package of the conflict"),
             Self::Origin(r) => write!(f, "record {r} names a variable of an origin that its field does not allow: check what the variable stands for"),
             Self::TableFull(r) => write!(f, "record {r} is one more than its table holds: the load is too large; leave out what is not in the core"),
             Self::Learnt(c) => write!(f, "clause {c} is a learnt clause in the core: hand over the clauses that it was learnt from instead"),
@@ -115,7 +118,7 @@ impl fmt::Display for Refusal {
             Self::Option => write!(f, "the option is neither 0 nor 1, or the edition neither 1 nor 2: pass one of them"),
             Self::Locked(c) => write!(f, "clause {c} is a lock in the core, and the air profile takes none: explain this load without the profile"),
             Self::ManyNodes => write!(f, "the graph has more than 64 nodes, the most that the air profile takes: cut the core down, or explain this load without the profile"),
-            Self::Cycle(n) => write!(f, "node {n} leads back to itself, and the air profile takes no cycle: break it, or explain this load without the profile"),
+            Self::Cycle(n) => write!(f, "node {n} leads back to itself, and neither the air profile nor a question takes a cycle: break it, or explain this load as it is"),
             Self::Version(r) => write!(f, "record {r} of the settings is of a version that this reader does not know: a newer release wrote it, or it is damaged"),
             Self::Unknown(n) => write!(f, "refusal {n}, which no call gives"),
         }

@@ -16,9 +16,10 @@ use Rattle.machine.specs.Machine.{Plan, Entry, entry, requirement, candidate}
 use Rattle.machine.specs.Bound.{Counted, most}
 use Rattle.machine.specs.Count.{groups, unmerged}
 use Rattle.machine.specs.Units.{Result}
+use Rattle.machine.specs.Explained.{Explained}
 use Rattle.machine.specs.Edition.{reading, edited}
 use Rattle.machine.specs.Laws.Edition.{edited-most}
-use Rattle.plan.specs.Plan.{Shown, shownOf, planOf, popped, isMerged, leadOf}
+use Rattle.plan.specs.Plan.{Shown, shownOf, planOf, startOf, popped, isMerged, leadOf}
 use Rattle.plan.specs.Display.{solvableOf}
 use Rattle.plan.specs.Fields.{planIn, startIn, runsIn, kidsIn, solvableIn}
 use Rattle.plan.specs.Planned.{Planned, RunIs}
@@ -116,16 +117,23 @@ module _ (T : Tables) (G : Graph) (g : Graphed T G) (p q k : List ℕ) (z : Plan
   lines-read opt e d (same-run r s ms b i a) = run-read every p q k m T (topOf opt) r ms b ∙ run-same T G p k opt r s ms b i
   lines-read opt e d (same-kid n ms b h a) = kid-read every p q k m T (topOf opt) n ms b ∙ kid-same T G p k z opt n ms b h
 
+  -- what is shown of the graph, whether or not a file draws it
+  pub read-shown : (e : ℕ) → eqb e 2 ≡ every → (opt : ℕ) (out left : List ℕ) (a : Told) → (w : Answered T q k (topOf opt) out left a)
+      → Explained (edited e (planOf (shownOf T G))) (linesOf (shownOf T G) opt) (solvableOf (shownOf T G)) (startOf (shownOf T G)) (length out)
+      (record { number = a .number; place = a .place; bytes = a .bytes; units = a .units; depth = a .depth; text = w .text })
+  unfolding shownOf startIn
+  read-shown e v opt out left a w =
+      let r : Result = record { number = a .number; place = a .place; bytes = a .bytes; units = a .units; depth = a .depth; text = w .text } in
+      let runs : Each (RunIs S p k) (runsIn q 0) (popped S 0) = rw (rows-same every p q k m 0) (z .nodes 0 (some-node T G g) .runs) in
+      rw v
+      (explained-same (planIn q k) (reading every (planOf S)) Node (RunIs S p k) (read-alike every p q k m S z few-nodes)
+      (linesIn T q k (topOf opt)) (linesOf S opt) (lines-read opt)
+      (solvableIn q) (solvableOf S) (λ n l. m .solvable n ∙ z .nodes n l .solvable) (runsIn q 0) (popped S 0) runs (length out) r (w .is))
+
   pub read-file : (e : ℕ) → eqb e 2 ≡ every → (file : List ℕ) (opt : ℕ) → Drawn e file opt T G
       → (out left : List ℕ) (a : Told) → (w : Answered T q k (topOf opt) out left a)
       → ExplainedFile e file opt (length out)
       (record { number = a .number; place = a .place; bytes = a .bytes; units = a .units; depth = a .depth; text = w .text })
-  unfolding shownOf startIn
   read-file e v file opt x out left a w =
-      let r : Result = record { number = a .number; place = a .place; bytes = a .bytes; units = a .units; depth = a .depth; text = w .text } in
-      let runs : Each (RunIs S p k) (runsIn q 0) (popped S 0) = rw (rows-same every p q k m 0) (z .nodes 0 (some-node T G g) .runs) in
-      drawn-file e file opt T G x (length out) r
-      (rw v
-      (explained-same (planIn q k) (reading every (planOf S)) Node (RunIs S p k) (read-alike every p q k m S z few-nodes)
-      (linesIn T q k (topOf opt)) (linesOf S opt) (lines-read opt)
-      (solvableIn q) (solvableOf S) (λ n l. m .solvable n ∙ z .nodes n l .solvable) (runsIn q 0) (popped S 0) runs (length out) r (w .is)))
+      drawn-file e file opt T G x (length out)
+      (record { number = a .number; place = a .place; bytes = a .bytes; units = a .units; depth = a .depth; text = w .text }) (read-shown e v opt out left a w)

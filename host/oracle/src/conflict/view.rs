@@ -1,5 +1,7 @@
 //! What the oracle asks of conflict.rs.
 
+mod what_if;
+
 use std::fmt::{self, Write as _};
 
 use petgraph::algo::{is_cyclic_directed, tarjan_scc};
@@ -51,29 +53,33 @@ pub fn drawn(solver: &FileSolver<'_>, core: &[ClauseId]) -> Result<Drawn, Refusa
 }
 
 impl Drawn {
-    /// Oldest first: an edge's index is its place in the order of adding, since only unresolved is ever removed, and only when
-    /// no edge leads there; none leaves it.
     pub fn edges(&self) -> Vec<Edge> {
-        let edges = self.graph.graph.edge_references().zip(&self.added.edges);
-        edges
-            .map(|(edge, &clause)| {
-                let (kind, named) = match *edge.weight() {
-                    ConflictEdge::Requires(requirement) => (0, requirement.0),
-                    ConflictEdge::Conflict(ConflictCause::Locked(solvable)) => (1, solvable.0),
-                    ConflictEdge::Conflict(ConflictCause::Constrains(set)) => (2, set.0),
-                    ConflictEdge::Conflict(ConflictCause::ForbidMultipleInstances) => (3, 0),
-                    ConflictEdge::Conflict(ConflictCause::Excluded) => (4, 0),
-                };
-                Edge {
-                    source: edge.source().index() as u16,
-                    target: edge.target().index() as u16,
-                    kind,
-                    named,
-                    clause,
-                }
-            })
-            .collect()
+        edge_list(&self.graph, &self.added)
     }
+}
+
+/// Oldest first: an edge's index is its place in the order of adding, since only unresolved is ever removed, and only when no edge
+/// leads there; none leaves it.
+fn edge_list(graph: &ConflictGraph, added: &AddedBy) -> Vec<Edge> {
+    let edges = graph.graph.edge_references().zip(&added.edges);
+    edges
+        .map(|(edge, &clause)| {
+            let (kind, named) = match *edge.weight() {
+                ConflictEdge::Requires(requirement) => (0, requirement.0),
+                ConflictEdge::Conflict(ConflictCause::Locked(solvable)) => (1, solvable.0),
+                ConflictEdge::Conflict(ConflictCause::Constrains(set)) => (2, set.0),
+                ConflictEdge::Conflict(ConflictCause::ForbidMultipleInstances) => (3, 0),
+                ConflictEdge::Conflict(ConflictCause::Excluded) => (4, 0),
+            };
+            Edge {
+                source: edge.source().index() as u16,
+                target: edge.target().index() as u16,
+                kind,
+                named,
+                clause,
+            }
+        })
+        .collect()
 }
 
 impl<'p, 'a> View<'p, 'a> {
@@ -136,6 +142,11 @@ impl<'p, 'a> View<'p, 'a> {
     pub fn nodes(&self) -> Vec<Node> {
         let graph = &self.unsat.graph.graph;
         graph.node_indices().map(|node| self.node(node)).collect()
+    }
+
+    /// The edges, oldest first.
+    pub fn edges(&self) -> Vec<Edge> {
+        edge_list(&self.unsat.graph, &self.added)
     }
 
     pub fn edge_count(&self) -> usize {

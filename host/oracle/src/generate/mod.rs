@@ -14,6 +14,7 @@ mod merges;
 mod quotes;
 mod texts;
 mod trees;
+pub mod what_if;
 mod world;
 
 use crate::reader::kind;
@@ -172,20 +173,27 @@ const AIR: &[Shape] = &[
     heavy("air-largest", air::largest),
 ];
 
-/// All but those near the air profile.
+/// Files that document 02, order 10, is asked of.
+const WHAT_IF: &[Shape] = &[
+    light("what-if-families", what_if::families),
+    heavy("what-if-limits", what_if::limits),
+    heavy("what-if-records", what_if::records),
+];
+
+/// All but those near the air profile and those of order 10.
 fn plain() -> impl Iterator<Item = &'static Shape> {
     KINDS.iter().flatten().chain(SHAPES).chain(FAULTS)
 }
 
 fn all() -> impl Iterator<Item = &'static Shape> {
-    plain().chain(AIR)
+    plain().chain(AIR).chain(WHAT_IF)
 }
 
 pub fn shapes() -> impl Iterator<Item = &'static str> {
     all().map(|shape| shape.name)
 }
 
-/// The shapes whose files `record` takes: one added to [`AIR`] leaves the recorded answers as they are.
+/// The shapes whose files `record` takes: one added to [`AIR`] or [`WHAT_IF`] leaves the recorded answers as they are.
 pub fn recorded() -> impl Iterator<Item = &'static str> {
     plain().map(|shape| shape.name)
 }
@@ -215,6 +223,26 @@ pub fn pick_air(index: u64, seed: u64) -> (&'static str, u64) {
     let named = ["cycle", "lock", "forbid", "world", "soup"];
     let near = move |shape: &&Shape| named.iter().any(|name| shape.name.contains(name));
     picked(index, seed, || AIR.iter().chain(plain().filter(near)))
+}
+
+/// The same over the shapes of order 10 and those near them, most of whose files have no cycle.
+pub fn pick_what_if(index: u64, seed: u64) -> (&'static str, u64) {
+    let named = [
+        "inside",
+        "locks",
+        "nodes",
+        "dag",
+        "merge",
+        "exclusions",
+        "runs",
+        "gate-partners",
+        "auxiliary-pairs",
+        "candidates",
+    ];
+    let near = move |shape: &&Shape| named.iter().any(|name| shape.name.contains(name));
+    picked(index, seed, || {
+        WHAT_IF.iter().chain(plain().chain(AIR).filter(near))
+    })
 }
 
 fn picked<I: Iterator<Item = &'static Shape>>(

@@ -3,6 +3,8 @@
 
 #![allow(dead_code)]
 
+use oracle::asked::{agree, Question};
+use oracle::draft::Draft;
 use oracle::{Answer, Edge, Node, Problem, Salvaged};
 
 fn same(theirs: Answer, ours: urzulempa::Answer) -> Answer {
@@ -86,21 +88,95 @@ pub fn graphviz(file: &[u8], option: u64, room: &mut [u8]) -> Answer {
     answer
 }
 
-pub fn nodes(file: &[u8], list: &mut [Node]) -> Answer {
-    let entry = |n: &Node| urzulempa::Node {
+fn entry(n: &Node) -> urzulempa::Node {
+    urzulempa::Node {
         kind: n.kind,
         number: n.number,
         group: n.group,
         installable: n.installable,
         missing: n.missing,
         clause: n.clause,
-    };
-    let mut ours: Vec<urzulempa::Node> = list.iter().map(entry).collect();
-    let port = urzulempa::nodes(file, &mut ours);
-    let answer = same(oracle::nodes(file, list), port);
+    }
+}
+
+/// A call that fills a list of nodes, on both sides.
+fn listed(
+    list: &mut [Node],
+    theirs: impl FnOnce(&mut [Node]) -> Answer,
+    ours: impl FnOnce(&mut [urzulempa::Node]) -> urzulempa::Answer,
+) -> Answer {
+    let mut port: Vec<urzulempa::Node> = list.iter().map(entry).collect();
+    let answer = same(theirs(list), ours(&mut port));
     let theirs: Vec<urzulempa::Node> = list.iter().map(entry).collect();
-    assert_eq!(ours, theirs, "the port leaves other entries");
+    assert_eq!(port, theirs, "the port leaves other entries");
     answer
+}
+
+pub fn nodes(file: &[u8], list: &mut [Node]) -> Answer {
+    let ours = |list: &mut [urzulempa::Node]| urzulempa::nodes(file, list);
+    listed(list, |list| oracle::nodes(file, list), ours)
+}
+
+/// What if this solvable were excluded for this reason too. The file with one more clause has to give the same, too, by what a node
+/// stands for.
+pub fn what_if(file: &[u8], solvable: u64, reason: u64, list: &mut [Node]) -> Answer {
+    let question = Question { solvable, reason };
+    let both = agree(file, question).unwrap_or_else(|said| panic!("{question:?}: {said}"));
+    let theirs = |list: &mut [Node]| oracle::what_if(file, solvable, reason, list);
+    let ours = |list: &mut [urzulempa::Node]| urzulempa::what_if(file, solvable, reason, list);
+    let answer = listed(list, theirs, ours);
+    match both {
+        Ok(_) => assert!([0, 10].contains(&answer.number)),
+        Err(refusal) => assert_eq!(answer, Answer::from(refusal)),
+    }
+    answer
+}
+
+pub fn what_if_explain(
+    file: &[u8],
+    solvable: u64,
+    reason: u64,
+    option: u64,
+    room: &mut [u8],
+) -> Answer {
+    let mut ours = room.to_vec();
+    let port = urzulempa::what_if_explain(file, solvable, reason, option, &mut ours);
+    let theirs = oracle::what_if_explain(file, solvable, reason, option, room);
+    let answer = same(theirs, port);
+    assert!(ours == room, "the port leaves other bytes");
+    answer
+}
+
+/// The nodes then, or a refusal's number and place, by which the list and a room stay as they were.
+pub fn asked(file: &[u8], solvable: u64, reason: u64) -> Result<Vec<Node>, (u64, u64)> {
+    let past = Node {
+        kind: 7,
+        ..Node::default()
+    };
+    let mut list = vec![past; 128];
+    let answer = what_if(file, solvable, reason, &mut list);
+    let mut room = vec![0xee; 1 << 16];
+    let told = what_if_explain(file, solvable, reason, 0, &mut room);
+    if answer.number != 0 {
+        assert_eq!(told, answer);
+        assert_eq!((answer.bytes, answer.units, answer.depth), (0, 0, 0));
+        assert!(list.iter().all(|&node| node == past));
+        assert!(room.iter().all(|&byte| byte == 0xee));
+        return Err((answer.number, answer.place));
+    }
+    let said = (answer.place, answer.bytes, answer.units, answer.depth);
+    assert_eq!((said, told.number), ((0, 0, 1, 0), 0));
+    list.retain(|&node| node != past);
+    Ok(list)
+}
+
+/// The lines of the explanation then, with option 0.
+pub fn lines_then(file: &[u8], solvable: u64, reason: u64) -> Vec<String> {
+    let mut room = vec![0; 1 << 16];
+    let answer = what_if_explain(file, solvable, reason, 0, &mut room);
+    assert_eq!(answer.number, 0);
+    let text = String::from_utf8_lossy(&room[..answer.bytes as usize]).into_owned();
+    text.lines().map(str::to_string).collect()
 }
 
 pub fn edge_numbers(file: &[u8], list: &mut [u16]) -> Answer {
@@ -224,3 +300,39 @@ pub fn checked(file: &[u8]) -> (u64, u64) {
 }
 
 pub const ACCEPTED: (u64, u64) = (0, 0);
+
+/// One package of each name, all of which the root requires, in this order.
+pub fn packages(names: &[&str]) -> (Draft, Vec<u16>) {
+    let mut d = Draft::new();
+    let all: Vec<u16> = names.iter().map(|name| d.package(name, "1")).collect();
+    d.root_needs("all *", &all);
+    (d, all)
+}
+
+/// So many packages that the root requires. Unresolved goes unless something is missing.
+pub fn wide(count: usize) -> (Draft, Vec<u16>) {
+    let mut d = Draft::new();
+    let name = d.name("wide");
+    let all: Vec<u16> = (0..count)
+        .map(|i| d.solvable(name, &i.to_string()))
+        .collect();
+    d.root_needs("wide *", &all);
+    (d, all)
+}
+
+/// Such a load with two reasons, of which none has a node.
+pub fn with_reasons((mut d, all): (Draft, Vec<u16>)) -> (Draft, Vec<u16>) {
+    d.reason("too old");
+    d.reason("recalled");
+    (d, all)
+}
+
+/// The edges as they would be with one more exclusion: source, target, kind and clause.
+pub fn edges_then(file: &[u8], solvable: u64, reason: u64) -> Vec<[u16; 4]> {
+    let problem = Problem::read(file).expect("the reader takes the file");
+    let model = problem.model().expect("the graph can be built");
+    let asked = model.excluding(solvable, reason);
+    let edges = asked.expect("the question can be asked").edges();
+    let four = |e: &Edge| [e.source, e.target, e.kind, e.clause];
+    edges.iter().map(four).collect()
+}

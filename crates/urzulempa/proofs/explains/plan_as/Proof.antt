@@ -5,4 +5,8 @@ use Rattle.urzulempa.proofs.explains.plan_as.Tie as tie
 
 pub plan-as-spec : {M : Type 1} → statement M
 plan-as-spec =
-    tie.close (tie.spec (λ c κs. (search needs, (search needs, search needs))) (λ c κs. search needs) (λ c. search (needs, planned-as)))
+    tie.close
+    (tie.spec
+    (λ c κs. (search needs, (search needs, (search needs, search needs))))
+    (λ c κs. search needs)
+    (λ c. search (needs, planned-as)))

@@ -1,0 +1,18 @@
+use borrow.Author.Needs.{needs}
+use Rattle.whatif.specs.Laws.Tests.{gone-root, gone-solvable, gone-not, gone-excluded}
+use Rattle.whatif.proofs.tests.gone.Statement.{statement}
+use Rattle.whatif.proofs.tests.gone.Tie as tie
+
+pub gone-spec : {M : Type 1} → statement M
+gone-spec =
+    tie.close
+    (tie.spec
+    (λ c κs. search needs)
+    (λ c. search needs)
+    (λ c. search needs)
+    (λ c. search needs)
+    (λ c. search needs)
+    (λ c. (search (needs, gone-root), search needs))
+    (λ c. (search (needs, gone-solvable), search needs))
+    (λ c. (search (needs, gone-not), search needs))
+    (λ c. (search (needs, gone-excluded), search needs)))
