@@ -17,6 +17,8 @@
  *  17 as above
  * Of a settings file alone:
  *  18 a version that the reader does not know                                            (place: the record)
+ * Of urzulempa_tgf_read, which reads a text and no record file, 3 and 10 alone:
+ *   3 a line is bad or missing                                                            (place: its number, from 1)
  * Refusals 1 to 9, 12 and 15 to 18 leave the room and the list as they were; 10 and 11 leave the whole units written before the stop.
  * `bytes` and `units` say what was written, `depth` how many packages are opened on the deepest branch of it.
  */
@@ -53,6 +55,11 @@ typedef struct {
 typedef struct {
     uint64_t number, place, indent, simplify, edition;
 } urzulempa_settings;
+
+/* nodes, edges: how many a text of the wall display has; both are 0 on a refusal. */
+typedef struct {
+    uint64_t number, place, nodes, edges;
+} urzulempa_tgf_counts;
 
 /* The explanation; option 1 indents the top level, 0 does not. Packages that are alike share a line: up to six show all their versions,
  * more of them the first three, " | ... | " and the last, here and in the other explanations. */
@@ -112,6 +119,17 @@ urzulempa_answer urzulempa_settings_set(uint8_t *room, size_t room_len, uint64_t
  * unknown kind stands among the clauses); then 1, place 0, if it would pass 65,536 bytes; then 10, place 0, if it does not fit.
  * Nothing is written on any refusal, and what lies behind the file stays. */
 urzulempa_answer urzulempa_write(const uint8_t *rows, size_t rows_len, uint8_t *room, size_t room_len);
+/* The graph for the wall display, in Trivial Graph Format: a line per node with its number, a space and its label, a line with #, then
+ * a line per edge with source, target and label, the oldest edge first. Labels are the texts of the graph text, merge groups are not
+ * drawn together, and every line, a unit, ends in a newline: 10 leaves whole lines. 65,536 bytes of room are enough. */
+urzulempa_answer urzulempa_tgf(const uint8_t *file, size_t file_len, uint8_t *room, size_t room_len);
+/* Reads such a text: 1 to 128 nodes numbered from 0, up to 1,024 edges between them, decimals without leading zeros, one space behind
+ * each, labels of 1 to 49 bytes from 32 to 126. The first list gets two numbers a node, where its label begins in the text and how long
+ * it is; the second four an edge, source, target, and the same of its label. nodes_len and edges_len count numbers: 2 * 128 and
+ * 4 * 1,024 are enough; numbers behind those written stay.
+ * 3 with the number, from 1, of the first bad or missing line (an unfinished last line is bad); then 10 with place 0 if a list is too
+ * short. Any refusal leaves both lists as they were. */
+urzulempa_tgf_counts urzulempa_tgf_read(const uint8_t *text, size_t text_len, uint32_t *nodes, size_t nodes_len, uint32_t *edges, size_t edges_len);
 
 #ifdef __cplusplus
 }

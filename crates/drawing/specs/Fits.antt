@@ -74,3 +74,15 @@ module _ (D : Drawn) (o b : List ℕ) (q : Answer) (A : Adds (drawingUnits D) o 
 
   pub drawn-room : b ≡ over (drawShown D (length o) .text) o
   drawn-room = whole .room
+
+-- any units, from an empty answer
+module _ (us : List (List ℕ)) (o b : List ℕ) (q : Answer) (A : Adds us o (record { number = 0; place = 0; bytes = 0; units = 0; depth = 0 }) b q) where
+  shown : Ends (shownOf us (length o)) o b q
+  unfolding shownOf
+  shown = rw (A .answer, A .room) (ends o us [] 0 0 (record { tally = tally-none; fits = omega arith }))
+
+  pub shown-answer : q ≡ answerIn (shownOf us (length o))
+  shown-answer = shown .answer
+
+  pub shown-room : b ≡ over (shownOf us (length o) .text) o
+  shown-room = shown .room

@@ -8,4 +8,5 @@ pub mod Air
 pub mod Settings
 pub mod Write
 pub mod WhatIf
+pub mod Wall
 pub mod Laws

@@ -16,7 +16,8 @@ use crate::checks::wide;
 use graph::Made;
 use store::Size;
 
-fn answer(d: drawing::Answer) -> Answer
+// What was drawn as an answer.
+pub fn answer(d: drawing::Answer) -> Answer
     ensures { λ r. ⌜ r ≡ drawingAs d ⌝ }
 {
     Answer {

@@ -7,6 +7,7 @@ mod edges;
 mod explains;
 mod graphs;
 mod nodes;
+mod walls;
 mod whatifs;
 
 // "An answer holds number, place, bytes, units, depth" (document 01, "Refusal numbers").
@@ -21,12 +22,15 @@ pub struct Answer {
 
 use salvage::Salvaged;
 use settings::Settings;
+use wall::Counts;
 ghost use mathlib.Core.Path.{_≡_};
 ghost use lib.ListN.{length};
 ghost use Rattle.salvage.specs.Lent.{salvageAnswer, salvageRoom, salvageList};
 ghost use Rattle.settings.specs.Change.{changeOf, roomOf};
 ghost use Rattle.settings.specs.Settings.{readOf};
 ghost use Rattle.texts.specs.Wrote.{over};
+ghost use Rattle.wall.specs.Lent.{tgfCounts, tgfNodes, tgfEdges};
+ghost use Rattle.wall.specs.Read.{readText};
 ghost use Rattle.urzulempa.specs.Air.{SaysAir};
 ghost use Rattle.urzulempa.specs.Answers.{checkOf};
 ghost use Rattle.urzulempa.specs.Draws.{resultAnswer, drawFile};
@@ -37,6 +41,7 @@ ghost use Rattle.urzulempa.specs.Settings.{changeAnswer};
 ghost use Rattle.urzulempa.specs.Write.{writtenAnswer};
 ghost use Rattle.writing.specs.Write.{writeAnswer, writeRoom};
 ghost use Rattle.urzulempa.specs.WhatIf.{SaysWhatIf};
+ghost use Rattle.urzulempa.specs.Wall.{exportFile};
 
 // Refusals 1 to 9, and no text.
 #[no_mangle]
@@ -240,4 +245,29 @@ pub extern "C" fn urzulempa_write(rows: &[u8], room: &mut [u8]) -> Answer
         units: w.units,
         depth: 0,
     }
+}
+
+// The graph for the wall display in Trivial Graph Format (order 14): a line a node, a line with #, a line an edge. 1 to 9, then 10,
+// which leaves whole lines.
+#[no_mangle]
+pub extern "C" fn urzulempa_tgf(file: &[u8], room: &mut [u8]) -> Answer
+    ensures { λ r. ⌜ r ≡ resultAnswer (exportFile (now (file .entry)) (length (now (room .entry)))) ⌝ }
+    ensures { λ _. ⌜ now (room .exit) ≡ over (exportFile (now (file .entry)) (length (now (room .entry))) .text) (now (room .entry)) ⌝ }
+{
+    let mut ix = [0u16; 10432];
+    let mut g = [0u64; 1152];
+    let mut tr = [0u64; 1280];
+    let mut ls = [0u16; 3456];
+    walls::export_in(file, &mut ix, &mut g, &mut tr, &mut ls, room)
+}
+
+// Reads such a text back (order 14): two numbers a node, where its label begins and how long it is, and four an edge, its ends and the
+// same. 3 with the number of the first bad or missing line, 10 where a list is short: both are as before then.
+#[no_mangle]
+pub extern "C" fn urzulempa_tgf_read(text: &[u8], nodes: &mut [u32], edges: &mut [u32]) -> Counts
+    ensures { λ r. ⌜ r ≡ tgfCounts (readText (now (text .entry))) (length (now (nodes .entry))) (length (now (edges .entry))) ⌝ }
+    ensures { λ _. ⌜ now (nodes .exit) ≡ tgfNodes (readText (now (text .entry))) (now (nodes .entry)) (length (now (edges .entry))) ⌝ }
+    ensures { λ _. ⌜ now (edges .exit) ≡ tgfEdges (readText (now (text .entry))) (length (now (nodes .entry))) (now (edges .entry)) ⌝ }
+{
+    wall::read(text, nodes, edges)
 }

@@ -1,10 +1,11 @@
 //! The port against the oracle: every call, on generated files, with rooms of every kind. Answers, whole rooms and whole lists of
-//! nodes, edges and replaced records have to be equal, untouched bytes among them.
+//! nodes, edges, replaced records and labels have to be equal, untouched bytes among them.
 
 mod calls;
 mod salvage;
 mod settings;
 mod shrink;
+mod wall;
 mod what_if;
 mod write;
 
@@ -30,6 +31,8 @@ const USAGE: &str = "usage: compare files N SEED   the hand-made files, then N g
        compare what-if N SEED what if one more package were excluded, alone: N generated files, half of them of shapes most of which
                               have no cycle, each asked about every solvable and reason where it is small; each answer by itself
                               and against conflict.rs on the file with one more clause
+       compare wall N SEED    the wall display's text and its reader alone: texts around each limit and a small one damaged at every
+                              byte, then N generated files, in rooms around the ends of lines; their texts are read, also damaged
        compare bytes          a small file with every kind of record, each byte set to each value
 Status: 0 no difference, 1 a difference, 64 wrong usage, 77 without conflict.rs.";
 
@@ -37,7 +40,7 @@ fn main() -> ExitCode {
     let words: Vec<String> = std::env::args().skip(1).collect();
     let words: Vec<&str> = words.iter().map(String::as_str).collect();
     let job = match words[..] {
-        ["files" | "check" | "nodes" | "edges" | "editions" | "air" | "salvage" | "settings" | "write" | "what-if", n, seed] => match (n.parse(), seed.parse()) {
+        ["files" | "check" | "nodes" | "edges" | "editions" | "air" | "salvage" | "settings" | "write" | "what-if" | "wall", n, seed] => match (n.parse(), seed.parse()) {
             (Ok(n), Ok(seed)) => Some((n, seed)),
             _ => None,
         },
@@ -59,6 +62,7 @@ fn main() -> ExitCode {
         "settings" => settings::differ(n, seed, true),
         "write" => write::writes(n, seed),
         "what-if" => questions(n, seed),
+        "wall" => wall::walls(n, seed),
         only => files(n, seed, only),
     };
     if found { ExitCode::from(1) } else { ExitCode::SUCCESS }
@@ -157,6 +161,9 @@ struct Tally {
     repaired: u64,
     mended: u64,
     asked: asking::Tally,
+    /// Texts of the wall display that were to be read, and those that were.
+    texts: u64,
+    read: u64,
 }
 
 impl Tally {
@@ -260,8 +267,11 @@ impl Tally {
             }
         }
         // Three of the lent places for the file and three for a damaged one, two for each of the rows; `compare salvage` and
-        // `compare write` take all.
+        // `compare write` take all, and `compare wall` more rooms.
         only == "files" && {
+            if wall::differs(self, whence, file, rng, wall::IN_SHORT) {
+                return true;
+            }
             let damaged = salvage::damaged(file.to_vec(), rng);
             self.repairs_differ(whence, file, rng, 3)
                 || self.repairs_differ(&format!("{whence}, damaged"), &damaged, rng, 3)

@@ -26,6 +26,7 @@ fn ten_thousand_damaged_files_get_an_answer() {
         &["graph", "-", "--simplify", "--room", "3000"],
         &["nodes", "-"],
         &["edges", "-"],
+        &["export", "-"],
         &["salvage", "-", "-o", &out],
         &["what-if", "-", "#0", "#0", "--room", "3000"],
     ];

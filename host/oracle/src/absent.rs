@@ -3,6 +3,7 @@
 
 use std::marker::PhantomData;
 
+use crate::wall::Chart;
 use crate::{Answer, Edge, Edition, Node, Refusal, Rules};
 
 fn absent() -> ! {
@@ -39,6 +40,10 @@ impl<'a> Problem<'a> {
     }
 
     pub fn counts(&self) -> (usize, usize, usize) {
+        absent()
+    }
+
+    pub fn chart(&self) -> Result<Chart, Refusal> {
         absent()
     }
 }

@@ -9,6 +9,7 @@ use crate::provider::{solver_of, FileSolver};
 use crate::reader::{self, kind};
 use crate::rooms::Room;
 use crate::standins::internal::id::ClauseId;
+use crate::wall::Chart;
 use crate::{Answer, Edge, Edition, Node, Refusal, Rules};
 
 /// A file that refusals 1 to 6 let through.
@@ -56,6 +57,11 @@ impl<'a> Problem<'a> {
     /// Refusals 7 to 9, or the edges, oldest first.
     pub fn edges(&self) -> Result<Vec<Edge>, Refusal> {
         Ok(view::drawn(&self.solver, &self.core)?.edges())
+    }
+
+    /// Refusals 7 to 9, or the graph as the wall shows it.
+    pub fn chart(&self) -> Result<Chart, Refusal> {
+        Ok(view::drawn(&self.solver, &self.core)?.chart(self.solver.provider()))
     }
 }
 

@@ -2,9 +2,9 @@
 //! document 01 describes and document 02 adds. Small stand-ins take the place of the solver's types.
 //!
 //! [`explain`], [`explain_plain`], [`explain_edition`], [`explain_air`], [`graphviz`], [`check`],
-//! [`nodes`], [`edges`], [`what_if`] and [`what_if_explain`] take any bytes. [`Problem`] and its [`Model`] are the same in steps, for many calls on one file. Where
+//! [`nodes`], [`edges`], [`what_if`], [`what_if_explain`] and [`tgf`] take any bytes. [`Problem`] and its [`Model`] are the same in steps, for many calls on one file. Where
 //! conflict.rs could not be had at build time, [`AVAILABLE`] is false and these must not be called;
-//! the reader, the generator, the samples, [`salvage`], [`settings`] and [`write`], which the Rust does not have,
+//! the reader, the generator, the samples, [`salvage`], [`settings`], [`write`] and [`tgf_read`], which the Rust does not have,
 //! are there all the same.
 
 mod answer;
@@ -20,6 +20,7 @@ pub mod salvage;
 pub mod samples;
 pub mod settings;
 pub mod survey;
+pub mod wall;
 pub mod writing;
 
 #[cfg(has_conflict_rs)]
@@ -52,6 +53,7 @@ pub use calls::{
 };
 
 pub use salvage::salvage;
+pub use wall::{tgf, tgf_read};
 pub use settings::Settings;
 pub use writing::write;
 

@@ -1,6 +1,6 @@
 //! The exported functions of the library (include/urzulempa.h). None of them has a precondition: a slice is all they ask.
 
-use crate::{Answer, Node, Salvaged, Settings};
+use crate::{Answer, Node, Salvaged, Settings, TgfCounts};
 use std::mem::{align_of, size_of};
 
 extern "C" {
@@ -18,6 +18,8 @@ extern "C" {
     fn urzulempa_settings_read(file: *const u8, file_len: usize, version: u64) -> Settings;
     fn urzulempa_settings_set(room: *mut u8, room_len: usize, used: u64, version: u64, setting: u64, content: u64) -> Answer;
     fn urzulempa_write(rows: *const u8, rows_len: usize, room: *mut u8, room_len: usize) -> Answer;
+    fn urzulempa_tgf(file: *const u8, file_len: usize, room: *mut u8, room_len: usize) -> Answer;
+    fn urzulempa_tgf_read(text: *const u8, text_len: usize, nodes: *mut u32, nodes_len: usize, edges: *mut u32, edges_len: usize) -> TgfCounts;
 }
 
 // What the library reads and writes lies as the header lays it out: no field has a gap before it.
@@ -25,6 +27,7 @@ const _: () = assert!(size_of::<Answer>() == 40 && align_of::<Answer>() == 8);
 const _: () = assert!(size_of::<Node>() == 10 && align_of::<Node>() == 2);
 const _: () = assert!(size_of::<Salvaged>() == 40 && align_of::<Salvaged>() == 8);
 const _: () = assert!(size_of::<Settings>() == 40 && align_of::<Settings>() == 8);
+const _: () = assert!(size_of::<TgfCounts>() == 32 && align_of::<TgfCounts>() == 8);
 
 // SAFETY, for all of them: pointer and length are those of one slice, and the library reads and writes inside it only (proved).
 
@@ -82,4 +85,12 @@ pub fn settings_set(room: &mut [u8], used: u64, version: u64, setting: u64, cont
 
 pub fn write(rows: &[u8], room: &mut [u8]) -> Answer {
     unsafe { urzulempa_write(rows.as_ptr(), rows.len(), room.as_mut_ptr(), room.len()) }
+}
+
+pub fn tgf(file: &[u8], room: &mut [u8]) -> Answer {
+    unsafe { urzulempa_tgf(file.as_ptr(), file.len(), room.as_mut_ptr(), room.len()) }
+}
+
+pub fn tgf_read(text: &[u8], nodes: &mut [u32], edges: &mut [u32]) -> TgfCounts {
+    unsafe { urzulempa_tgf_read(text.as_ptr(), text.len(), nodes.as_mut_ptr(), nodes.len(), edges.as_mut_ptr(), edges.len()) }
 }

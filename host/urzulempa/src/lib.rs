@@ -1,9 +1,9 @@
 //! Why a load of packages has no solution: safe functions over the proved library.
 //!
-//! Every call takes any bytes and any room and gives an [`Answer`], [`salvage`] its [`Salvaged`], [`settings_read`] its [`Settings`];
-//! none of them panics or keeps anything, and none allocates but [`edges`], [`repaired`], [`what_changes`], [`appended`] and [`written`],
-//! which make what they fill. [`grown`] makes the room for one. [`Tables`] and [`list`] make files: from a program, and from a text that
-//! a person writes.
+//! Every call takes any bytes and any room and gives an [`Answer`], [`salvage`] its [`Salvaged`], [`settings_read`] its [`Settings`],
+//! [`tgf_read`] its [`TgfCounts`]; none of them panics or keeps anything, and none allocates but [`edges`], [`repaired`], [`what_changes`],
+//! [`appended`], [`written`] and [`wall::read`], which make what they fill. [`grown`] makes the room for one. [`Tables`] and [`list`] make
+//! files: from a program, and from a text that a person writes.
 //!
 //! ```
 //! use urzulempa::{explain, Refusal};
@@ -39,6 +39,7 @@ mod salvaged;
 mod settings;
 pub mod tables;
 mod written;
+pub mod wall;
 
 pub use asked::{what_changes, what_if, what_if_explain, Change, Label};
 pub use edge::{Edge, EdgeKind};
@@ -51,6 +52,7 @@ pub use settings::{
 };
 pub use tables::Tables;
 pub use written::{write, written, MOST_BYTES};
+pub use wall::{tgf, tgf_read, TgfCounts};
 
 /// What a call says: the text is whole, or a numbered refusal with its place; and what was written.
 #[repr(C)]

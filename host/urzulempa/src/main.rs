@@ -1,8 +1,9 @@
-//! The command: explain, graph, nodes, edges, what-if, check, salvage, settings, dump, make.
+//! The command: explain, graph, nodes, edges, what-if, check, salvage, settings, dump, make, export, import.
 
 mod choose;
 mod cycle;
 mod decode;
+mod import;
 mod keep;
 mod lists;
 mod made;
@@ -12,7 +13,7 @@ mod what_if;
 use std::ffi::OsString;
 use std::io::{self, Write};
 use std::process::ExitCode;
-use urzulempa::{check, edges, explain_air, graphviz, grown, repaired, Answer, Edition, Refusal};
+use urzulempa::{check, edges, explain_air, graphviz, grown, repaired, tgf, wall, Answer, Edition, Refusal};
 
 const HELP: &str = "\
 urzulempa: why a load of packages has no solution, from a file of clause records
@@ -46,6 +47,8 @@ urzulempa: why a load of packages has no solution, from a file of clause records
                                                  numbers (docs/FORMAT.md)
   urzulempa make LIST -o FILE [--force]          the file of such a list, whose lines may stand in any order: `make` numbers them.
                                                  A fault is told by its line, and nothing is written; FILE as OUT above
+  urzulempa export FILE [--room N]               the graph for the wall display, in Trivial Graph Format; nothing is merged
+  urzulempa import FILE                          checks such a text: how many nodes and edges it has, or its first bad line
 
 SET is a settings file, whose settings are the defaults under the flags that are given.
 FILE and LIST may be - for standard input. N is the most bytes of text (default 67108864).
@@ -65,6 +68,8 @@ Examples:
   urzulempa explain samples/deck-panel.rec --settings truck.set
   urzulempa dump samples/replay.rec
   urzulempa make samples/replay.list -o replay.rec
+  urzulempa export samples/rack.rec > rack.tgf
+  urzulempa import rack.tgf
 ";
 
 const DEFAULT_ROOM: usize = 64 << 20;
@@ -109,7 +114,7 @@ fn run(words: &[String]) -> Result<ExitCode, String> {
                 _ => return Ok(usage("--settings wants the name of one file")),
             },
             ("explain", "--air") => air = true,
-            ("explain" | "graph", "--room") => match rest.next().and_then(|n| n.parse().ok()) {
+            ("explain" | "graph" | "export", "--room") => match rest.next().and_then(|n| n.parse().ok()) {
                 Some(n) => room = n,
                 None => return Ok(usage("--room wants a number of bytes")),
             },
@@ -134,7 +139,7 @@ fn run(words: &[String]) -> Result<ExitCode, String> {
             (_, w) => return Ok(usage(&format!("{w} is no option of {}", words[0]))),
         }
     }
-    if !["explain", "graph", "nodes", "edges", "check", "salvage"].contains(&words[0].as_str()) {
+    if !["explain", "graph", "nodes", "edges", "check", "salvage", "export", "import"].contains(&words[0].as_str()) {
         return Ok(usage(&format!("{} is no command", words[0])));
     }
     if air && edition == Some(Edition::Two) {
@@ -157,6 +162,8 @@ fn run(words: &[String]) -> Result<ExitCode, String> {
         "graph" => text(&bytes, grown(room, |r| graphviz(&bytes, option, r))),
         "nodes" => node_list(&bytes),
         "edges" => edge_list(&bytes, package.as_deref()),
+        "export" => text(&bytes, grown(room, |r| tgf(&bytes, r))),
+        "import" => imported(&bytes),
         _ => Ok(told(&bytes, &check(&bytes))),
     }
 }
@@ -211,6 +218,18 @@ fn salvage(name: &str, out: &str, force: bool) -> Result<ExitCode, String> {
             let code = refused(&bytes, refusal);
             say(&format!("{out} is not written: {}", mended::why_not(refusal)));
             Ok(code)
+        }
+    }
+}
+
+/// Checks a text of the wall display; a bad one is refused with its first bad line.
+fn imported(text: &[u8]) -> Result<ExitCode, String> {
+    match wall::read(text) {
+        Ok(chart) => print(import::told(&chart).as_bytes()).map(|()| ExitCode::SUCCESS),
+        Err(bad) => {
+            say(&format!("refused 3 at line {}: {}", bad.0, import::fault(text, bad)));
+            say("the wall display takes what `urzulempa export FILE` prints: export it again, or mend that line");
+            Ok(ExitCode::from(2))
         }
     }
 }

@@ -9,4 +9,5 @@ use crate::standins::tracing;
 include!(concat!(env!("OUT_DIR"), "/conflict.rs"));
 
 /// A child sees the private items of its parent: nothing has to be made public by replacement.
+mod chart;
 pub mod view;

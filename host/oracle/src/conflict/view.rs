@@ -26,7 +26,7 @@ pub struct View<'p, 'a> {
 
 /// The graph of a file alone, with the clauses that added its nodes and edges.
 pub struct Drawn {
-    graph: ConflictGraph,
+    pub(super) graph: ConflictGraph,
     added: AddedBy,
 }
 

@@ -1,0 +1,4 @@
+pub mod Weights
+pub mod Texts
+pub mod Back
+pub mod Told
