@@ -150,7 +150,8 @@ module _ (file : List ℕ) (s r : ℕ) (T : Tables) (y : readOf file ≡ good T)
     pub rebuilt : (M : Graph) × (graphOf U ≡ drawn M) × Same K M
     rebuilt = outcome-same T (promise file T y) s r K q U E
 
-    -- entry m of the list beside entry j of the node list of a file with the longer core: the labels of one package are the same
+    -- entry m of the list beside entry j of the node list of a file with the longer core: the labels of one package are the same,
+    -- and the clause that first added it
     module _ (m j : ℕ) (h : m < length (K .nodes)) (g : j < length (rebuilt .0 .nodes)) (e : nodeAt K m ≡ nodeAt (rebuilt .0) j) where
       pub same-installable : nodeEntry T K m .installable ≡ nodeEntry U (rebuilt .0) j .installable
       unfolding nodeEntry
@@ -159,6 +160,10 @@ module _ (file : List ℕ) (s r : ℕ) (T : Tables) (y : readOf file ≡ good T)
       pub same-missing : nodeEntry T K m .missing ≡ nodeEntry U (rebuilt .0) j .missing
       unfolding nodeEntry
       same-missing = ap flag (rebuilt .2 .missings m j h g e)
+
+      pub same-clause : nodeEntry T K m .clause ≡ nodeEntry U (rebuilt .0) j .clause
+      unfolding nodeEntry
+      same-clause = rebuilt .2 .firsts m j h g e
 
     -- and such a file is listed so by `urzulempa_nodes`
     pub rebuilt-listed : (longer : List ℕ) → readOf longer ≡ good U → nodesOf longer ≡ entered (nodeEntries U (rebuilt .0))
