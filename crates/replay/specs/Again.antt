@@ -2,7 +2,7 @@
 use mathlib.Core.Path.{_≡_, refl, sym, ap, _∙_}
 use mathlib.Core.Bool.{Bool, true, false, cond}
 use mathlib.Core.List.{List}
-use Prim.Native.Nat.{ℕ, zero, suc, _≤_, _<_}
+use Prim.Native.Nat.{ℕ, zero, suc, _-_, _≤_, _<_}
 use native.Mathlib.Omega.{arith}
 use native.Mathlib.Decide.{decLe}
 use lib.Dec.{leb}
@@ -10,12 +10,9 @@ use borrow.Author.Tests.{le-leb, lt-leb}
 use Rattle.basis.specs.Members.{clash}
 use Rattle.urzulempa.specs.Plain.{plainOption}
 use Rattle.replay.specs.declared.calls.Seen.{Seen}
-use Rattle.replay.specs.Head.{callIn, optionIn, roomIn, recordedIn}
-use Rattle.replay.specs.Seen.{Told, told-one, Aired, aired-one, blank, blankNumbers, checkedIn, drawnIn, listedIn, edgedIn, mendedIn, replacedIn}
-
--- no call has this number, and no answer either
-abbrev pub noCall : Seen
-noCall = record { number = 13; place = 0; bytes = 0; units = 0; depth = 0; sum = 0 }
+use Rattle.replay.specs.Head.{callIn, optionIn, firstIn, secondIn, roomIn, recordedIn}
+use Rattle.replay.specs.Seen.{Told, told-one, Aired, aired-one, noCall, blank, blankNumbers, checkedIn, drawnIn, listedIn, edgedIn, mendedIn, replacedIn}
+use Rattle.replay.specs.Later.{FromTen, from-ten-one}
 
 -- a list of at most 128 entries
 pub record Listing (file : List ℕ) (n : ℕ) (r : Seen) : Type 0 where
@@ -31,19 +28,25 @@ unfoldable pub mendsIn : List ℕ → ℕ → Seen
 mendsIn file n = cond (leb n 8192) (replacedIn file (blank 65536) (blankNumbers n)) noCall
 
 -- the call with that number, on a room of n bytes, a list of n entries or one of n numbers: check, explain, explain plainly, draw, list
--- the nodes, list the edges, explain by edition 2, explain in the air profile, repair into a room, repair and list what was replaced
-unfoldable pub Replayed : List ℕ → ℕ → ℕ → ℕ → Seen → Type 0
-Replayed file zero opt n r = r ≡ checkedIn file
-Replayed file (suc zero) opt n r = Told 1 file opt (blank n) r
-Replayed file (suc (suc zero)) opt n r = Told 1 file plainOption (blank n) r
-Replayed file (suc (suc (suc zero))) opt n r = r ≡ drawnIn file opt (blank n)
-Replayed file (suc (suc (suc (suc zero)))) opt n r = Listing file n r
-Replayed file (suc (suc (suc (suc (suc zero))))) opt n r = r ≡ edgesIn file n
-Replayed file (suc (suc (suc (suc (suc (suc zero)))))) opt n r = Told 2 file opt (blank n) r
-Replayed file (suc (suc (suc (suc (suc (suc (suc zero))))))) opt n r = Aired file opt (blank n) r
-Replayed file (suc (suc (suc (suc (suc (suc (suc (suc zero)))))))) opt n r = r ≡ mendedIn file (blank n) (blankNumbers 8192)
-Replayed file (suc (suc (suc (suc (suc (suc (suc (suc (suc zero))))))))) opt n r = r ≡ mendsIn file n
-Replayed file (suc (suc (suc (suc (suc (suc (suc (suc (suc (suc k)))))))))) opt n r = r ≡ noCall
+-- the nodes, list the edges, explain by edition 2, explain in the air profile, repair into a room, repair and list what was replaced;
+-- the calls from 10 on are told in Later
+unfoldable pub ToNine : List ℕ → ℕ → ℕ → ℕ → Seen → Type 0
+ToNine file zero opt n r = r ≡ checkedIn file
+ToNine file (suc zero) opt n r = Told 1 file opt (blank n) r
+ToNine file (suc (suc zero)) opt n r = Told 1 file plainOption (blank n) r
+ToNine file (suc (suc (suc zero))) opt n r = r ≡ drawnIn file opt (blank n)
+ToNine file (suc (suc (suc (suc zero)))) opt n r = Listing file n r
+ToNine file (suc (suc (suc (suc (suc zero))))) opt n r = r ≡ edgesIn file n
+ToNine file (suc (suc (suc (suc (suc (suc zero)))))) opt n r = Told 2 file opt (blank n) r
+ToNine file (suc (suc (suc (suc (suc (suc (suc zero))))))) opt n r = Aired file opt (blank n) r
+ToNine file (suc (suc (suc (suc (suc (suc (suc (suc zero)))))))) opt n r = r ≡ mendedIn file (blank n) (blankNumbers 8192)
+ToNine file (suc (suc (suc (suc (suc (suc (suc (suc (suc zero))))))))) opt n r = r ≡ mendsIn file n
+ToNine file (suc (suc (suc (suc (suc (suc (suc (suc (suc (suc k)))))))))) opt n r = r ≡ noCall
+
+-- any call; s and t are the two words behind the recorded answer, which some calls from 10 on take
+pub record Replayed (file : List ℕ) (call opt s t n : ℕ) (r : Seen) : Type 0 where
+  pub low : call < 10 → ToNine file call opt n r
+  pub high : 10 ≤ call → FromTen file (call - 10) opt s t n r
 
 -- a and b are one and the same, or not
 pub record Same (a b : Seen) (r : Bool) : Type 0 where
@@ -53,7 +56,7 @@ pub record Same (a b : Seen) (r : Bool) : Type 0 where
 -- the call of a head, made again, gives what the head records
 pub record Compared (file head : List ℕ) (r : Bool) : Type 0 where
   pub seen : Seen
-  pub again : Replayed file (callIn head) (optionIn head) (roomIn head) seen
+  pub again : Replayed file (callIn head) (optionIn head) (firstIn head) (secondIn head) (roomIn head) seen
   pub same : Same seen (recordedIn head) r
 
 -- r says whether it does; a room larger than the program's never agrees
@@ -70,19 +73,26 @@ listing-one file n r q R Q = go (decLe n 128)
     go (yes l) = R .short l ∙ sym (Q .short l)
     go (no l) = let k : 128 < n = omega (arith, l) in R .long k ∙ sym (Q .long k)
 
-pub replayed-one : (file : List ℕ) (call opt n : ℕ) (r q : Seen) → Replayed file call opt n r → Replayed file call opt n q → r ≡ q
-unfolding Replayed
-replayed-one file zero opt n r q R Q = R ∙ sym Q
-replayed-one file (suc zero) opt n r q R Q = told-one 1 file opt (blank n) r q R Q
-replayed-one file (suc (suc zero)) opt n r q R Q = told-one 1 file plainOption (blank n) r q R Q
-replayed-one file (suc (suc (suc zero))) opt n r q R Q = R ∙ sym Q
-replayed-one file (suc (suc (suc (suc zero)))) opt n r q R Q = listing-one file n r q R Q
-replayed-one file (suc (suc (suc (suc (suc zero))))) opt n r q R Q = R ∙ sym Q
-replayed-one file (suc (suc (suc (suc (suc (suc zero)))))) opt n r q R Q = told-one 2 file opt (blank n) r q R Q
-replayed-one file (suc (suc (suc (suc (suc (suc (suc zero))))))) opt n r q R Q = aired-one file opt (blank n) r q R Q
-replayed-one file (suc (suc (suc (suc (suc (suc (suc (suc zero)))))))) opt n r q R Q = R ∙ sym Q
-replayed-one file (suc (suc (suc (suc (suc (suc (suc (suc (suc zero))))))))) opt n r q R Q = R ∙ sym Q
-replayed-one file (suc (suc (suc (suc (suc (suc (suc (suc (suc (suc k)))))))))) opt n r q R Q = R ∙ sym Q
+pub to-nine-one : (file : List ℕ) (call opt n : ℕ) (r q : Seen) → ToNine file call opt n r → ToNine file call opt n q → r ≡ q
+unfolding ToNine
+to-nine-one file zero opt n r q R Q = R ∙ sym Q
+to-nine-one file (suc zero) opt n r q R Q = told-one 1 file opt (blank n) r q R Q
+to-nine-one file (suc (suc zero)) opt n r q R Q = told-one 1 file plainOption (blank n) r q R Q
+to-nine-one file (suc (suc (suc zero))) opt n r q R Q = R ∙ sym Q
+to-nine-one file (suc (suc (suc (suc zero)))) opt n r q R Q = listing-one file n r q R Q
+to-nine-one file (suc (suc (suc (suc (suc zero))))) opt n r q R Q = R ∙ sym Q
+to-nine-one file (suc (suc (suc (suc (suc (suc zero)))))) opt n r q R Q = told-one 2 file opt (blank n) r q R Q
+to-nine-one file (suc (suc (suc (suc (suc (suc (suc zero))))))) opt n r q R Q = aired-one file opt (blank n) r q R Q
+to-nine-one file (suc (suc (suc (suc (suc (suc (suc (suc zero)))))))) opt n r q R Q = R ∙ sym Q
+to-nine-one file (suc (suc (suc (suc (suc (suc (suc (suc (suc zero))))))))) opt n r q R Q = R ∙ sym Q
+to-nine-one file (suc (suc (suc (suc (suc (suc (suc (suc (suc (suc k)))))))))) opt n r q R Q = R ∙ sym Q
+
+pub replayed-one : (file : List ℕ) (call opt s t n : ℕ) (r q : Seen) → Replayed file call opt s t n r → Replayed file call opt s t n q → r ≡ q
+replayed-one file call opt s t n r q R Q = go (decLe 10 call)
+  where
+    go : Dec (10 ≤ call) → r ≡ q
+    go (yes l) = from-ten-one file (call - 10) opt s t n r q (R .high l) (Q .high l)
+    go (no l) = let k : call < 10 = omega (arith, l) in to-nine-one file call opt n r q (R .low k) (Q .low k)
 
 true-both : (a b : Bool) → (a ≡ true → b ≡ true) → (b ≡ true → a ≡ true) → a ≡ b
 true-both true true f g = refl
@@ -98,7 +108,7 @@ agrees-one file head r q R Q = go (decLe (roomIn head) 65536)
   where
     both : Compared file head r → Compared file head q → r ≡ q
     both C D =
-        let e : D .seen ≡ C .seen = replayed-one file (callIn head) (optionIn head) (roomIn head) (D .seen) (C .seen) (D .again) (C .again) in
+        let e : D .seen ≡ C .seen = replayed-one file (callIn head) (optionIn head) (firstIn head) (secondIn head) (roomIn head) (D .seen) (C .seen) (D .again) (C .again) in
         same-one (C .seen) (recordedIn head) r q (C .same) (rw e at (D .same))
 
     go : Dec (roomIn head ≤ 65536) → r ≡ q
@@ -130,49 +140,49 @@ unfolding mendsIn
 mends-long file n r l e = rw (lt-leb n 8192 l) e
 
 module _ (file : List ℕ) (call opt n : ℕ) (r : Seen) where
-  pub at-check : call ≡ 0 → r ≡ checkedIn file → Replayed file call opt n r
-  unfolding Replayed
+  pub at-check : call ≡ 0 → r ≡ checkedIn file → ToNine file call opt n r
+  unfolding ToNine
   at-check q e = rw q e
 
-  pub at-explain : call ≡ 1 → Told 1 file opt (blank n) r → Replayed file call opt n r
-  unfolding Replayed
+  pub at-explain : call ≡ 1 → Told 1 file opt (blank n) r → ToNine file call opt n r
+  unfolding ToNine
   at-explain q e = rw q e
 
-  pub at-plain : call ≡ 2 → Told 1 file plainOption (blank n) r → Replayed file call opt n r
-  unfolding Replayed
+  pub at-plain : call ≡ 2 → Told 1 file plainOption (blank n) r → ToNine file call opt n r
+  unfolding ToNine
   at-plain q e = rw q e
 
-  pub at-graph : call ≡ 3 → r ≡ drawnIn file opt (blank n) → Replayed file call opt n r
-  unfolding Replayed
+  pub at-graph : call ≡ 3 → r ≡ drawnIn file opt (blank n) → ToNine file call opt n r
+  unfolding ToNine
   at-graph q e = rw q e
 
-  pub at-list : call ≡ 4 → Listing file n r → Replayed file call opt n r
-  unfolding Replayed
+  pub at-list : call ≡ 4 → Listing file n r → ToNine file call opt n r
+  unfolding ToNine
   at-list q e = rw q e
 
-  pub at-edges : call ≡ 5 → r ≡ edgesIn file n → Replayed file call opt n r
-  unfolding Replayed
+  pub at-edges : call ≡ 5 → r ≡ edgesIn file n → ToNine file call opt n r
+  unfolding ToNine
   at-edges q e = rw q e
 
-  pub at-second : call ≡ 6 → Told 2 file opt (blank n) r → Replayed file call opt n r
-  unfolding Replayed
+  pub at-second : call ≡ 6 → Told 2 file opt (blank n) r → ToNine file call opt n r
+  unfolding ToNine
   at-second q e = rw q e
 
-  pub at-air : call ≡ 7 → Aired file opt (blank n) r → Replayed file call opt n r
-  unfolding Replayed
+  pub at-air : call ≡ 7 → Aired file opt (blank n) r → ToNine file call opt n r
+  unfolding ToNine
   at-air q e = rw q e
 
-  pub at-mend : call ≡ 8 → r ≡ mendedIn file (blank n) (blankNumbers 8192) → Replayed file call opt n r
-  unfolding Replayed
+  pub at-mend : call ≡ 8 → r ≡ mendedIn file (blank n) (blankNumbers 8192) → ToNine file call opt n r
+  unfolding ToNine
   at-mend q e = rw q e
 
-  pub at-replaced : call ≡ 9 → r ≡ mendsIn file n → Replayed file call opt n r
-  unfolding Replayed
+  pub at-replaced : call ≡ 9 → r ≡ mendsIn file n → ToNine file call opt n r
+  unfolding ToNine
   at-replaced q e = rw q e
 
 pub at-none : (file : List ℕ) (call opt n : ℕ) (r : Seen) → (call ≡ 0 → ⊥) → (call ≡ 1 → ⊥) → (call ≡ 2 → ⊥) → (call ≡ 3 → ⊥) → (call ≡ 4 → ⊥)
-    → (call ≡ 5 → ⊥) → (call ≡ 6 → ⊥) → (call ≡ 7 → ⊥) → (call ≡ 8 → ⊥) → (call ≡ 9 → ⊥) → r ≡ noCall → Replayed file call opt n r
-unfolding Replayed
+    → (call ≡ 5 → ⊥) → (call ≡ 6 → ⊥) → (call ≡ 7 → ⊥) → (call ≡ 8 → ⊥) → (call ≡ 9 → ⊥) → r ≡ noCall → ToNine file call opt n r
+unfolding ToNine
 at-none file zero opt n r a b c d f g h i j k e = absurd (a refl)
 at-none file (suc zero) opt n r a b c d f g h i j k e = absurd (b refl)
 at-none file (suc (suc zero)) opt n r a b c d f g h i j k e = absurd (c refl)
@@ -184,6 +194,12 @@ at-none file (suc (suc (suc (suc (suc (suc (suc zero))))))) opt n r a b c d f g 
 at-none file (suc (suc (suc (suc (suc (suc (suc (suc zero)))))))) opt n r a b c d f g h i j k e = absurd (j refl)
 at-none file (suc (suc (suc (suc (suc (suc (suc (suc (suc zero))))))))) opt n r a b c d f g h i j k e = absurd (k refl)
 at-none file (suc (suc (suc (suc (suc (suc (suc (suc (suc (suc m)))))))))) opt n r a b c d f g h i j k e = e
+
+pub at-low : (file : List ℕ) (call opt s t n : ℕ) (r : Seen) → call < 10 → ToNine file call opt n r → Replayed file call opt s t n r
+at-low file call opt s t n r l e = record { low = λ _. e; high = λ k. let f : ⊥ = omega arith in absurd f }
+
+pub at-high : (file : List ℕ) (call opt s t n : ℕ) (r : Seen) → 10 ≤ call → FromTen file (call - 10) opt s t n r → Replayed file call opt s t n r
+at-high file call opt s t n r l e = record { low = λ k. let f : ⊥ = omega arith in absurd f; high = λ _. e }
 
 fields-same : (n p y u d s n′ p′ y′ u′ d′ s′ : ℕ) → n ≡ n′ → p ≡ p′ → y ≡ y′ → u ≡ u′ → d ≡ d′ → s ≡ s′
     → _≡_ {A = Seen} (record { number = n; place = p; bytes = y; units = u; depth = d; sum = s }) (record { number = n′; place = p′; bytes = y′; units = u′; depth = d′; sum = s′ })
@@ -221,10 +237,10 @@ module _ (a b : Seen) where
 pub agrees-beyond : (file head : List ℕ) (n : ℕ) → n ≡ roomIn head → 65536 < n → Agrees file head false
 agrees-beyond file head n q l = record { within = λ k. let f : ⊥ = omega (arith, q) in absurd f; beyond = λ _. refl }
 
-pub agrees-within : (file head : List ℕ) (call opt n m : ℕ) (s t : Seen) (r : Bool) → Replayed file call opt m s → Same s t r → t ≡ recordedIn head
-    → call ≡ callIn head → opt ≡ optionIn head → m ≡ n → n ≡ roomIn head → n ≤ 65536 → Agrees file head r
-agrees-within file head call opt n m s t r R S e p q i j l =
+pub agrees-within : (file head : List ℕ) (call opt x y n m : ℕ) (s t : Seen) (r : Bool) → Replayed file call opt x y m s → Same s t r → t ≡ recordedIn head
+    → call ≡ callIn head → opt ≡ optionIn head → x ≡ firstIn head → y ≡ secondIn head → m ≡ n → n ≡ roomIn head → n ≤ 65536 → Agrees file head r
+agrees-within file head call opt x y n m s t r R S e p q u v i j l =
     record {
-      within = λ _. record { seen = s; again = rw (← p, ← q, ← j, ← i) R; same = rw (← e) S };
+      within = λ _. record { seen = s; again = rw (← p, ← q, ← u, ← v, ← j, ← i) R; same = rw (← e) S };
       beyond = λ k. let f : ⊥ = omega (arith, j) in absurd f;
     }

@@ -17,7 +17,7 @@ unfoldable pub wordAt : List ℕ → ℕ → ℕ
 unfolding quadAt
 wordAt xs at = quadAt xs at + 4294967296 * quadAt xs (at + 4)
 
--- what a call's head says: the call, its option, the room or the list's length, and the answer
+-- what a call's head says: the call, its option, the room or the list's length, the answer, and two words that some calls take
 abbrev pub callIn : List ℕ → ℕ
 callIn head = wordAt head 8
 
@@ -26,6 +26,12 @@ optionIn head = wordAt head 16
 
 abbrev pub roomIn : List ℕ → ℕ
 roomIn head = wordAt head 24
+
+abbrev pub firstIn : List ℕ → ℕ
+firstIn head = wordAt head 80
+
+abbrev pub secondIn : List ℕ → ℕ
+secondIn head = wordAt head 88
 
 unfoldable pub recordedIn : List ℕ → Seen
 recordedIn head = record { number = wordAt head 32; place = wordAt head 40; bytes = wordAt head 48; units = wordAt head 56; depth = wordAt head 64; sum = wordAt head 72 }

@@ -30,6 +30,10 @@ seenOf a s = record { number = a .number; place = a .place; bytes = a .bytes; un
 abbrev pub answerIn : Seen → Answer
 answerIn r = record { number = r .number; place = r .place; bytes = r .bytes; units = r .units; depth = r .depth }
 
+-- no call has this number, and no answer either
+abbrev pub noCall : Seen
+noCall = record { number = 13; place = 0; bytes = 0; units = 0; depth = 0; sum = 0 }
+
 -- a room before a call: 165 in every byte
 abbrev pub blank : ℕ → List ℕ
 blank n = replicate n 165
@@ -128,7 +132,7 @@ pub replaced-in : (file out l left : List ℕ) (x : Salvaged) (a : Answer) (s : 
 unfolding replacedIn
 replaced-in file out l left x a s r e k w p q = q ∙ ap₂ seenOf (w ∙ ap mendedAs e) (p ∙ ap sumOf k)
 
-take-blank : {A : Type 0} (x : A) (n m : ℕ) → n ≤ m → take n (replicate m x) ≡ replicate n x
+pub take-blank : {A : Type 0} (x : A) (n m : ℕ) → n ≤ m → take n (replicate m x) ≡ replicate n x
 take-blank x zero m l = refl
 take-blank x (suc n) zero l = let f : ⊥ = omega arith in absurd f
 take-blank {A} x (suc n) (suc m) l = ap (λ (t : List A). x ∷ t) (take-blank x n m (omega arith))

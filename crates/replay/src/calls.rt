@@ -1,8 +1,8 @@
-// A recorded call, made again: the answer, and the checksum of the whole room or list that it was lent.
+// A recorded call, 0 to 9, made again: the answer, and the checksum of the whole room or list that it was lent.
 ghost use mathlib.Core.Path.{_≡_};
 ghost use Prim.Native.Nat.{_≤_};
-ghost use Rattle.replay.specs.Seen.{seenOf, Told, Aired, blank, blankNumbers, checkedIn, drawnIn, listedIn, edgedIn, mendedAs, mendedIn, replacedIn};
-ghost use Rattle.replay.specs.Again.{Listing, Replayed, noCall, edgesIn, mendsIn};
+ghost use Rattle.replay.specs.Seen.{seenOf, Told, Aired, noCall, blank, blankNumbers, checkedIn, drawnIn, listedIn, edgedIn, mendedAs, mendedIn, replacedIn};
+ghost use Rattle.replay.specs.Again.{Listing, ToNine, edgesIn, mendsIn};
 ghost use Rattle.urzulempa.specs.Nodes.{answerOf};
 ghost use Rattle.urzulempa.specs.Plain.{plainOption};
 use crate::sums::sum;
@@ -30,7 +30,7 @@ pub struct Seen {
     pub sum: u64,
 }
 
-fn joined(a: Answer, sum: u64) -> Seen
+pub fn joined(a: Answer, sum: u64) -> Seen
     ensures { λ r. ⌜ r ≡ seenOf a sum ⌝ }
 {
     Seen {
@@ -117,7 +117,7 @@ fn list(file: &[u8], n: usize) -> Seen
     joined(counted(c), s)
 }
 
-fn no_call() -> Seen
+pub fn no_call() -> Seen
     ensures { λ r. ⌜ r ≡ noCall ⌝ }
 {
     Seen {
@@ -246,10 +246,10 @@ fn replaced_in(file: &[u8], n: usize) -> Seen
     replaced(file, n)
 }
 
-// The call with that number (host/oracle/src/record.rs), on a room of n bytes, a list of n entries or one of n numbers.
-pub fn replayed(file: &[u8], call: u64, option: u64, n: usize) -> Seen
+// The call with that number, 0 to 9 (host/oracle/src/record.rs), on a room of n bytes, a list of n entries or one of n numbers.
+pub fn to_nine(file: &[u8], call: u64, option: u64, n: usize) -> Seen
     requires { ⌜ n ≤ 65536 ⌝ }
-    ensures { λ r. ⌜ Replayed (now (file .entry)) call option n r ⌝ }
+    ensures { λ r. ⌜ ToNine (now (file .entry)) call option n r ⌝ }
 {
     if call == 0 {
         return check(file);

@@ -1,9 +1,22 @@
 // What a call shows now, against what is recorded of it.
-ghost use Rattle.replay.specs.Again.{Same, Agrees};
+ghost use Prim.Native.Nat.{_≤_};
+ghost use Rattle.replay.specs.Again.{Replayed, Same, Agrees};
 use crate::calls::Seen;
-use crate::calls::replayed;
+use crate::calls::to_nine;
 use crate::heads::recorded;
 use crate::heads::word;
+use crate::later::from_ten;
+
+// The call with that number (host/oracle/src/record.rs), with what else it takes.
+pub fn replayed(file: &[u8], call: u64, option: u64, first: u64, second: u64, n: usize) -> Seen
+    requires { ⌜ n ≤ 65536 ⌝ }
+    ensures { λ r. ⌜ Replayed (now (file .entry)) call option first second n r ⌝ }
+{
+    if call < 10 {
+        return to_nine(file, call, option, n);
+    }
+    from_ten(file, call - 10, option, first, second, n)
+}
 
 fn same(a: Seen, b: Seen) -> bool
     ensures { λ r. ⌜ Same a b r ⌝ }
@@ -39,6 +52,8 @@ pub fn agrees(file: &[u8], head: &[u8]) -> bool
     }
     let call = word(head, 8);
     let option = word(head, 16);
-    let now = replayed(file, call, option, n as usize);
+    let first = word(head, 80);
+    let second = word(head, 88);
+    let now = replayed(file, call, option, first, second, n as usize);
     same(now, recorded(head))
 }

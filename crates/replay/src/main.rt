@@ -4,14 +4,15 @@
 mod calls;
 mod compares;
 mod heads;
+mod later;
 mod sums;
 
 ghost use mathlib.Core.Path.{_≡_};
 ghost use Prim.Native.Nat.{_+_, _%_, _^_};
 ghost use Rattle.replay.specs.Tally.{stoppedAt, oneMore, endedBy};
 use calls::Seen;
-use calls::replayed;
 use compares::agrees;
+use compares::replayed;
 use heads::recorded;
 use heads::word;
 
@@ -53,6 +54,9 @@ fn say_call(head: &[u8]) {
     say_next(word(head, 8));
     say(b", option");
     say_next(word(head, 16));
+    say(b", words");
+    say_next(word(head, 80));
+    say_next(word(head, 88));
     say(b", room");
     say_next(word(head, 24));
     say(b"\n    recorded:");
@@ -65,7 +69,16 @@ fn say_now(file: &[u8], head: &[u8]) {
         return;
     }
     say(b"\n    now:     ");
-    say_seen(replayed(file, word(head, 8), word(head, 16), n as usize));
+    let first = word(head, 80);
+    let second = word(head, 88);
+    say_seen(replayed(
+        file,
+        word(head, 8),
+        word(head, 16),
+        first,
+        second,
+        n as usize,
+    ));
 }
 
 // The first n bytes of buf from the list; false where it ends before, or buf does.

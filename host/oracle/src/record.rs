@@ -11,14 +11,20 @@
 //!   by edition 2, and 7 the explanation in the air profile. 8 and 9 are the repair of a damaged file, which conflict.rs does
 //!   not have and [`salvage`] gives, with the count of replaced records as units and the bytes dropped as depth: 8 with the
 //!   checksum of the room, beside a list of [`NUMBERS`], 9 with that of the list, whose room is counted in numbers, beside a
-//!   room of [`MOST`]. A room holds [`FILL`] in every byte before the call.
+//!   room of [`MOST`]. 10 and 11 read and change a settings file, which is the file before them and which [`settings`] takes;
+//!   the option is the version of the reader or writer. 10 has indent as bytes, simplify as units and the edition as depth,
+//!   and no room. The room of 11 begins with the file, all of which is used. 12 writes the file that rows make, which are the
+//!   file before it, by [`write`]. A room holds [`FILL`] in every other byte before the call. The two words behind the checksum
+//!   are the setting and the content that 11 asks for, and 0 for the other calls.
 //! - the end: 3, how many files, how many answers.
 
 use std::collections::BTreeSet;
 
+use crate::rng::Rng;
+use crate::settings::{self, LARGEST_SETTINGS, RECORD};
 use crate::{
     check, edges, explain, explain_air, explain_edition, explain_plain, generate, graphviz, nodes,
-    salvage, Answer, Node, Problem,
+    salvage, write, Answer, Node, Problem,
 };
 
 /// What stands in every byte that is lent.
@@ -50,15 +56,19 @@ enum Call {
     Air(u64),
     Mend,
     Replaced,
+    Held(u64),
+    Change(u64, u64, u64),
+    Write,
 }
 
-/// How much is lent: a size, or one that follows from what a call needs.
+/// How much is lent: a size, one that follows from what a call needs, or that of the file and some bytes behind it.
 #[derive(Clone, Copy)]
 enum Room {
     Of(usize),
     Exact,
     OneShort,
     Half,
+    Behind(usize),
 }
 
 /// Each file gets the first and some of the others in turn.
@@ -104,29 +114,92 @@ const EXPLAINED: [(u64, Room); 7] = [
     (2, Room::Of(60)),
 ];
 
+/// Versions, settings and contents of a change, and rooms of it: each settings file gets three of these in turn.
+const CHANGES: [(u64, u64, u64, Room); 14] = [
+    (2, 3, 2, Room::Behind(RECORD)),
+    (1, 1, 0, Room::Behind(40)),
+    (2, 2, 1, Room::Behind(RECORD - 1)),
+    (1, 3, 1, Room::Behind(RECORD)),
+    (2, 1, 1, Room::Behind(RECORD)),
+    (2, 3, 3, Room::Behind(RECORD)),
+    (0, 1, 0, Room::Behind(RECORD)),
+    (2, 3, 1, Room::Behind(64)),
+    (1, 2, 0, Room::Behind(RECORD)),
+    (2, 0, 1, Room::Behind(RECORD)),
+    (2, 1, 256, Room::Behind(RECORD)),
+    (3, 3, 2, Room::Behind(RECORD)),
+    (2, 2, 0, Room::Behind(0)),
+    (2, 257, 1, Room::Behind(RECORD)),
+];
+
+/// Rooms of rows: every third file, taken as rows, gets one of these in turn, and rows in another order get two.
+const ROW_ROOMS: [Room; 3] = [Room::Exact, Room::OneShort, Room::Of(MOST)];
+/// Rows in another order are those of the first files of about this many shapes, where they are small.
+const MIXED: usize = 20;
+
+/// A file with the heads of its calls.
+struct Recorded {
+    shape: &'static str,
+    seed: u64,
+    file: Vec<u8>,
+    calls: Vec<[u64; 12]>,
+}
+
 /// The list, or why it would not do.
 pub fn list() -> Result<Vec<u8>, String> {
-    let mut out = Vec::new();
-    let (mut files, mut answers) = (0, 0);
-    let mut numbers = BTreeSet::new();
+    let mut all = Vec::new();
     for shape in generate::recorded() {
         for (seed, file) in chosen(shape) {
-            let heads = calls(&file, files);
-            put(&mut out, &file_head(shape, seed, &file, heads.len()));
-            out.extend_from_slice(&file);
-            for head in heads {
-                numbers.insert(head[4]);
-                put(&mut out, &head);
-                answers += 1;
-            }
-            files += 1;
+            let calls = calls(&file, all.len());
+            all.push(Recorded {
+                shape,
+                seed,
+                file,
+                calls,
+            });
         }
     }
+    all.extend(
+        settings_files()
+            .into_iter()
+            .enumerate()
+            .map(|(index, file)| Recorded {
+                shape: "settings",
+                seed: index as u64,
+                calls: settings_calls(&file, index),
+                file,
+            }),
+    );
+    all.extend(rows());
+    let mut out = Vec::new();
+    let mut numbers = BTreeSet::new();
+    for one in &all {
+        put(&mut out, &file_head(one));
+        out.extend_from_slice(&one.file);
+        for head in &one.calls {
+            numbers.insert(head[4]);
+            put(&mut out, head);
+        }
+    }
+    let answers: usize = all.iter().map(|one| one.calls.len()).sum();
     put(
         &mut out,
-        &[END, files as u64, answers, 0, 0, 0, 0, 0, 0, 0, 0, 0],
+        &[
+            END,
+            all.len() as u64,
+            answers as u64,
+            0,
+            0,
+            0,
+            0,
+            0,
+            0,
+            0,
+            0,
+            0,
+        ],
     );
-    let mut given = (0..=12).chain(15..=17);
+    let mut given = (0..=12).chain(15..=18);
     match given.find(|number| !numbers.contains(number)) {
         Some(number) => Err(format!("no call is answered with {number}")),
         None => Ok(out),
@@ -169,7 +242,92 @@ fn calls(file: &[u8], index: usize) -> Vec<[u64; 12]> {
     };
     let all = picked.chain([edges]).chain(explained);
     let all = all.chain(mends.iter().copied());
+    let written = (index % 3 == 0).then(|| (Call::Write, ROW_ROOMS[index / 3 % ROW_ROOMS.len()]));
+    let all = all.chain(written);
     all.map(|trial| answered(file, trial)).collect()
+}
+
+/// The rows of small files in any order.
+fn rows() -> Vec<Recorded> {
+    let mut all = Vec::new();
+    let shapes: Vec<&str> = generate::recorded().collect();
+    let step = shapes.len() / MIXED;
+    for (index, shape) in shapes.into_iter().step_by(step).enumerate() {
+        let (seed, file) = chosen(shape).swap_remove(0);
+        if file.len() > 1_500 {
+            continue;
+        }
+        let mut rows: Vec<&[u8]> = file.chunks(crate::reader::RECORD).collect();
+        Rng::named("rows", seed).shuffle(&mut rows);
+        let file = rows.concat();
+        let rooms = [ROW_ROOMS[index % 2], ROW_ROOMS[2]];
+        let calls = rooms.map(|room| answered(&file, (Call::Write, room)));
+        all.push(Recorded {
+            shape: "rows",
+            seed,
+            calls: calls.to_vec(),
+            file,
+        });
+    }
+    all
+}
+
+/// Settings files: none set, one set, each refusal, several, the last of a setting twice, and the sizes around the largest.
+fn settings_files() -> Vec<Vec<u8>> {
+    let record = |&[version, setting, low, high, last]: &[u8; 5]| {
+        let mut record = [0; RECORD];
+        record[..4].copy_from_slice(&[version, setting, low, high]);
+        record[RECORD - 1] = last;
+        record
+    };
+    let of = |records: &[[u8; 5]]| records.iter().flat_map(record).collect::<Vec<u8>>();
+    let mut files = vec![
+        of(&[]),
+        of(&[[1, 1, 0, 0, 0]]),
+        of(&[[1, 2, 0, 0, 0]]),
+        of(&[[2, 3, 2, 0, 0]]),
+        of(&[[2, 1, 0, 0, 0]]),
+        of(&[[1, 3, 1, 0, 0]]),
+        of(&[[2, 3, 0, 0, 0]]),
+        of(&[[0, 1, 0, 0, 0]]),
+        of(&[[3, 9, 9, 9, 9]]),
+        of(&[[1, 0, 0, 0, 0]]),
+        of(&[[1, 1, 2, 0, 0]]),
+        of(&[[1, 1, 0, 1, 0]]),
+        of(&[[1, 2, 1, 0, 1]]),
+        of(&[[1, 1, 0, 0, 0], [1, 1, 1, 0, 0]]),
+        of(&[[1, 1, 0, 0, 0], [255, 4, 0, 0, 0]]),
+        of(&[
+            [1, 1, 0, 0, 0],
+            [2, 3, 2, 0, 0],
+            [1, 2, 0, 0, 0],
+            [2, 3, 1, 0, 0],
+        ]),
+        of(&[[1, 2, 0, 0, 0], [1, 2, 1, 0, 0], [1, 4, 0, 0, 0]]),
+        vec![1; RECORD - 1],
+        vec![1; RECORD + 1],
+    ];
+    for more in [0, 1, 2] {
+        let records = LARGEST_SETTINGS / RECORD - 1 + more;
+        files.push(of(&vec![[1, 2, 0, 0, 0]; records]));
+    }
+    files
+}
+
+/// Every settings file is read by both versions, some by one that does not exist, and changed three times.
+fn settings_calls(file: &[u8], index: usize) -> Vec<[u64; 12]> {
+    let other = [0, 3, u64::MAX][index % 3];
+    let readers = [1, 2, other];
+    let reads = readers[..2 + usize::from(index % 2 == 0)].iter();
+    let reads = reads.map(|&version| (Call::Held(version), Room::Of(0)));
+    let changes = (0..3).map(|i| {
+        let (version, setting, content, room) = CHANGES[(3 * index + i) % CHANGES.len()];
+        (Call::Change(version, setting, content), room)
+    });
+    reads
+        .chain(changes)
+        .map(|trial| answered(file, trial))
+        .collect()
 }
 
 fn answered(file: &[u8], (call, room): (Call, Room)) -> [u64; 12] {
@@ -178,6 +336,7 @@ fn answered(file: &[u8], (call, room): (Call, Room)) -> [u64; 12] {
         Room::Exact => needed(file, call),
         Room::OneShort => needed(file, call).saturating_sub(1),
         Room::Half => needed(file, call) / 2,
+        Room::Behind(more) => file.len() + more,
     };
     let (number, option, answer, sum) = match call {
         Call::Check => (0, 0, check(file), sum(&[])),
@@ -206,6 +365,16 @@ fn answered(file: &[u8], (call, room): (Call, Room)) -> [u64; 12] {
             let numbers: Vec<u64> = list.into_iter().map(u64::from).collect();
             (9, 0, answer, sum(&numbers))
         }
+        Call::Write => in_room(12, 0, size, |room| write(file, room)),
+        Call::Held(version) => (10, version, held(file, version), sum(&[])),
+        Call::Change(version, setting, content) => in_room(11, version, size, |room| {
+            room[..file.len()].copy_from_slice(file);
+            settings::settings_set(room, file.len() as u64, version, setting, content)
+        }),
+    };
+    let [first, second] = match call {
+        Call::Change(_, setting, content) => [setting, content],
+        _ => [0, 0],
     };
     let Answer {
         number: refusal,
@@ -225,8 +394,8 @@ fn answered(file: &[u8], (call, room): (Call, Room)) -> [u64; 12] {
         units,
         depth,
         sum,
-        0,
-        0,
+        first,
+        second,
     ]
 }
 
@@ -253,11 +422,24 @@ fn mended(file: &[u8], room: &mut [u8], list: &mut [u16]) -> Answer {
     }
 }
 
+fn held(file: &[u8], version: u64) -> Answer {
+    let found = settings::settings_read(file, version);
+    Answer {
+        number: found.number,
+        place: found.place,
+        bytes: found.indent,
+        units: found.simplify,
+        depth: found.edition,
+    }
+}
+
 /// The bytes that a call writes into the largest room, the entries of the node list, or the numbers of another list.
 fn needed(file: &[u8], call: Call) -> usize {
     let mut room = vec![0; MOST];
     let answer = match call {
-        Call::Check => return 0,
+        Call::Check | Call::Held(_) => return 0,
+        Call::Change(..) => return file.len() + RECORD,
+        Call::Write => write(file, &mut room),
         Call::Explain(option) => explain(file, option, &mut room),
         Call::Plain => explain_plain(file, &mut room),
         Call::Graph(option) => graphviz(file, option, &mut room),
@@ -310,13 +492,13 @@ fn sum(digits: &[u64]) -> u64 {
     digits.iter().fold(0, next)
 }
 
-fn file_head(shape: &str, seed: u64, file: &[u8], calls: usize) -> [u64; 12] {
+fn file_head(one: &Recorded) -> [u64; 12] {
     let mut head = [
         FILE,
-        file.len() as u64,
-        seed,
-        calls as u64,
-        shape.len() as u64,
+        one.file.len() as u64,
+        one.seed,
+        one.calls.len() as u64,
+        one.shape.len() as u64,
         0,
         0,
         0,
@@ -325,7 +507,7 @@ fn file_head(shape: &str, seed: u64, file: &[u8], calls: usize) -> [u64; 12] {
         0,
         0,
     ];
-    for (i, byte) in shape.bytes().enumerate() {
+    for (i, byte) in one.shape.bytes().enumerate() {
         head[5 + i / 8] |= u64::from(byte) << (8 * (i % 8));
     }
     head

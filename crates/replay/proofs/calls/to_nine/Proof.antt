@@ -1,10 +1,10 @@
 use borrow.Author.Needs.{needs}
 use Rattle.replay.specs.Again.{at-check, at-explain, at-plain, at-graph, at-list, at-edges, at-second, at-air, at-mend, at-replaced, at-none}
-use Rattle.replay.proofs.calls.replayed.Statement.{statement}
-use Rattle.replay.proofs.calls.replayed.Tie as tie
+use Rattle.replay.proofs.calls.to_nine.Statement.{statement}
+use Rattle.replay.proofs.calls.to_nine.Tie as tie
 
-pub replayed-spec : {M : Type 1} → statement M
-replayed-spec =
+pub to-nine-spec : {M : Type 1} → statement M
+to-nine-spec =
     tie.close
     (tie.spec
     (λ c κs. search needs)

@@ -1,0 +1,13 @@
+use borrow.Author.Needs.{needs}
+use Rattle.replay.specs.Again.{at-low, at-high}
+use Rattle.replay.proofs.compares.replayed.Statement.{statement}
+use Rattle.replay.proofs.compares.replayed.Tie as tie
+
+pub replayed-spec : {M : Type 1} → statement M
+replayed-spec =
+    tie.close
+    (tie.spec
+    (λ c κs. search needs)
+    (λ c. search at-low)
+    (λ c. search needs)
+    (λ c. search at-high))
