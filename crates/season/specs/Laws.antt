@@ -1,0 +1,6 @@
+pub mod Sums
+pub mod Reports
+pub mod Words
+pub mod Joins
+pub mod Share
+pub mod Promises

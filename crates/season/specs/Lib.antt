@@ -1,0 +1,5 @@
+pub mod Report
+pub mod Season
+pub mod Words
+pub mod Steps
+pub mod Laws
