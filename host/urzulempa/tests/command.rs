@@ -1,30 +1,16 @@
 //! The command as a person runs it: what the README shows.
 
+mod common;
+
+use common::{run, said};
 use std::ffi::OsStr;
 use std::fs;
 use std::io::Write;
 use std::os::unix::ffi::OsStrExt;
 use std::os::unix::fs::{symlink, PermissionsExt};
 use std::path::{Path, PathBuf};
-use std::process::{Command, Output, Stdio};
+use std::process::{Command, Stdio};
 use urzulempa::{explain, explain_plain, nodes, repaired, Node, MOST_NODES};
-
-fn run(words: &[&str], file: &[u8]) -> Output {
-    let mut child = Command::new(env!("CARGO_BIN_EXE_urzulempa"))
-        .args(words)
-        .stdin(Stdio::piped())
-        .stdout(Stdio::piped())
-        .stderr(Stdio::piped())
-        .spawn()
-        .expect("the command starts");
-    // A command that wants no file does not read it.
-    let _ = child.stdin.take().expect("a pipe").write_all(file);
-    child.wait_with_output().expect("the command ends")
-}
-
-fn said(bytes: &[u8]) -> String {
-    String::from_utf8_lossy(bytes).into_owned()
-}
 
 const REPLAY: &[u8] = include_bytes!("../../../samples/replay.rec");
 const RACK: &[u8] = include_bytes!("../../../samples/rack.rec");

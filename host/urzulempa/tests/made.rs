@@ -1,32 +1,16 @@
 //! `dump` and `make` as a person runs them, and the call `write` on a small stack.
 
+mod common;
+
+use common::{run, said};
 use std::fs;
-use std::io::Write;
 use std::os::unix::fs::symlink;
 use std::path::{Path, PathBuf};
-use std::process::{Command, Output, Stdio};
 use std::thread::Builder;
 use urzulempa::{write, MOST_BYTES};
 
 const REPLAY: &[u8] = include_bytes!("../../../samples/replay.rec");
 const LIST: &str = include_str!("../../../samples/replay.list");
-
-fn run(words: &[&str], input: &[u8]) -> Output {
-    let mut child = Command::new(env!("CARGO_BIN_EXE_urzulempa"))
-        .args(words)
-        .stdin(Stdio::piped())
-        .stdout(Stdio::piped())
-        .stderr(Stdio::piped())
-        .spawn()
-        .expect("the command starts");
-    // A command that wants no file does not read it.
-    let _ = child.stdin.take().expect("a pipe").write_all(input);
-    child.wait_with_output().expect("the command ends")
-}
-
-fn said(bytes: &[u8]) -> String {
-    String::from_utf8_lossy(bytes).into_owned()
-}
 
 /// A folder of this test's own.
 fn folder(name: &str) -> PathBuf {

@@ -1,26 +1,10 @@
 //! `export` and `import` as a person runs them, and the calls behind them on a small stack.
 
-use std::io::Write;
-use std::process::{Command, Output, Stdio};
+mod common;
+
+use common::{run, said};
 use std::thread::Builder;
 use urzulempa::{grown, tgf, tgf_read, wall, MOST_EDGES, MOST_NODES};
-
-fn run(words: &[&str], file: &[u8]) -> Output {
-    let mut child = Command::new(env!("CARGO_BIN_EXE_urzulempa"))
-        .args(words)
-        .stdin(Stdio::piped())
-        .stdout(Stdio::piped())
-        .stderr(Stdio::piped())
-        .spawn()
-        .expect("the command starts");
-    // A command that wants no file does not read it.
-    let _ = child.stdin.take().expect("a pipe").write_all(file);
-    child.wait_with_output().expect("the command ends")
-}
-
-fn said(bytes: &[u8]) -> String {
-    String::from_utf8_lossy(bytes).into_owned()
-}
 
 const REPLAY: &[u8] = include_bytes!("../../../samples/replay.rec");
 const RACK: &[u8] = include_bytes!("../../../samples/rack.rec");

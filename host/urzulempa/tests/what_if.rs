@@ -1,27 +1,14 @@
 //! `what-if` as a person runs it, and its calls on a small stack.
 
-use std::io::Write;
-use std::process::{Command, Output, Stdio};
+mod common;
+
+use common::{run, said};
 use std::thread::Builder;
 use urzulempa::{check, grown, nodes, what_changes, what_if, what_if_explain, Label, Node, Refusal, MOST_NODES};
-
-fn run(words: &[&str], file: &[u8]) -> Output {
-    let mut child = Command::new(env!("CARGO_BIN_EXE_urzulempa"))
-        .args(words)
-        .stdin(Stdio::piped())
-        .stdout(Stdio::piped())
-        .stderr(Stdio::piped())
-        .spawn()
-        .expect("the command starts");
-    // A command that wants no file does not read it.
-    let _ = child.stdin.take().expect("a pipe").write_all(file);
-    child.wait_with_output().expect("the command ends")
-}
 
 /// Status, standard output and standard error of a question.
 fn asked(file: &[u8], words: &[&str]) -> (i32, String, String) {
     let out = run(&[&["what-if", "-"], words].concat(), file);
-    let said = |bytes: &[u8]| String::from_utf8_lossy(bytes).into_owned();
     (out.status.code().expect("a status"), said(&out.stdout), said(&out.stderr))
 }
 
