@@ -1,4 +1,4 @@
--- What the recorded calls from number 10 on show when they are made again.
+-- What the recorded calls 10 to 12 show when they are made again.
 use mathlib.Core.Path.{_≡_, refl, sym, ap, ap₂, _∙_}
 use mathlib.Core.Bool.{cond}
 use mathlib.Core.List.{List, []}

@@ -1,6 +1,9 @@
 pub mod Again
+pub mod Asked
 pub mod Head
 pub mod Later
+pub mod Latest
 pub mod Seen
 pub mod Sum
 pub mod Tally
+pub mod Walls

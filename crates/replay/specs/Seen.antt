@@ -9,9 +9,9 @@ use lib.Seq.{take-append-add}
 use Rattle.texts.specs.Wrote.{over}
 use Rattle.salvage.specs.declared.Salvaged.{Salvaged}
 use Rattle.salvage.specs.Lent.{salvageAnswer, salvageRoom, salvageList}
-use Rattle.entries.specs.Entry.{entryOf, wordOf, Narrows, entries-back, fillTo}
+use Rattle.entries.specs.Entry.{entryOf, wordOf, Narrows, entries-back}
 use Rattle.entries.specs.declared.NodeEntry.{NodeEntry}
-use Rattle.nodelist.specs.Nodes.{nodesOf, listedBy}
+use Rattle.nodelist.specs.Nodes.{Nodes, nodesOf, listedBy}
 use Rattle.nodelist.specs.declared.Counted.{Counted}
 use Rattle.nodelist.specs.Listed.{Listed, wordsOver, as-many, in-room}
 use Rattle.urzulempa.specs.declared.Answer.{Answer}
@@ -19,7 +19,7 @@ use Rattle.urzulempa.specs.Answers.{checkOf}
 use Rattle.urzulempa.specs.Says.{Says, says-one}
 use Rattle.urzulempa.specs.Air.{SaysAir, says-air-one}
 use Rattle.urzulempa.specs.Draws.{resultAnswer, drawFile}
-use Rattle.urzulempa.specs.Nodes.{nodesAnswer, nodesLeft, noWords, answerOf, exported}
+use Rattle.urzulempa.specs.Nodes.{nodesBy, nodesAnswer, listOver, nodesLeft, answerOf, answer-counted}
 use Rattle.urzulempa.specs.Edges.{edgesAnswer, edgesLeft}
 use Rattle.replay.specs.declared.calls.Seen.{Seen}
 use Rattle.replay.specs.Sum.{sumFrom, sumOf, sumEntries, entriesAt}
@@ -89,7 +89,7 @@ unfoldable pub checkedIn : List ℕ → Seen
 checkedIn file = seenOf (checkOf file) (sumOf [])
 
 -- two results that they allow are equal
-both-one : (r q : Seen) (left right : List ℕ) → r .sum ≡ sumOf left → q .sum ≡ sumOf right → (answerIn r ≡ answerIn q) × (left ≡ right) → r ≡ q
+pub both-one : (r q : Seen) (left right : List ℕ) → r .sum ≡ sumOf left → q .sum ≡ sumOf right → (answerIn r ≡ answerIn q) × (left ≡ right) → r ≡ q
 both-one r q left right s t e =
     let h : r .sum ≡ q .sum = s ∙ ap sumOf (e .1) ∙ sym t in
     ap (λ (a : Answer). seenOf a (r .sum)) (e .0) ∙ ap (seenOf (answerIn q)) h
@@ -205,12 +205,12 @@ over-blank es ws n e h k l =
     ∙ ap₂ (λ (x y : List NodeEntry). x ++ y) (entries-back es h) (map-blank (n - length es) blankWord)
     ∙ ap (λ (y : List NodeEntry). es ++ y) (sym (drop-blank blankEntry (length es) n))
 
-module _ (file : List ℕ) (n : ℕ) (c : Counted) (ws : List ℕ) (L : Listed (nodesOf file) n blankWords c ws) where
+module _ (X : Nodes) (n : ℕ) (c : Counted) (ws : List ℕ) (L : Listed X n blankWords c ws) where
   abbrev es : List NodeEntry
-  es = listedBy (nodesOf file) n
+  es = listedBy X n
 
   many : length es ≡ c .count
-  many = as-many (nodesOf file) n blankWords c ws L
+  many = as-many X n blankWords c ws L
 
   pub words-length : length ws ≡ 128
   words-length =
@@ -218,22 +218,21 @@ module _ (file : List ℕ) (n : ℕ) (c : Counted) (ws : List ℕ) (L : Listed (
       (let k : length es ≤ 128 = rw many (L .few) in omega (arith, length-replicate {A = ℕ} 128 blankWord))
 
   -- what the words show is the list that the call leaves
-  words-left : n ≤ 128 → entriesAt ws n ≡ nodesLeft file (blankList n)
-  unfolding entriesAt nodesLeft
+  words-left : n ≤ 128 → entriesAt ws n ≡ listOver (listedBy X (length (blankList n))) (blankList n)
+  unfolding entriesAt
   words-left l =
-      over-blank es ws n (L .written) (L .narrow) (rw many (in-room (nodesOf file) n blankWords c ws L)) l
-      ∙ ap (λ (k : ℕ). listedBy (nodesOf file) k ++ drop (length (listedBy (nodesOf file) k)) (blankList n)) (sym (length-replicate n blankEntry))
+      over-blank es ws n (L .written) (L .narrow) (rw many (in-room X n blankWords c ws L)) l
+      ∙ ap (λ (k : ℕ). listOver (listedBy X k) (blankList n)) (sym (length-replicate n blankEntry))
 
-  answered : answerOf c ≡ nodesAnswer file n
-  answered =
-      let ws′ : List ℕ = wordsOver es noWords in
-      let L′ : Listed (nodesOf file) (length (blankList n)) noWords c ws′ =
-      rw (length-replicate n blankEntry) (record { counted = L .counted; written = refl; few = L .few; narrow = L .narrow }) in
-      exported file (blankList n) c ws′ (fillTo ws′ (c .count) (blankList n)) L′ refl .0 ∙ ap (nodesAnswer file) (length-replicate n blankEntry)
+  -- so a list of nodes shows its answer and what it leaves
+  pub shown-in : (a : Answer) (s : ℕ) (r : Seen) → s ≡ sumEntries (entriesAt ws n) → n ≤ 128 → a ≡ answerOf c → r ≡ seenOf a s
+      → r ≡ seenOf (nodesBy X n) (sumEntries (listOver (listedBy X (length (blankList n))) (blankList n)))
+  shown-in a s r e l p q = q ∙ ap₂ seenOf (p ∙ ap answerOf (L .counted) ∙ answer-counted X n) (e ∙ ap sumEntries (words-left l))
 
-  pub listed-in : (a : Answer) (s : ℕ) (r : Seen) → s ≡ sumEntries (entriesAt ws n) → n ≤ 128 → a ≡ answerOf c → r ≡ seenOf a s → r ≡ listedIn file n
-  unfolding listedIn
-  listed-in a s r e l p q = q ∙ ap₂ seenOf (p ∙ answered) (e ∙ ap sumEntries (words-left l))
+pub listed-in : (file : List ℕ) (n : ℕ) (c : Counted) (ws : List ℕ) → Listed (nodesOf file) n blankWords c ws → (a : Answer) (s : ℕ) (r : Seen)
+    → s ≡ sumEntries (entriesAt ws n) → n ≤ 128 → a ≡ answerOf c → r ≡ seenOf a s → r ≡ listedIn file n
+unfolding listedIn nodesAnswer nodesLeft
+listed-in file n c ws L a s r e l p q = shown-in (nodesOf file) n c ws L a s r e l p q
 
 pub checked-in : (file : List ℕ) (a : Answer) (r : Seen) → a ≡ checkOf file → r ≡ seenOf a 0 → r ≡ checkedIn file
 unfolding checkedIn sumFrom

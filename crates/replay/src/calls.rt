@@ -94,7 +94,7 @@ fn draw(file: &[u8], option: u64, n: usize) -> Seen
     drawn(file, option, &mut room[..n])
 }
 
-fn counted(c: Counted) -> Answer
+pub fn counted(c: Counted) -> Answer
     ensures { λ r. ⌜ r ≡ answerOf c ⌝ }
 {
     Answer {

@@ -1,4 +1,4 @@
-// A recorded call from 10 on, made again, as those below 10 are.
+// A recorded call from 10 to 12, made again, as those below 10 are.
 ghost use mathlib.Core.Path.{_≡_};
 ghost use Prim.Native.Nat.{_≤_};
 ghost use lib.ListN.{length};

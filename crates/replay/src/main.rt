@@ -1,11 +1,14 @@
 // Replays a list of recorded answers of conflict.rs: each call is made again, on a room that holds 165 in every byte, and its answer
 // and the checksum of the whole room are compared with what is recorded (host/oracle/src/record.rs makes the list and tells its form).
 // One line for each file: the shape, the seed and the recorded numbers; below it what differs.
+mod asked;
 mod calls;
 mod compares;
 mod heads;
 mod later;
+mod latest;
 mod sums;
+mod walls;
 
 ghost use mathlib.Core.Path.{_≡_};
 ghost use Prim.Native.Nat.{_+_, _%_, _^_};

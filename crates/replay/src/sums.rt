@@ -8,7 +8,7 @@ use entries::entry_at;
 
 // One digit more.
 fn mixed(h: u64, x: u64) -> u64
-    requires { ⌜ (h < 18014398509481951) × (x < 65536) ⌝ }
+    requires { ⌜ (h < 18014398509481951) × (x < 4294967296) ⌝ }
     ensures { λ r. ⌜ (r ≡ mix h x) × (r < 18014398509481951) ⌝ }
 {
     (1021 * h + x + 1) % 18014398509481951
@@ -47,6 +47,25 @@ pub fn sum_numbers(list: &[u16]) -> u64
     let mut i: usize = 0;
     while i < list.len() {
         h = mixed(h, wide_number(list[i]));
+        i = i + 1;
+    }
+    h
+}
+
+fn wide_word(x: u32) -> u64
+    ensures { λ r. ⌜ (r ≡ x) × (r < 4294967296) ⌝ }
+{
+    x as u64
+}
+
+// The checksum of a list of numbers of 32 bits.
+pub fn sum_wide(list: &[u32]) -> u64
+    ensures { λ r. ⌜ r ≡ sumOf (now (list .entry)) ⌝ }
+{
+    let mut h: u64 = 0;
+    let mut i: usize = 0;
+    while i < list.len() {
+        h = mixed(h, wide_word(list[i]));
         i = i + 1;
     }
     h

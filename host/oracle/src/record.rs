@@ -14,27 +14,40 @@
 //!   room of [`MOST`]. 10 and 11 read and change a settings file, which is the file before them and which [`settings`] takes;
 //!   the option is the version of the reader or writer. 10 has indent as bytes, simplify as units and the edition as depth,
 //!   and no room. The room of 11 begins with the file, all of which is used. 12 writes the file that rows make, which are the
-//!   file before it, by [`write`]. A room holds [`FILL`] in every other byte before the call. The two words behind the checksum
-//!   are the setting and the content that 11 asks for, and 0 for the other calls.
+//!   file before it, by [`write`]. 13 and 14 are the node list and the explanation with one more exclusion, by [`what_if`] and
+//!   [`what_if_explain`]: what conflict.rs says of the graph that it built with the exclusion behind it. 15 is the text of the
+//!   wall display, by [`tgf`]. 16 and 17 read such a text, which is the file before them, by [`tgf_read`], with the nodes as
+//!   units and the edges as depth: 16 with the checksum of the nodes' list beside an edges' list of [`EDGE_NUMBERS`], 17 with
+//!   that of the edges' list beside a nodes' list of [`NODE_NUMBERS`]; the room is counted in numbers. A room holds [`FILL`] in
+//!   every other byte before the call. The two words behind the checksum are the setting and the content that 11 asks for, the
+//!   solvable and the reason of 13 and 14, and 0 for the other calls.
 //! - the end: 3, how many files, how many answers.
 
 use std::collections::BTreeSet;
 
+use crate::asked::Question;
+use crate::generate::what_if as asking;
 use crate::rng::Rng;
 use crate::settings::{self, LARGEST_SETTINGS, RECORD};
+use crate::wall::{self, Chart, Line, EDGES, LABEL, NODES};
 use crate::{
     check, edges, explain, explain_air, explain_edition, explain_plain, generate, graphviz, nodes,
-    salvage, write, Answer, Node, Problem,
+    salvage, tgf, tgf_read, what_if, what_if_explain, write, Answer, Node, Problem,
 };
 
 /// What stands in every byte that is lent.
 const FILL: u8 = 165;
 /// The same in a number of two bytes.
 const PAIR: u16 = u16::from_le_bytes([FILL; 2]);
+/// The same in a number of four bytes.
+const WIDE: u32 = u32::from_le_bytes([FILL; 4]);
 /// The largest room that the program lends.
 const MOST: usize = 1 << 16;
 /// The largest list of numbers that the program lends.
 const NUMBERS: usize = 1 << 13;
+/// The numbers of the most nodes and of the most edges that a text of the wall display has.
+const NODE_NUMBERS: usize = 2 * NODES;
+const EDGE_NUMBERS: usize = 4 * EDGES;
 /// A room that is ample for most small files.
 const AMPLE: usize = 6 << 10;
 /// Files are chosen among those of this many seeds.
@@ -59,6 +72,11 @@ enum Call {
     Held(u64),
     Change(u64, u64, u64),
     Write,
+    Asked(Question),
+    AskedText(Question, u64),
+    Wall,
+    WallNodes,
+    WallEdges,
 }
 
 /// How much is lent: a size, one that follows from what a call needs, or that of the file and some bytes behind it.
@@ -132,10 +150,62 @@ const CHANGES: [(u64, u64, u64, Room); 14] = [
     (2, 257, 1, Room::Behind(RECORD)),
 ];
 
-/// Rooms of rows: every third file, taken as rows, gets one of these in turn, and rows in another order get two.
+/// Rooms of rows: every third file and each with 1 or 6, taken as rows, gets one of these in turn, and rows in another order get two.
 const ROW_ROOMS: [Room; 3] = [Room::Exact, Room::OneShort, Room::Of(MOST)];
 /// Rows in another order are those of the first files of about this many shapes, where they are small.
 const MIXED: usize = 20;
+
+/// A question about the nodes, or about the text with an option, and rooms of it: each question gets one of these in turn.
+const ASKED: [(Option<u64>, Room); 9] = [
+    (None, Room::Of(128)),
+    (Some(0), Room::Of(AMPLE)),
+    (Some(1), Room::Exact),
+    (None, Room::Exact),
+    (Some(0), Room::OneShort),
+    (None, Room::OneShort),
+    (Some(1), Room::Half),
+    (Some(0), Room::Exact),
+    (Some(2), Room::Of(60)),
+];
+/// Files that are asked about: so many of each shape of order 10, and the first of every so manyth shape where it is small and
+/// drawn.
+const FAMILIES: [(&str, u64); 3] = [
+    ("what-if-families", 20),
+    ("what-if-limits", 4),
+    ("what-if-records", 1),
+];
+const ABOUT: usize = 3;
+
+/// Rooms of the wall display's text: each file gets one of these in turn.
+const WALL_ROOMS: [Room; 4] = [Room::Exact, Room::Of(AMPLE), Room::OneShort, Room::Half];
+/// A text of the wall display gets three of these in turn.
+const READ: [(Call, Room); 6] = [
+    (Call::WallNodes, Room::Exact),
+    (Call::WallEdges, Room::Exact),
+    (Call::WallNodes, Room::OneShort),
+    (Call::WallEdges, Room::OneShort),
+    (Call::WallNodes, Room::Of(NODE_NUMBERS + 10)),
+    (Call::WallEdges, Room::Of(EDGE_NUMBERS + 10)),
+];
+/// Texts are those of the first file of every so manyth shape, where they are small.
+const TEXTS: usize = 5;
+
+/// What some calls have to be answered with, each at least once: all that they can give.
+const GIVEN: [(u64, &[u64]); 13] = [
+    (1, &[0, 1, 2, 3, 4, 5, 6, 7, 8, 9, 10, 11, 12]),
+    (3, &[0, 1, 2, 3, 4, 5, 6, 7, 8, 9, 10, 12]),
+    (5, &[0, 1, 2, 3, 4, 5, 6, 7, 8, 9, 10]),
+    (6, &[0, 1, 2, 3, 4, 5, 6, 7, 8, 9, 10, 12]),
+    (7, &[0, 1, 2, 3, 4, 5, 6, 7, 8, 9, 10, 12, 15, 16, 17]),
+    (10, &[0, 1, 3, 12, 18]),
+    (11, &[0, 1, 3, 10, 12, 18]),
+    (12, &[0, 1, 2, 3, 4, 5, 6, 10]),
+    (13, &[0, 1, 2, 3, 4, 5, 6, 7, 8, 9, 10, 17]),
+    (14, &[0, 1, 2, 3, 4, 5, 6, 7, 8, 9, 10, 12, 17]),
+    (15, &[0, 1, 2, 3, 4, 5, 6, 7, 8, 9, 10]),
+    (16, &[0, 3, 10]),
+    (17, &[0, 3, 10]),
+];
 
 /// A file with the heads of its calls.
 struct Recorded {
@@ -171,13 +241,15 @@ pub fn list() -> Result<Vec<u8>, String> {
             }),
     );
     all.extend(rows());
+    all.extend(asked());
+    all.extend(texts());
     let mut out = Vec::new();
-    let mut numbers = BTreeSet::new();
+    let mut met = BTreeSet::new();
     for one in &all {
         put(&mut out, &file_head(one));
         out.extend_from_slice(&one.file);
         for head in &one.calls {
-            numbers.insert(head[4]);
+            met.insert((head[1], head[4]));
             put(&mut out, head);
         }
     }
@@ -199,9 +271,9 @@ pub fn list() -> Result<Vec<u8>, String> {
             0,
         ],
     );
-    let mut given = (0..=12).chain(15..=18);
-    match given.find(|number| !numbers.contains(number)) {
-        Some(number) => Err(format!("no call is answered with {number}")),
+    let each = |&(call, numbers): &(u64, &'static [u64])| numbers.iter().map(move |&n| (call, n));
+    match GIVEN.iter().flat_map(each).find(|pair| !met.contains(pair)) {
+        Some((call, number)) => Err(format!("no call {call} is answered with {number}")),
         None => Ok(out),
     }
 }
@@ -242,10 +314,134 @@ fn calls(file: &[u8], index: usize) -> Vec<[u64; 12]> {
     };
     let all = picked.chain([edges]).chain(explained);
     let all = all.chain(mends.iter().copied());
-    let written = (index % 3 == 0).then(|| (Call::Write, ROW_ROOMS[index / 3 % ROW_ROOMS.len()]));
-    let all = all.chain(written);
+    let refusal = check(file).number;
+    let written = (index % 3 == 0 || refusal == 1 || refusal == 6)
+        .then(|| (Call::Write, ROW_ROOMS[index / 3 % ROW_ROOMS.len()]));
+    // A file that is refused is asked about twice, and every third of the others once.
+    let asks = match refusal {
+        0 => usize::from(index % 3 == 1),
+        _ => 2,
+    };
+    let questions = questions(file, index, 1).into_iter().take(asks);
+    let hung = (Call::Wall, WALL_ROOMS[index % WALL_ROOMS.len()]);
+    let all = all.chain(written).chain(questions).chain([hung]);
     all.map(|trial| answered(file, trial)).collect()
 }
+
+/// Questions about a file: up to so many of a solvable and a reason that it has, and three of which it has one or none.
+fn questions(file: &[u8], index: usize, most: usize) -> Vec<(Call, Room)> {
+    let mut rng = Rng::named("recorded questions", index as u64);
+    let all = asking::questions(file, &mut rng, most);
+    let trial = |(turn, question): (usize, Question)| {
+        let (option, room) = ASKED[(5 * index + turn) % ASKED.len()];
+        let text = |option| Call::AskedText(question, option);
+        (option.map_or(Call::Asked(question), text), room)
+    };
+    all.into_iter().enumerate().map(trial).collect()
+}
+
+/// Files with reasons, and questions about them.
+fn asked() -> Vec<Recorded> {
+    let of = |&(shape, seeds): &(&'static str, u64)| (0..seeds).map(move |seed| (shape, seed));
+    let make = |(shape, seed)| {
+        let file = generate::file(shape, seed).expect("a name of the list");
+        (shape, seed, file)
+    };
+    let families = FAMILIES.iter().flat_map(of).map(make);
+    let shapes = generate::recorded().step_by(ABOUT);
+    let others = shapes.map(|shape| {
+        let (seed, file) = chosen(shape).swap_remove(0);
+        (shape, seed, file)
+    });
+    let small = others.filter(|(_, _, file)| file.len() <= 1_500 && check(file).number == 0);
+    let mut all = Vec::new();
+    for (index, (shape, seed, file)) in families.chain(small).enumerate() {
+        let file = asking::with_reasons(file, &mut Rng::named("recorded reasons", seed));
+        let questions = questions(&file, index, 6);
+        // Three are about what the file does not have.
+        if questions.len() == 3 {
+            continue;
+        }
+        let calls = questions.into_iter().map(|trial| answered(&file, trial));
+        all.push(Recorded {
+            shape,
+            seed,
+            calls: calls.collect(),
+            file,
+        });
+    }
+    all
+}
+
+/// Texts of the wall display: those of small files, as they are and with one byte changed; small ones, most of them bad; those at and
+/// past each limit.
+fn texts() -> Vec<Recorded> {
+    let mut all: Vec<Vec<u8>> = Vec::new();
+    for shape in generate::recorded().step_by(TEXTS) {
+        let (seed, file) = chosen(shape).swap_remove(0);
+        let text = wall::chart(&file).map_or(Vec::new(), |chart| chart.text());
+        if text.is_empty() || text.len() > 1_500 {
+            continue;
+        }
+        let mut rng = Rng::named("recorded texts", seed);
+        let mut changed = text.clone();
+        changed[rng.below(text.len())] = *rng.pick(b"\n #0x");
+        all.extend([text, changed]);
+    }
+    all.extend(SMALL_TEXTS.map(<[u8]>::to_vec));
+    for (nodes, edges, label) in [
+        (NODES, EDGES, 1),
+        (NODES, 3, LABEL),
+        (NODES + 1, 0, 1),
+        (1, EDGES + 1, 1),
+        (2, 2, LABEL + 1),
+        (11, 30, 7),
+    ] {
+        let edge = |n: usize| Line {
+            source: n % nodes,
+            target: 7 * n % nodes,
+            label: "e".repeat(label),
+        };
+        let chart = Chart {
+            nodes: vec!["n".repeat(label); nodes],
+            edges: (0..edges).map(edge).collect(),
+        };
+        all.push(chart.text());
+    }
+    let recorded = |(index, file): (usize, Vec<u8>)| {
+        let turns = (0..3).map(|i| READ[(index + i) % READ.len()]);
+        Recorded {
+            shape: "texts",
+            seed: index as u64,
+            calls: turns.map(|trial| answered(&file, trial)).collect(),
+            file,
+        }
+    };
+    all.into_iter().enumerate().map(recorded).collect()
+}
+
+const SMALL_TEXTS: [&[u8]; 20] = [
+    b"",
+    b"#\n",
+    b"0 a\n",
+    b"0 a\n#",
+    b"0 a\n#\n",
+    b"1 a\n#\n",
+    b"00 a\n#\n",
+    b"0 \n#\n",
+    b"0 a\r\n#\n",
+    b"0 a\n2 b\n#\n",
+    b"0 a\n\n#\n",
+    b"0 a\n# \n",
+    b"0 a\x7f\n#\n",
+    b"0 a\n#\n0 0 b",
+    b"0 a\n#\n0 1 b\n",
+    b"0 a\n#\n0 00 b\n",
+    b"0 a\n#\n0 0 \n",
+    b"0 a\n#\n0 0 b\n\n",
+    b"0  a b\n1 #\n#\n1 0 c  d\n0 0 0 0\n",
+    b"0 a\n1 b\n#\n1 4294967296 c\n",
+];
 
 /// The rows of small files in any order.
 fn rows() -> Vec<Recorded> {
@@ -366,6 +562,28 @@ fn answered(file: &[u8], (call, room): (Call, Room)) -> [u64; 12] {
             (9, 0, answer, sum(&numbers))
         }
         Call::Write => in_room(12, 0, size, |room| write(file, room)),
+        Call::Asked(question) => {
+            let mut list = vec![blank(); size];
+            let Question { solvable, reason } = question;
+            let answer = what_if(file, solvable, reason, &mut list);
+            (13, 0, answer, sum(&fields(&list)))
+        }
+        Call::AskedText(question, option) => in_room(14, option, size, |room| {
+            what_if_explain(file, question.solvable, question.reason, option, room)
+        }),
+        Call::Wall => in_room(15, 0, size, |room| tgf(file, room)),
+        Call::WallNodes => {
+            let mut list = vec![WIDE; size];
+            let answer = read_back(file, &mut list, &mut [WIDE; EDGE_NUMBERS]);
+            let numbers: Vec<u64> = list.into_iter().map(u64::from).collect();
+            (16, 0, answer, sum(&numbers))
+        }
+        Call::WallEdges => {
+            let mut list = vec![WIDE; size];
+            let answer = read_back(file, &mut [WIDE; NODE_NUMBERS], &mut list);
+            let numbers: Vec<u64> = list.into_iter().map(u64::from).collect();
+            (17, 0, answer, sum(&numbers))
+        }
         Call::Held(version) => (10, version, held(file, version), sum(&[])),
         Call::Change(version, setting, content) => in_room(11, version, size, |room| {
             room[..file.len()].copy_from_slice(file);
@@ -374,6 +592,9 @@ fn answered(file: &[u8], (call, room): (Call, Room)) -> [u64; 12] {
     };
     let [first, second] = match call {
         Call::Change(_, setting, content) => [setting, content],
+        Call::Asked(question) | Call::AskedText(question, _) => {
+            [question.solvable, question.reason]
+        }
         _ => [0, 0],
     };
     let Answer {
@@ -433,7 +654,18 @@ fn held(file: &[u8], version: u64) -> Answer {
     }
 }
 
-/// The bytes that a call writes into the largest room, the entries of the node list, or the numbers of another list.
+fn read_back(text: &[u8], nodes: &mut [u32], edges: &mut [u32]) -> Answer {
+    let read = tgf_read(text, nodes, edges);
+    Answer {
+        number: read.number,
+        place: read.place,
+        bytes: 0,
+        units: read.nodes,
+        depth: read.edges,
+    }
+}
+
+/// The bytes that a call writes into the largest room, the entries of a node list, or the numbers of another list.
 fn needed(file: &[u8], call: Call) -> usize {
     let mut room = vec![0; MOST];
     let answer = match call {
@@ -447,6 +679,19 @@ fn needed(file: &[u8], call: Call) -> usize {
         Call::Air(option) => explain_air(file, option, &mut room),
         Call::Mend => mended(file, &mut room, &mut [0; NUMBERS]),
         Call::Replaced => return mended(file, &mut room, &mut [0; NUMBERS]).units as usize,
+        Call::AskedText(question, option) => {
+            let Question { solvable, reason } = question;
+            what_if_explain(file, solvable, reason, option, &mut room)
+        }
+        Call::Asked(Question { solvable, reason }) => {
+            // The list is whole where it is long enough.
+            let mut list = vec![blank(); NODES];
+            what_if(file, solvable, reason, &mut list);
+            return list.iter().take_while(|node| **node != blank()).count();
+        }
+        Call::Wall => tgf(file, &mut room),
+        Call::WallNodes => return wall::read(file).map_or(0, |found| 2 * found.nodes.len()),
+        Call::WallEdges => return wall::read(file).map_or(0, |found| 4 * found.edges.len()),
         Call::Nodes => {
             let problem = Problem::read(file).ok();
             return problem.map_or(0, |p| p.model().map_or(0, |m| m.nodes().len()));
@@ -485,8 +730,8 @@ fn fields(list: &[Node]) -> Vec<u64> {
     list.iter().flat_map(of).map(u64::from).collect()
 }
 
-/// A polynomial in 1,021 modulo the largest prime below 2^54. A byte, a field of an entry (the clause last) or a number of the
-/// edge list is one digit.
+/// A polynomial in 1,021 modulo the largest prime below 2^54. A byte, a field of an entry (the clause last) or a number of
+/// another list is one digit.
 fn sum(digits: &[u64]) -> u64 {
     let next = |sum: u64, digit: &u64| (1021 * sum + digit + 1) % 18_014_398_509_481_951;
     digits.iter().fold(0, next)

@@ -193,7 +193,8 @@ pub fn shapes() -> impl Iterator<Item = &'static str> {
     all().map(|shape| shape.name)
 }
 
-/// The shapes whose files `record` takes: one added to [`AIR`] or [`WHAT_IF`] leaves the recorded answers as they are.
+/// The shapes whose files `record` takes: one added to [`AIR`] or [`WHAT_IF`], of which it names three, leaves the recorded
+/// answers as they are.
 pub fn recorded() -> impl Iterator<Item = &'static str> {
     plain().map(|shape| shape.name)
 }

@@ -1,5 +1,5 @@
 use borrow.Author.Needs.{needs}
-use Rattle.replay.specs.Again.{at-low, at-high}
+use Rattle.replay.specs.Again.{at-low, at-middle, at-high}
 use Rattle.replay.proofs.compares.replayed.Statement.{statement}
 use Rattle.replay.proofs.compares.replayed.Tie as tie
 
@@ -9,5 +9,7 @@ replayed-spec =
     (tie.spec
     (λ c κs. search needs)
     (λ c. search at-low)
+    (λ c. search needs)
+    (λ c. search at-middle)
     (λ c. search needs)
     (λ c. search at-high))
