@@ -12,3 +12,4 @@ pub mod Quotes
 pub mod Editions
 pub mod Air
 pub mod Drawing
+pub mod Season

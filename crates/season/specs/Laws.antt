@@ -4,3 +4,4 @@ pub mod Words
 pub mod Joins
 pub mod Share
 pub mod Promises
+pub mod Files

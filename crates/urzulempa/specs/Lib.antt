@@ -9,4 +9,5 @@ pub mod Settings
 pub mod Write
 pub mod WhatIf
 pub mod Wall
+pub mod Season
 pub mod Laws

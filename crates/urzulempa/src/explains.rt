@@ -23,7 +23,7 @@ use graph::Made;
 use store::Size;
 
 // Groups, then the plan, where the labels are known.
-fn plan_of(
+pub fn plan_of(
     file: &[u8],
     ix: &[u16; 10432],
     g: &[u64; 1152],
@@ -81,7 +81,7 @@ fn told(t: Told) -> Answer
 }
 
 // The walk over a plan, as an answer.
-fn walk_plan(
+pub fn walk_plan(
     file: &[u8],
     ix: &[u16; 10432],
     p: &[u64; 1280],

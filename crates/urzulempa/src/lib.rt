@@ -7,6 +7,7 @@ mod edges;
 mod explains;
 mod graphs;
 mod nodes;
+mod seasons;
 mod walls;
 mod whatifs;
 
@@ -26,6 +27,7 @@ use wall::Counts;
 ghost use mathlib.Core.Path.{_≡_};
 ghost use lib.ListN.{length};
 ghost use Rattle.salvage.specs.Lent.{salvageAnswer, salvageRoom, salvageList};
+ghost use Rattle.season.specs.Words.{joinWords};
 ghost use Rattle.settings.specs.Change.{changeOf, roomOf};
 ghost use Rattle.settings.specs.Settings.{readOf};
 ghost use Rattle.texts.specs.Wrote.{over};
@@ -37,6 +39,7 @@ ghost use Rattle.urzulempa.specs.Draws.{resultAnswer, drawFile};
 ghost use Rattle.urzulempa.specs.Edges.{edgesAnswer, edgesLeft};
 ghost use Rattle.urzulempa.specs.Plain.{plainOption};
 ghost use Rattle.urzulempa.specs.Says.{Says};
+ghost use Rattle.urzulempa.specs.Season.{Adds, joinAnswer};
 ghost use Rattle.urzulempa.specs.Settings.{changeAnswer};
 ghost use Rattle.urzulempa.specs.Write.{writtenAnswer};
 ghost use Rattle.writing.specs.Write.{writeAnswer, writeRoom};
@@ -270,4 +273,48 @@ pub extern "C" fn urzulempa_tgf_read(text: &[u8], nodes: &mut [u32], edges: &mut
     ensures { λ _. ⌜ now (edges .exit) ≡ tgfEdges (readText (now (text .entry))) (length (now (nodes .entry))) (now (edges .entry)) ⌝ }
 {
     wall::read(text, nodes, edges)
+}
+
+// Explains one file into the room as `urzulempa_explain_edition` does and adds it to a season's report of 27 numbers (order 8): how many
+// files were done and got each refusal, totals, the greatest depth. The file's own answer, or 14 where a count would pass 64 bits: the
+// report is as before then. 10 for a report of another length: nothing is explained.
+#[no_mangle]
+pub extern "C" fn urzulempa_season(
+    report: &mut [u64],
+    file: &[u8],
+    edition: u64,
+    option: u64,
+    room: &mut [u8],
+) -> Answer
+    ensures { λ r. ⌜ Adds edition (now (file .entry)) option (now (report .entry)) (now (report .exit)) (now (room .entry)) (now (room .exit)) r ⌝ }
+{
+    if report.len() != 27 {
+        return checks::refusal(10, 0);
+    }
+    let mut ix = [0u16; 10432];
+    let mut g = [0u64; 1152];
+    let mut tr = [0u64; 1280];
+    let mut ls = [0u16; 3456];
+    seasons::season_of(
+        report,
+        file,
+        edition,
+        option,
+        &mut ix,
+        &mut g,
+        &mut tr,
+        &mut ls,
+        room,
+    )
+}
+
+// Puts a second report behind the first (order 8): its file numbers follow the first's. 10 for a report that is not 27 numbers, 14 where
+// a count or file number would pass 64 bits; the report is as before then.
+#[no_mangle]
+pub extern "C" fn urzulempa_join(report: &mut [u64], second: &[u64]) -> Answer
+    ensures { λ r. ⌜ r ≡ joinAnswer (now (report .entry)) (now (second .entry)) ⌝ }
+    ensures { λ _. ⌜ now (report .exit) ≡ joinWords (now (report .entry)) (now (second .entry)) ⌝ }
+{
+    let n = season::join(report, second);
+    checks::refusal(n, 0)
 }

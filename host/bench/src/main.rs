@@ -3,6 +3,7 @@
 
 mod asking;
 mod merging;
+mod season;
 
 use oracle::generate;
 use std::hint::black_box;
@@ -14,6 +15,11 @@ fn main() -> ExitCode {
         println!("bench: skipped: conflict.rs was not there when this was built");
         return ExitCode::from(77);
     }
+    // One table by itself.
+    if std::env::args().nth(1).as_deref() == Some("season") {
+        season::table();
+        return ExitCode::SUCCESS;
+    }
     println!("| what | bytes in | conflict.rs | port | ratio |");
     println!("|---|---|---|---|---|");
     graphs();
@@ -23,6 +29,7 @@ fn main() -> ExitCode {
     editions();
     air();
     asking::table();
+    season::table();
     growth();
     ExitCode::SUCCESS
 }

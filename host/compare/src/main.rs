@@ -1,8 +1,9 @@
 //! The port against the oracle: every call, on generated files, with rooms of every kind. Answers, whole rooms and whole lists of
-//! nodes, edges, replaced records and labels have to be equal, untouched bytes among them.
+//! nodes, edges, replaced records, labels and counts have to be equal, untouched bytes among them.
 
 mod calls;
 mod salvage;
+mod season;
 mod settings;
 mod shrink;
 mod wall;
@@ -33,6 +34,9 @@ const USAGE: &str = "usage: compare files N SEED   the hand-made files, then N g
                               and against conflict.rs on the file with one more clause
        compare wall N SEED    the wall display's text and its reader alone: texts around each limit and a small one damaged at every
                               byte, then N generated files, in rooms around the ends of lines; their texts are read, also damaged
+       compare season N SEED  a season's report alone: every count around its width, lists of every length, then N seasons of up to
+                              eight generated files by both editions, in rooms of every kind; each added file by file and as a
+                              whole, cut and joined, and joined with reports that hold anything
        compare bytes          a small file with every kind of record, each byte set to each value
 Status: 0 no difference, 1 a difference, 64 wrong usage, 77 without conflict.rs.";
 
@@ -40,7 +44,7 @@ fn main() -> ExitCode {
     let words: Vec<String> = std::env::args().skip(1).collect();
     let words: Vec<&str> = words.iter().map(String::as_str).collect();
     let job = match words[..] {
-        ["files" | "check" | "nodes" | "edges" | "editions" | "air" | "salvage" | "settings" | "write" | "what-if" | "wall", n, seed] => match (n.parse(), seed.parse()) {
+        ["files" | "check" | "nodes" | "edges" | "editions" | "air" | "salvage" | "settings" | "write" | "what-if" | "wall" | "season", n, seed] => match (n.parse(), seed.parse()) {
             (Ok(n), Ok(seed)) => Some((n, seed)),
             _ => None,
         },
@@ -63,6 +67,7 @@ fn main() -> ExitCode {
         "write" => write::writes(n, seed),
         "what-if" => questions(n, seed),
         "wall" => wall::walls(n, seed),
+        "season" => season::differ(n, seed),
         only => files(n, seed, only),
     };
     if found { ExitCode::from(1) } else { ExitCode::SUCCESS }
@@ -93,7 +98,7 @@ fn files(n: u64, seed: u64, only: &str) -> bool {
             return true;
         }
     }
-    if only == "files" && settings::differ(n / 4, seed, false) {
+    if only == "files" && (settings::differ(n / 4, seed, false) || season::differ(n / 8, seed)) {
         return true;
     }
     for index in 0..n {

@@ -97,6 +97,10 @@ impl Model<'_, '_> {
         absent()
     }
 
+    pub fn group_count(&self) -> usize {
+        absent()
+    }
+
     pub fn ends(&self) -> Vec<(usize, usize, Option<u16>)> {
         absent()
     }

@@ -135,6 +135,11 @@ impl Model<'_, '_> {
         self.view.edge_count()
     }
 
+    /// How many merge groups there are.
+    pub fn group_count(&self) -> usize {
+        self.view.group_count()
+    }
+
     /// Each edge's source and target, and its requirement, none for a conflict.
     pub fn ends(&self) -> Vec<(usize, usize, Option<u16>)> {
         self.view.ends()

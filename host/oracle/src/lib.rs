@@ -2,7 +2,7 @@
 //! document 01 describes and document 02 adds. Small stand-ins take the place of the solver's types.
 //!
 //! [`explain`], [`explain_plain`], [`explain_edition`], [`explain_air`], [`graphviz`], [`check`],
-//! [`nodes`], [`edges`], [`what_if`], [`what_if_explain`] and [`tgf`] take any bytes. [`Problem`] and its [`Model`] are the same in steps, for many calls on one file. Where
+//! [`nodes`], [`edges`], [`what_if`], [`what_if_explain`], [`tgf`] and [`season::season`] take any bytes. [`Problem`] and its [`Model`] are the same in steps, for many calls on one file. Where
 //! conflict.rs could not be had at build time, [`AVAILABLE`] is false and these must not be called;
 //! the reader, the generator, the samples, [`salvage`], [`settings`], [`write`] and [`tgf_read`], which the Rust does not have,
 //! are there all the same.
@@ -18,6 +18,7 @@ pub mod record;
 pub mod rng;
 pub mod salvage;
 pub mod samples;
+pub mod season;
 pub mod settings;
 pub mod survey;
 pub mod wall;

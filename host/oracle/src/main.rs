@@ -18,6 +18,8 @@ usage: oracle cases                        P1 to P11 of document 01 on the real 
        oracle what-if FILE SOLVABLE REASON [OPTION] [ROOM] the explanation with one more exclusion
        oracle asked N SEED                 N questions of that kind over generated files: the graph with the exclusion behind it
                                            against the file with one more clause
+       oracle loads N DIR                  N middle loads, as a season has them
+       oracle season DIR JOBS              the report of a folder's files on the real code, as `urzulempa season --save` writes it
        oracle samples DIR                  the sample files
        oracle record OUT                   the recorded answers that crates/replay replays
        oracle written OUT                  samples/replay.rec, as a solver would write it (src/writer.rs)
@@ -36,6 +38,7 @@ fn main() -> ExitCode {
             Ok(0)
         }
         ["samples", dir] => write_samples(dir),
+        ["loads", n, dir] => write_loads(n, dir),
         _ => run(&args),
     };
     match result {
@@ -62,6 +65,18 @@ fn write_samples(dir: &str) -> Result<u8, String> {
     Ok(0)
 }
 
+fn write_loads(n: &str, dir: &str) -> Result<u8, String> {
+    std::fs::create_dir_all(dir).map_err(|e| format!("{dir}: {e}"))?;
+    for seed in 0..number(n)? {
+        write_shape(
+            "world-middle",
+            &seed.to_string(),
+            &format!("{dir}/{seed:06}.rec"),
+        )?;
+    }
+    Ok(0)
+}
+
 fn put(path: &str, bytes: &[u8]) -> Result<u8, String> {
     let done = match path {
         "-" => std::io::stdout().write_all(bytes),
@@ -83,7 +98,7 @@ fn usage() -> Result<u8, String> {
 fn run(args: &[&str]) -> Result<u8, String> {
     match *args {
         ["cases" | "explain" | "edition" | "air" | "graph" | "nodes" | "edges" | "check"
-        | "survey" | "what-if" | "asked" | "record" | "written", ..]
+        | "survey" | "what-if" | "asked" | "season" | "record" | "written", ..]
             if !oracle::AVAILABLE =>
         {
             let step = args[0];
@@ -113,6 +128,11 @@ fn run(args: &[&str]) -> Result<u8, String> {
         }
         ["asked", n, seed] => {
             println!("{}", oracle::asking::questions(number(n)?, number(seed)?)?);
+            Ok(0)
+        }
+        ["season", dir, jobs] => {
+            let jobs = usize::try_from(number(jobs)?).map_err(|e| e.to_string())?;
+            print!("{}", oracle::season::folder(dir, jobs)?);
             Ok(0)
         }
         ["survey", n, seed] => oracle::survey::run(number(n)?, number(seed)?),

@@ -20,6 +20,8 @@ extern "C" {
     fn urzulempa_write(rows: *const u8, rows_len: usize, room: *mut u8, room_len: usize) -> Answer;
     fn urzulempa_tgf(file: *const u8, file_len: usize, room: *mut u8, room_len: usize) -> Answer;
     fn urzulempa_tgf_read(text: *const u8, text_len: usize, nodes: *mut u32, nodes_len: usize, edges: *mut u32, edges_len: usize) -> TgfCounts;
+    fn urzulempa_season(report: *mut u64, report_len: usize, file: *const u8, file_len: usize, edition: u64, option: u64, room: *mut u8, room_len: usize) -> Answer;
+    fn urzulempa_join(report: *mut u64, report_len: usize, second: *const u64, second_len: usize) -> Answer;
 }
 
 // What the library reads and writes lies as the header lays it out: no field has a gap before it.
@@ -93,4 +95,12 @@ pub fn tgf(file: &[u8], room: &mut [u8]) -> Answer {
 
 pub fn tgf_read(text: &[u8], nodes: &mut [u32], edges: &mut [u32]) -> TgfCounts {
     unsafe { urzulempa_tgf_read(text.as_ptr(), text.len(), nodes.as_mut_ptr(), nodes.len(), edges.as_mut_ptr(), edges.len()) }
+}
+
+pub fn season(report: &mut [u64], file: &[u8], edition: u64, option: u64, room: &mut [u8]) -> Answer {
+    unsafe { urzulempa_season(report.as_mut_ptr(), report.len(), file.as_ptr(), file.len(), edition, option, room.as_mut_ptr(), room.len()) }
+}
+
+pub fn join(report: &mut [u64], second: &[u64]) -> Answer {
+    unsafe { urzulempa_join(report.as_mut_ptr(), report.len(), second.as_ptr(), second.len()) }
 }

@@ -35,6 +35,7 @@ mod edition;
 mod ffi;
 pub mod list;
 mod refusal;
+mod report;
 mod salvaged;
 mod settings;
 pub mod tables;
@@ -45,6 +46,7 @@ pub use asked::{what_changes, what_if, what_if_explain, Change, Label};
 pub use edge::{Edge, EdgeKind};
 pub use edition::Edition;
 pub use refusal::Refusal;
+pub use report::{join, join_numbers, season, season_numbers, Deepest, Report, REPORT_NUMBERS};
 pub use salvaged::{repaired, salvage, Repaired, Salvaged, MOST_REPLACED};
 pub use settings::{
     appended, choices, settings_read, settings_set, Choices, Setting, Settings, SettingsRefusal, MOST_SETTINGS, SETTINGS_RECORD,

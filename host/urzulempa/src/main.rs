@@ -1,4 +1,4 @@
-//! The command: explain, graph, nodes, edges, what-if, check, salvage, settings, dump, make, export, import.
+//! The command: explain, graph, nodes, edges, what-if, check, salvage, settings, dump, make, export, import, season, join.
 
 mod choose;
 mod cycle;
@@ -8,6 +8,7 @@ mod keep;
 mod lists;
 mod made;
 mod mended;
+mod season;
 mod what_if;
 
 use std::ffi::OsString;
@@ -49,9 +50,14 @@ urzulempa: why a load of packages has no solution, from a file of clause records
                                                  A fault is told by its line, and nothing is written; FILE as OUT above
   urzulempa export FILE [--room N]               the graph for the wall display, in Trivial Graph Format; nothing is merged
   urzulempa import FILE                          checks such a text: how many nodes and edges it has, or its first bad line
+  urzulempa season PATH.. [--jobs J]             the report of many files: how many were done, how many got each refusal, what their
+            [--edition E] [--room N]             graphs and texts come to, and the deepest and the longest. A folder stands for all
+            [--save REPORT]                      that lies in it, by name. J jobs work at once, as many as there are cores where J
+                                                 is not given. A file that can't be read is told, and counted apart
+  urzulempa join REPORT.. [--save REPORT]        the report of several saved ones, one season behind the other
 
-SET is a settings file, whose settings are the defaults under the flags that are given.
-FILE and LIST may be - for standard input. N is the most bytes of text (default 67108864).
+SET is a settings file, whose settings are the defaults under the flags that are given. REPORT is a saved report.
+FILE, LIST, PATH and a REPORT to be joined may be - for standard input. N is the most bytes of text (default 67108864).
 Text goes to standard output, everything else to standard error.
 Exit status: 0 done, 2 refused, 1 trouble with a file, 64 wrong usage.
 
@@ -70,6 +76,8 @@ Examples:
   urzulempa make samples/replay.list -o replay.rec
   urzulempa export samples/rack.rec > rack.tgf
   urzulempa import rack.tgf
+  urzulempa season samples/*.rec --save friday.report
+  urzulempa join friday.report saturday.report
 ";
 
 const DEFAULT_ROOM: usize = 64 << 20;
@@ -94,7 +102,7 @@ fn run(words: &[String]) -> Result<ExitCode, String> {
     if words[0] == "settings" {
         return choose::run(&words[1..]);
     }
-    if let Some(ran) = made::run(words) {
+    if let Some(ran) = made::run(words).or_else(|| season::run(words)) {
         return ran;
     }
     if words[0] == "what-if" {

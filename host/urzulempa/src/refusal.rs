@@ -31,6 +31,8 @@ pub enum Refusal {
     Endless(u64),
     /// 12
     Option,
+    /// 14, of a report: see [`season`](crate::season)
+    Count,
     /// 15, by clause
     Locked(u64),
     /// 16
@@ -60,6 +62,7 @@ impl Refusal {
             10 => Self::Room(place),
             11 => Self::Endless(place),
             12 => Self::Option,
+            14 => Self::Count,
             15 => Self::Locked(place),
             16 => Self::ManyNodes,
             17 => Self::Cycle(place),
@@ -83,6 +86,7 @@ impl Refusal {
             Self::Room(_) => 10,
             Self::Endless(_) => 11,
             Self::Option => 12,
+            Self::Count => 14,
             Self::Locked(_) => 15,
             Self::ManyNodes => 16,
             Self::Cycle(_) => 17,
@@ -116,6 +120,7 @@ impl fmt::Display for Refusal {
             Self::Room(u) => write!(f, "the room, or the list, holds no more than {u} whole units: lend a larger one"),
             Self::Endless(s) => write!(f, "solvable {s} comes to be opened below itself, so the explanation would never end: the lines before that are whole, and the load has a cycle to break"),
             Self::Option => write!(f, "the option is neither 0 nor 1, or the edition neither 1 nor 2: pass one of them"),
+            Self::Count => write!(f, "a count of the report would pass 64 bits: keep the two reports apart"),
             Self::Locked(c) => write!(f, "clause {c} is a lock in the core, and the air profile takes none: explain this load without the profile"),
             Self::ManyNodes => write!(f, "the graph has more than 64 nodes, the most that the air profile takes: cut the core down, or explain this load without the profile"),
             Self::Cycle(n) => write!(f, "node {n} leads back to itself, and neither the air profile nor a question takes a cycle: break it, or explain this load as it is"),

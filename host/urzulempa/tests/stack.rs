@@ -2,8 +2,8 @@
 
 use std::thread::Builder;
 use urzulempa::{
-    check, edge_numbers, edges, explain, explain_air, explain_edition, explain_plain, graphviz, nodes, salvage, settings_read, settings_set,
-    Node, MOST_EDGES, MOST_NODES, MOST_REPLACED,
+    check, edge_numbers, edges, explain, explain_air, explain_edition, explain_plain, graphviz, join, nodes, salvage, season, settings_read,
+    settings_set, Node, Report, MOST_EDGES, MOST_NODES, MOST_REPLACED,
 };
 
 const SAMPLES: [&[u8]; 5] = [
@@ -67,6 +67,21 @@ fn salvage_fits() {
         }
         assert_eq!(salvage(&damaged, &mut room, &mut list).replaced, 1_024);
         assert_eq!(salvage(&[7; 65_537], &mut room, &mut list).number, 1);
+    });
+}
+
+#[test]
+fn season_and_join_fit() {
+    let mut room = vec![0; 1 << 16];
+    on_small_stack(move || {
+        let mut report = Report::default();
+        for file in SAMPLES {
+            assert!([0, 11].contains(&season(&mut report, file, 1, 1, &mut room).number));
+            assert!(season(&mut report, file, 2, 0, &mut room).is_done());
+        }
+        let second = report;
+        assert!(join(&mut report, &second).is_done());
+        assert_eq!(report.files(), Some(20));
     });
 }
 

@@ -6,8 +6,9 @@ use mathlib.Core.Option.{Option, none, some}
 use Prim.Native.Nat.{ℕ, _+_}
 use native.Mathlib.Omega.{arith}
 use lib.ListN.{length, length-append}
+use lib.Seq.{length-take-le}
 use lib.Dec.{eqb}
-use borrow.Author.Tests.{eq-eqb}
+use borrow.Author.Tests.{eq-eqb, eqb-true}
 use Rattle.basis.specs.Guard.{guard}
 use Rattle.basis.specs.Members.{split}
 use Rattle.season.specs.declared.Own.{Own}
@@ -27,7 +28,7 @@ pub words-long : (r : Report) → Full r → length (wordsOf r) ≡ 27
 unfolding wordsOf
 words-long r f = length-append (r .counts) (named (r .deepest)) ∙ omega (arith, f, named-long (r .deepest))
 
-joined-yes : (r s : Report) → fits (join r s) ≡ true → joined r s ≡ whole (join r s)
+pub joined-yes : (r s : Report) → fits (join r s) ≡ true → joined r s ≡ whole (join r s)
 unfolding joined
 joined-yes r s h = rw (h, joined)
 
@@ -35,12 +36,18 @@ joined-no : (r s : Report) → fits (join r s) ≡ false → joined r s ≡ wide
 unfolding joined
 joined-no r s h = rw (h, joined)
 
+-- a joining that is done fits
+pub whole-fits : (x y z : Report) → joined x y ≡ whole z → fits (join x y) ≡ true
+whole-fits x y z h =
+    split (fits (join x y)) (λ u. u)
+    (λ u. absurd (true≢false (ap (λ (j : Joining). elim j [ whole w ↦ false | wide ↦ true ]) (sym (joined-no x y u) ∙ h))))
+
 module _ (r s : Report) (f : Full r) (g : Full s) where
   both-is : both (wordsOf r) (wordsOf s) ≡ join r s
   both-is = ap (λ (x : Report). join x (reportOf (wordsOf s))) (words-back r f) ∙ ap (join r) (words-back s g)
 
   -- past the lengths
-  by-fits : {X : Type 0} (a b c : X) → joinBy (wordsOf r) (wordsOf s) a b c ≡ guard (fits (join r s)) b c
+  pub by-fits : {X : Type 0} (a b c : X) → joinBy (wordsOf r) (wordsOf s) a b c ≡ guard (fits (join r s)) b c
   unfolding joinBy guard
   by-fits a b c =
       rw (eq-eqb (length (wordsOf r)) 27 (words-long r f), eq-eqb (length (wordsOf s)) 27 (words-long s g), both-is)
@@ -88,14 +95,59 @@ module _ (r s t a b c : Report) (f : Full r) (g : Full s) where
       ap (join r) (sym (whole-is s t c l)) ∙ sym (join-assoc r s t f g) ∙ ap (λ (x : Report). join x t) (whole-is r s a h) ∙ whole-is a t b k in
       let v : fits (join r c) ≡ true = ap fits (q ∙ sym (whole-is a t b k)) ∙ whole-fits a t b k in
       joined-yes r c v ∙ ap whole q
-    where
-      whole-fits : (x y z : Report) → joined x y ≡ whole z → fits (join x y) ≡ true
-      whole-fits x y z h =
-          split (fits (join x y)) (λ u. u)
-          (λ u. absurd (true≢false (ap (λ (j : Joining). elim j [ whole w ↦ false | wide ↦ true ]) (sym (joined-no x y u) ∙ h))))
 
 pub joined-empty : (r : Report) → Full r → fits r ≡ true → joined r empty ≡ whole r
 joined-empty r f h = joined-yes r empty (ap fits (join-empty r f) ∙ h) ∙ ap whole (join-empty r f)
 
 pub empty-joined : (r : Report) → Full r → fits r ≡ true → joined empty r ≡ whole r
 empty-joined r f h = joined-yes empty r (ap fits (empty-join r f) ∙ h) ∙ ap whole (empty-join r f)
+
+-- ---- the same of lent words, whatever they hold
+
+past-tests : (p q t : Bool) → _≡_ {A = ℕ} (guard p 10 (guard q 10 (guard t 14 0))) 0 → (p ≡ true) × (q ≡ true) × (t ≡ true)
+unfolding guard
+past-tests true true true h = (refl, refl, refl)
+past-tests true true false h = let z : ⊥ = omega arith in absurd z
+past-tests true false t h = let z : ⊥ = omega arith in absurd z
+past-tests false q t h = let z : ⊥ = omega arith in absurd z
+
+full-of : (ws : List ℕ) → length ws ≡ 27 → Full (reportOf ws)
+unfolding reportOf
+full-of ws h = length-take-le 24 ws (omega arith)
+
+module _ (ws vs : List ℕ) (h : joinNumber ws vs ≡ 0) where
+  tests : (eqb (length ws) 27 ≡ true) × (eqb (length vs) 27 ≡ true) × (fits (both ws vs) ≡ true)
+  unfolding joinBy
+  tests = past-tests (eqb (length ws) 27) (eqb (length vs) 27) (fits (both ws vs)) h
+
+  full-first : Full (reportOf ws)
+  full-first = full-of ws (eqb-true (length ws) 27 (tests .0))
+
+  full-second : Full (reportOf vs)
+  full-second = full-of vs (eqb-true (length vs) 27 (tests .1))
+
+  done-words : joinWords ws vs ≡ wordsOf (both ws vs)
+  unfolding joinBy guard
+  done-words = rw (tests .0, tests .1, tests .2)
+
+  -- a joining that is done reads as both reports joined
+  pub done-reads : reportOf (joinWords ws vs) ≡ join (reportOf ws) (reportOf vs)
+  done-reads = ap reportOf done-words ∙ words-back (both ws vs) (join-full (reportOf ws) (reportOf vs) full-first full-second)
+
+-- "joining is associative where none of the four joinings gets 14"
+pub words-assoc : (us vs ws : List ℕ) → joinNumber us vs ≡ 0 → joinNumber (joinWords us vs) ws ≡ 0 → joinNumber vs ws ≡ 0 → joinNumber us (joinWords vs ws) ≡ 0
+    → joinWords (joinWords us vs) ws ≡ joinWords us (joinWords vs ws)
+words-assoc us vs ws a b c d =
+    done-words (joinWords us vs) ws b
+    ∙ ap (λ (r : Report). wordsOf (join r (reportOf ws))) (done-reads us vs a)
+    ∙ ap wordsOf (join-assoc (reportOf us) (reportOf vs) (reportOf ws) (full-first us vs a) (full-second us vs a))
+    ∙ ap (λ (r : Report). wordsOf (join (reportOf us) r)) (sym (done-reads vs ws c))
+    ∙ sym (done-words us (joinWords vs ws) d)
+
+-- "the empty report its unit", of every report that was written
+module _ (r : Report) (f : Full r) (h : fits r ≡ true) where
+  pub words-empty : joinWords (wordsOf r) (wordsOf empty) ≡ wordsOf r
+  words-empty = join-words r empty f empty-full ∙ ap (λ (j : Joining). wordsOf (orKept r j)) (joined-empty r f h)
+
+  pub empty-words : joinWords (wordsOf empty) (wordsOf r) ≡ wordsOf r
+  empty-words = join-words empty r empty-full f ∙ ap (λ (j : Joining). wordsOf (orKept empty j)) (empty-joined r f h)

@@ -158,6 +158,13 @@ impl<'p, 'a> View<'p, 'a> {
         self.unsat.graph.graph.node_count()
     }
 
+    /// How many groups `simplify` merged: each stands in its map once for every member.
+    pub fn group_count(&self) -> usize {
+        let merged = &self.unsat.merged_candidates;
+        let groups = merged.iter().filter(|(id, group)| group.ids[0] == **id);
+        groups.count()
+    }
+
     /// The lowest node that is on a cycle, whatever its edges stand for: one among several that all lead to each other, or one
     /// with an edge to itself.
     pub fn lowest_on_cycle(&self) -> Option<usize> {

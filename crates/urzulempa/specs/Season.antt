@@ -1,0 +1,79 @@
+-- What `urzulempa_season` and `urzulempa_join` answer, and what they leave of the report and the room (document 02, order 8).
+use mathlib.Core.Path.{_≡_, sym, ap, _∙_}
+use mathlib.Core.Bool.{Bool, true, false}
+use mathlib.Core.List.{List}
+use Prim.Native.Nat.{ℕ}
+use lib.ListN.{length}
+use lib.Dec.{eqb}
+use Rattle.season.specs.declared.Own.{Own}
+use Rattle.season.specs.Words.{joinBy, joinNumber, joinWords, shareWords}
+use Rattle.tally.specs.declared.Counts.{Counts}
+use Rattle.tally.specs.Tally.{fileCounts}
+use Rattle.urzulempa.specs.declared.Answer.{Answer}
+use Rattle.urzulempa.specs.Answers.{refusalOf}
+use Rattle.urzulempa.specs.Says.{Says, says-one}
+
+-- ---- two reports joined
+
+-- done, 10 or 14, and no more
+abbrev pub joinAnswer : List ℕ → List ℕ → Answer
+joinAnswer ws vs = refusalOf (joinNumber ws vs) 0
+
+-- ---- one file
+
+-- what a file adds: "its graph counts, the lines it wrote and its depth"
+abbrev pub ownOf : Answer → Counts → Own
+ownOf a c =
+    record {
+      number = a .number;
+      nodes = c .nodes;
+      edges = c .edges;
+      groups = c .groups;
+      missing = c .missing;
+      lines = a .units;
+      depth = a .depth;
+    }
+
+-- a file whose own answer is a and whose graph has the counts c is added to the report ws: the answer is the file's own, or "14 if a count
+-- would pass its width .. report unchanged"
+pub record Enters (ws : List ℕ) (a : Answer) (c : Counts) (vs : List ℕ) (r : Answer) : Type 0 where
+  pub answer : r ≡ joinBy ws (shareWords (ownOf a c)) (refusalOf 10 0) (refusalOf 14 0) a
+  pub report : vs ≡ joinWords ws (shareWords (ownOf a c))
+
+-- the file is explained into the room, and its own answer is added with the counts of its graph. The room is as the explanation leaves it,
+-- where the answer is 14 as well
+pub record Entered (e : ℕ) (file : List ℕ) (opt : ℕ) (ws vs out left : List ℕ) (r : Answer) : Type 0 where
+  pub own : Answer
+  pub says : Says e file opt out left own
+  pub enters : Enters ws own (fileCounts file) vs r
+
+-- whether the report is 27 words: one of another length gets 10 before all others, and nothing is changed and nothing explained
+abbrev pub AddsBy : Bool → ℕ → List ℕ → ℕ → List ℕ → List ℕ → List ℕ → List ℕ → Answer → Type 0
+AddsBy true e file opt ws vs out left r = Entered e file opt ws vs out left r
+AddsBy false e file opt ws vs out left r = (r ≡ refusalOf 10 0) × (vs ≡ ws) × (left ≡ out)
+
+-- one call: ws is the report before and vs the report after, out the room before and left the room after
+pub record Adds (e : ℕ) (file : List ℕ) (opt : ℕ) (ws vs out left : List ℕ) (r : Answer) : Type 0 where
+  pub by : AddsBy (eqb (length ws) 27) e file opt ws vs out left r
+
+-- ---- two results that the contract allows are equal
+
+enters-one : (ws : List ℕ) (a b : Answer) (c : Counts) (u v : List ℕ) (r q : Answer) → a ≡ b → Enters ws a c u r → Enters ws b c v q → (r ≡ q) × (u ≡ v)
+enters-one ws a b c u v r q e S T = (
+  S .answer ∙ ap (λ (x : Answer). joinBy ws (shareWords (ownOf x c)) (refusalOf 10 0) (refusalOf 14 0) x) e ∙ sym (T .answer),
+  S .report ∙ ap (λ (x : Answer). joinWords ws (shareWords (ownOf x c))) e ∙ sym (T .report),
+)
+
+module _ (e : ℕ) (file : List ℕ) (opt : ℕ) (ws u v out a b : List ℕ) (r q : Answer) where
+  entered-one : Entered e file opt ws u out a r → Entered e file opt ws v out b q → (r ≡ q) × (u ≡ v) × (a ≡ b)
+  entered-one S T =
+      let h = says-one e file opt out a b (S .own) (T .own) (S .says) (T .says) in
+      let k = enters-one ws (S .own) (T .own) (fileCounts file) u v r q (h .0) (S .enters) (T .enters) in
+      (k .0, k .1, h .1)
+
+  pub adds-one : Adds e file opt ws u out a r → Adds e file opt ws v out b q → (r ≡ q) × (u ≡ v) × (a ≡ b)
+  adds-one S T = by (eqb (length ws) 27) (S .by) (T .by)
+    where
+      by : (t : Bool) → AddsBy t e file opt ws u out a r → AddsBy t e file opt ws v out b q → (r ≡ q) × (u ≡ v) × (a ≡ b)
+      by true s t = entered-one s t
+      by false s t = (s .0 ∙ sym (t .0), s .1 ∙ sym (t .1), s .2 ∙ sym (t .2))
