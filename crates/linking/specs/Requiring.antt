@@ -185,25 +185,6 @@ module _ (T : Tables) (v i : ℕ) (q : i ≡ assignedMark T v) where
 unfoldable pub candidateLinks : Tables → ℕ → ConflictNode → ℕ → List Link
 candidateLinks T q p x = map (requireLink q p) (candidatesFrom T x)
 
-module _ (T : Tables) (q : ℕ) (p : ConflictNode) where
-  candidate-step : (x c y : ℕ) → 0 < x → c ≡ candidateAt T (x - 1) → y ≡ nextCandidate T (x - 1) → candidateLinks T q p x ≡ (link p (N.Solvable c) (E.Requires q) ∷ []) ++ candidateLinks T q p y
-  unfolding candidateLinks
-  candidate-step x c y h e z = ap (map (requireLink q p)) (candidates-step T x c y h e z)
-
-  pub candidate-next : (W : Linked) (g k : List ℕ) (s t : Size) (r : Grown) (x c y : ℕ) → Left W (candidateLinks T q p x) g s → 0 < x → c ≡ candidateAt T (x - 1) → Grew (linkAll (link p (N.Solvable c) (E.Requires q) ∷ []) (graphIn g s)) k r → r ≡ G.On t → y ≡ nextCandidate T (x - 1) → Left W (candidateLinks T q p y) k t
-  candidate-next W g k s t r x c y L h e R o z =
-      left-next W (candidateLinks T q p x) (link p (N.Solvable c) (E.Requires q) ∷ []) (candidateLinks T q p y) g k s t r L R o (candidate-step x c y h e z)
-
-  pub candidate-stop : (W : Linked) (g k : List ℕ) (s t : Size) (r : Grown) (x c : ℕ) → Left W (candidateLinks T q p x) g s → 0 < x → c ≡ candidateAt T (x - 1) → Grew (linkAll (link p (N.Solvable c) (E.Requires q) ∷ []) (graphIn g s)) k r → r ≡ G.Full t → Grew W k (G.Full t)
-  candidate-stop W g k s t r x c L h e R o =
-      left-stop W (candidateLinks T q p x) (link p (N.Solvable c) (E.Requires q) ∷ []) (candidateLinks T q p (nextCandidate T (x - 1))) g k s t r L R o (candidate-step x c (nextCandidate T (x - 1)) h e refl)
-
-  pub candidate-end : (W : Linked) (g : List ℕ) (s : Size) (x : ℕ) → Left W (candidateLinks T q p x) g s → x ≤ 0 → Grew W g (G.On s)
-  unfolding candidateLinks
-  candidate-end W g s x L h = left-end W (candidateLinks T q p x) g s L (ap (map (requireLink q p)) (candidates-end T x h))
-
-pub ruleset candidates = (left-start, candidate-next, candidate-stop, candidate-end)
-
 -- all links of one requirer
 unfoldable pub requireOf : Tables → ℕ → ConflictNode → List Link
 requireOf T q p = requireLinks q (candidatesOf T q) p

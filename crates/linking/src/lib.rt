@@ -5,9 +5,10 @@ ghost use Prim.Native.Nat.{_<_, _≤_};
 ghost use Rattle.records.specs.Read.{tablesOf};
 ghost use Rattle.index.specs.Index.{Loaded};
 ghost use Rattle.store.specs.Table.{graphIn, Growing};
-ghost use Rattle.views.specs.Walks.{gatesFrom};
+ghost use Rattle.views.specs.Walks.{candidatesFrom, gatesFrom};
 ghost use Rattle.linking.specs.Links.{link, linkAll, forbidAll, partyOf, asList, requiresOf, requirers, gateReason, excludedLinks, lockLinks, constrainsLinks};
 ghost use Rattle.linking.specs.Growth.{Grew};
+ghost use Rattle.linking.specs.Fan.{fanAll};
 ghost use Rattle.linking.specs.Requiring.{isNode, anyNode, candidateLinks, requireOf, gateLinks, gateOf};
 use records::Clause;
 use records::Origin;
@@ -92,6 +93,62 @@ pub fn is_party(file: &[u8], ix: &[u16; 10432], v: u16) -> bool
     }
 }
 
+// An edge per candidate from the stored value x on, from node `source`.
+fn link_each(
+    file: &[u8],
+    ix: &[u16; 10432],
+    g: &mut [u64; 1152],
+    s: Size,
+    source: u8,
+    q: u16,
+    x: usize,
+) -> Grown
+    requires { ⌜ Loaded (now file) (now ix) ⌝ }
+    requires { ⌜ Growing (now g) s ⌝ }
+    requires { ⌜ source < 128 ⌝ }
+    ensures { λ r. ⌜ Grew (fanAll q source (candidatesFrom (tablesOf (now (file .entry))) x) (graphIn (now (g .entry)) s)) (now (g .exit)) r ⌝ }
+{
+    let mut y = x;
+    let mut t = s;
+    while 0 < y {
+        let k = y - 1;
+        let c = views::candidate(file, ix, k);
+        let n = store::fan::link_from(g, t, source, c, q);
+        let u = store::fan::size_after(t, n);
+        if 2 <= n {
+            return Grown::Full(u);
+        }
+        t = u;
+        y = views::next_candidate(file, ix, k);
+    }
+    Grown::On(t)
+}
+
+// An edge per candidate from the stored value x on, which is one: the requirer's node is found once.
+fn link_some(
+    file: &[u8],
+    ix: &[u16; 10432],
+    g: &mut [u64; 1152],
+    s: Size,
+    p: ConflictNode,
+    q: u16,
+    x: usize,
+) -> Grown
+    requires { ⌜ Loaded (now file) (now ix) ⌝ }
+    requires { ⌜ Growing (now g) s ⌝ }
+    requires { ⌜ 0 < x ⌝ }
+    ensures { λ r. ⌜ Grew (linkAll (candidateLinks (tablesOf (now (file .entry))) q p x) (graphIn (now (g .entry)) s)) (now (g .exit)) r ⌝ }
+{
+    let a = store::add_node(g, s, p);
+    match a {
+        Put::Full(t) => Grown::Full(t),
+        Put::At(i, t) => {
+            let source = store::fan::source_of(i);
+            link_each(file, ix, g, t, source, q, x)
+        }
+    }
+}
+
 // An edge per candidate from the stored value x on.
 fn link_candidates(
     file: &[u8],
@@ -106,27 +163,10 @@ fn link_candidates(
     requires { ⌜ Growing (now g) s ⌝ }
     ensures { λ r. ⌜ Grew (linkAll (candidateLinks (tablesOf (now (file .entry))) q p x) (graphIn (now (g .entry)) s)) (now (g .exit)) r ⌝ }
 {
-    let mut y = x;
-    let mut t = s;
-    while 0 < y {
-        let k = y - 1;
-        let c = views::candidate(file, ix, k);
-        let d = link_one(
-            g,
-            t,
-            p,
-            ConflictNode::Solvable(c),
-            ConflictEdge::Requires(q),
-        );
-        match d {
-            Grown::Full(u) => return Grown::Full(u),
-            Grown::On(u) => {
-                t = u;
-                y = views::next_candidate(file, ix, k);
-            }
-        }
+    if x == 0 {
+        return Grown::On(s);
     }
-    Grown::On(t)
+    link_some(file, ix, g, s, p, q, x)
 }
 
 // All edges of one requirer.

@@ -1,18 +1,20 @@
 // A good record by the arm of its kind: all that is asked of it at once, on plain numbers. Where an arm says no, `check` says why.
 use crate::Allowed;
+use crate::Answer;
 use crate::Counts;
 use crate::Step;
 use crate::Table;
-use crate::check::check_record;
 use crate::check::mark_origin;
 use crate::fields::a_at;
 use crate::fields::b_at;
 use crate::fields::c_at;
 use crate::fields::kind_at;
+use crate::kinds::more;
 use crate::origins::allowed;
 use crate::origins::is_free;
 use crate::origins::named_good;
 use crate::origins::named_zero;
+use crate::pass::note;
 use crate::text::flagged;
 use crate::text::text_good;
 use crate::text::unmarked;
@@ -21,8 +23,7 @@ ghost use mathlib.Core.Path.{_≡_};
 ghost use Prim.Native.Nat.{_<_};
 ghost use Rattle.records.specs.Shapes.{recordsOf};
 ghost use Rattle.records.specs.Tables.{at};
-ghost use Rattle.records.specs.Pass.{checkPass};
-ghost use Rattle.records.specs.Fits.{textedFits, namedFits, candidateFits, standsFits, variableFits, originFits, refersFits, aloneFits, partiesFit, pairFits, boundedFits, assignedFits, saidBy, Sure};
+ghost use Rattle.records.specs.Fits.{textedFits, namedFits, candidateFits, standsFits, variableFits, originFits, refersFits, aloneFits, partiesFit, pairFits, boundedFits, assignedFits, saidBy, Sure, SureTurn};
 
 // Fields a, b and c as indices.
 fn wide_a(file: &[u8], i: usize) -> usize
@@ -397,13 +398,19 @@ fn quick(file: &[u8], i: usize, c: Counts, m: &[u16]) -> Step
     }
 }
 
-// Record i: what `check_record` says of it.
-pub fn step(file: &[u8], i: usize, c: Counts, m: &[u16]) -> Step
-    ensures { λ r. ⌜ r ≡ checkPass c (now (m .entry)) (at (recordsOf (now (file .entry))) i) ⌝ }
+// Record i by the arm of its kind: the counts after it, with its mark noted; a refusal of number 0, and no mark, where the arm says no.
+pub fn quick_turn(file: &[u8], i: usize, c: Counts, m: &mut [u16]) -> Answer
+    ensures { λ r. ⌜ SureTurn c (now (m .entry)) (at (recordsOf (now (file .entry))) i) i r (now (m .exit)) ⌝ }
 {
-    let q = quick(file, i, c, m);
-    let Step::Next(_) = q else {
-        return check_record(file, i, c, m);
-    };
-    q
+    let s = quick(file, i, c, m);
+    match s {
+        Step::No(_) => Answer::Refused {
+            number: 0,
+            place: 0,
+        },
+        Step::Next(t) => {
+            note(file, i, t, m);
+            Answer::Accepted(more(t, c))
+        }
+    }
 }

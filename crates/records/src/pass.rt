@@ -3,10 +3,10 @@ use crate::Answer;
 use crate::Counts;
 use crate::Step;
 use crate::Table;
+use crate::check::check_record;
 use crate::check::mark_origin;
 use crate::fields::a_at;
 use crate::fields::b_at;
-use crate::fits::step;
 use crate::kinds::more;
 use basis::put16;
 use basis::wide16;
@@ -63,7 +63,7 @@ pub fn turn(file: &[u8], i: usize, c: Counts, m: &mut [u16]) -> Answer
     ensures { λ r. ⌜ r ≡ turnPass c (now (m .entry)) (at (recordsOf (now (file .entry))) i) i ⌝ }
     ensures { λ r. ⌜ now (m .exit) ≡ marksPass c (now (m .entry)) (at (recordsOf (now (file .entry))) i) ⌝ }
 {
-    let s = step(file, i, c, m);
+    let s = check_record(file, i, c, m);
     match s {
         Step::No(k) => Answer::Refused {
             number: k,

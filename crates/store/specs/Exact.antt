@@ -6,15 +6,17 @@ use Prim.Native.Nat.{ℕ, _+_, _*_, _-_, _%_, _<_, _≤_}
 use native.Mathlib.Omega.{arith}
 use lib.ListN.{length, getD}
 use lib.Seq.{ext-getD}
-use lib.Dec.{ltb}
-use borrow.Author.Tests.{ltb-true, ltb-false}
+use lib.Dec.{ltb, leb}
+use borrow.Author.Tests.{ltb-true, ltb-false, leb-true}
 use Rattle.basis.specs.Members.{split, clash}
 use Rattle.store.specs.declared.ConflictNode.{ConflictNode}
 use Rattle.store.specs.declared.Size.{Size}
 use Rattle.store.specs.declared.Put.{Put}
 use Rattle.store.specs.declared.Put.the-variants.{At, Full}
-use Rattle.store.specs.Direct.{entryAt}
+use Rattle.store.specs.Direct.{entryAt, withNodes}
 use Rattle.store.specs.Laws.Direct.{both-parts, entry-one}
+use Rattle.store.specs.Adding.{oneEdge}
+use Rattle.store.specs.Fan.{linkedBy}
 use Rattle.store.specs.Graph.{Graph, nodeAt, firstAt}
 use Rattle.store.specs.Words.{wordOf, nodeOf, firstOf, edgeWord}
 use Rattle.store.specs.Table.{graphIn, edgeIn, noEdge, Stored, Growing, addedIn, sizeOf, nodes-count, edges-count, node-in, first-in, edge-in, node-read, first-read}
@@ -100,3 +102,20 @@ put-one g h (Full s) (Full t) P Q e =
     let q : graphIn g s ≡ graphIn h t = cc in
     let y : s ≡ t = size-one g h s t (P .stored) (Q .stored) q in
     (cc, table-one g h s t (P .stored) (Q .stored) q)
+
+-- ---- a link's answer as a plain number
+
+pub linked-one : (s : Size) (r q : ℕ) → linkedBy s r ≡ linkedBy s q → r ≡ q
+unfolding linkedBy
+linked-one s r q e =
+    split (leb 2 r)
+    (λ t. split (leb 2 q)
+    (λ u. let z : Full (withNodes s (s .nodes + (r - 2))) ≡ Full (withNodes s (s .nodes + (q - 2))) = rw (t, u) at e in
+    let y : s .nodes + (r - 2) ≡ s .nodes + (q - 2) = ap (λ (p : Put). sizeOf p .nodes) z in
+    omega (arith, leb-true 2 r t, leb-true 2 q u))
+    (λ u. let z : Full (withNodes s (s .nodes + (r - 2))) ≡ At (s .edges) (oneEdge (withNodes s (s .nodes + q))) = rw (t, u) at e in clash cc))
+    (λ t. split (leb 2 q)
+    (λ u. let z : At (s .edges) (oneEdge (withNodes s (s .nodes + r))) ≡ Full (withNodes s (s .nodes + (q - 2))) = rw (t, u) at e in clash cc)
+    (λ u. let z : At (s .edges) (oneEdge (withNodes s (s .nodes + r))) ≡ At (s .edges) (oneEdge (withNodes s (s .nodes + q))) = rw (t, u) at e in
+    let y : s .nodes + r ≡ s .nodes + q = ap (λ (p : Put). sizeOf p .nodes) z in
+    omega arith))

@@ -1,2 +1,3 @@
 pub mod Direct
 pub mod Behind
+pub mod Fan

@@ -6,4 +6,5 @@ pub mod Laws
 pub mod Table
 pub mod Adding
 pub mod Settling
+pub mod Fan
 pub mod Exact

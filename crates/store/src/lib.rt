@@ -1,6 +1,7 @@
 // The conflict graph as it is stored: nodes and edges in the order added, packed into words of a lent table, and the removal
 // of `unresolved`. It knows nothing of records, and it alone knows the packing.
 pub mod behind;
+pub mod fan;
 
 ghost use mathlib.Core.Path.{_≡_};
 ghost use Prim.Native.Nat.{_+_, _*_, _-_, _<_, _≤_, _/_, _%_};

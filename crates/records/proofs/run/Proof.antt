@@ -3,7 +3,8 @@ use mathlib.Core.Path.{_≡_}
 use Prim.Native.Nat.{_≤_, _-_}
 use lib.ListN.{length}
 use Rattle.records.specs.Shapes.{recordsOf}
-use Rattle.records.specs.Pass.{leftPass, passFrom, noCounts, left-start, left-next, left-stop, left-end}
+use Rattle.records.specs.Pass.{leftPass, passFrom, noCounts, left-start, left-end}
+use Rattle.records.specs.Fits.{quick-next, quick-stop}
 use Rattle.records.proofs.run.Statement.{statement}
 use Rattle.records.proofs.run.Tie as tie
 
@@ -21,10 +22,11 @@ run-spec =
     (λ c κs. search needs)
     (λ c. search needs)
     (λ c. search needs)
+    (λ c κs. search needs)
     (λ c. search needs)
-    (λ c. search left-stop)
+    (λ c. search quick-stop)
     (λ c. search needs)
     (λ c. search needs)
-    (λ c. (search needs, (search needs, search left-next)))
+    (λ c. (search needs, (search needs, search quick-next)))
     (λ c. search needs)
     (λ c. search left-end))
