@@ -15,6 +15,7 @@ use Rattle.cycles.specs.Cycles.{onCycle, cycleOf}
 use Rattle.air.specs.declared.Profile.{Profile}
 use Rattle.air.specs.declared.Profile.the-variants.{Passed, Refused}
 
+-- the clause is a Lock: "15 for a Lock"
 abbrev pub isLock : Clause → Bool
 isLock C.InstallRoot = false
 isLock (C.Excluded a b) = false
@@ -27,7 +28,7 @@ isLock (C.ConstrainsParent a b c) = false
 isLock (C.ConstrainsExcluded a b c) = false
 isLock (C.AnyOf a b) = false
 
--- clause i is "a Lock in the core"
+-- clause i is a Lock and in the core: "no Lock in the core"
 unfoldable pub lockAt : Tables → ℕ → Bool
 unfolding clauseOf clauseIn
 lockAt T i = coreAt T i && isLock (clauseOf T i)
@@ -46,6 +47,7 @@ cycleProfile (some n) = Refused 17 n
 abbrev pub graphProfile : Graph → Profile
 graphProfile G = cond (ltb 64 (length (G .nodes))) (Refused 16 0) (cycleProfile (cycleOf G))
 
+-- "15 for a Lock, place the first"
 abbrev pub lockProfile : Option ℕ → Profile → Profile
 lockProfile none x = x
 lockProfile (some i) x = Refused 15 i

@@ -5,11 +5,12 @@ use Rattle.records.specs.Read.{Reading, good, bad, readOf}
 use Rattle.whatif.specs.Asked.{askTables}
 use Rattle.nodelist.specs.Nodes.{nodeEntries, Nodes, denied, nodesDrawn}
 
--- 1 to 6 by the reader, 7 to 9 by the graph, then 4, 8 and 17 by the question, or the entries of the graph asked for
+-- "the file's 1 to 9, then 4, 8, 17", or the entries of the graph asked for
 abbrev pub askedRead : ℕ → ℕ → Reading → Nodes
 askedRead s r (bad k p) = denied k p
 askedRead s r (good T) = nodesDrawn T (askTables T s r)
 
+-- from the file's bytes (`askedRead`)
 unfoldable pub askedNodes : List ℕ → ℕ → ℕ → Nodes
 unfolding readOf askTables nodeEntries
 askedNodes file s r = askedRead s r (readOf file)

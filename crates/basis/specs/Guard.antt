@@ -6,7 +6,7 @@ use Prim.Native.Nat.{ℕ, _≤_, _<_}
 use lib.Dec.{leb, ltb, eqb}
 use borrow.Author.Tests.{lt-ltb, le-ltb, le-leb, lt-leb, eq-eqb, ne-eqb, not-true, not-false}
 
--- on where the test passes, else the answer `bad`
+-- on where the test passes, else the answer `bad`: refusals in their order, as in `changeBy` and `tgfBy`
 unfoldable pub guard : {X : Type 0} → Bool → X → X → X
 guard true bad on = on
 guard false bad on = bad

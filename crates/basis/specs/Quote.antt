@@ -7,6 +7,7 @@ use Prim.Native.String as S
 use Prim.Native.String.{String}
 use lib.Dec.{ltb}
 
+-- `char::encode_utf8`, of a character below 65,536
 abbrev pub utf8Char : ℕ → List ℕ
 utf8Char n =
     elim (ltb n 128) [
@@ -17,6 +18,7 @@ utf8Char n =
       ]
     ]
 
+-- `str::as_bytes`
 abbrev pub utf8 : String → List ℕ
 utf8 S.[] = []
 utf8 (S._∷_ c s) = utf8Char (code c) ++ utf8 s

@@ -15,9 +15,11 @@ use Rattle.store.specs.declared.ConflictEdge.the-variants as W
 unfoldable pub solvableCaption : Tables → ℕ → List ℕ
 solvableCaption T s = nameText T (solvableName T s) ++ utf8 " " ++ versionText T s
 
+-- "an excluded node as 'reason: ' and its text"
 unfoldable pub excludedCaption : Tables → ℕ → List ℕ
 excludedCaption T r = utf8 "reason: " ++ reasonText T r
 
+-- "labels the texts of the graph text without escaping; unresolved shows as unresolved"
 unfoldable pub nodeCaption : Tables → ConflictNode → List ℕ
 unfolding solvableCaption excludedCaption
 nodeCaption T N.Root = utf8 "<root>"
@@ -25,6 +27,7 @@ nodeCaption T (N.Solvable s) = solvableCaption T s
 nodeCaption T N.UnresolvedDependency = utf8 "unresolved"
 nodeCaption T (N.Excluded r) = excludedCaption T r
 
+-- "labels the texts of the graph text without escaping": `label`
 unfoldable pub edgeCaption : Tables → ConflictEdge → List ℕ
 edgeCaption T (W.Requires q) = requirementText T q
 edgeCaption T (W.Conflict (K.Locked s)) = utf8 "already installed"

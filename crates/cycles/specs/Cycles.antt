@@ -9,11 +9,11 @@ use lib.Dec.{eqb}
 use Rattle.basis.specs.Lists.{any, first, has, upto}
 use Rattle.store.specs.Graph.{Graph, rounds}
 
--- an edge comes into n from a node that n leads to, itself among them
+-- "some node leads back to itself": an edge comes into n from a node that n leads to, itself among them
 unfoldable pub onCycle : Graph → ℕ → Bool
 onCycle G n = let seen = rounds (length (G .nodes)) G (n ∷ []) in any (λ e. eqb (e .target) n && has (e .source) seen) (G .edges)
 
--- the lowest node on a cycle, by its number after unresolved may have gone
+-- "place the lowest node on one", by its number after unresolved may have gone
 unfoldable pub cycleOf : Graph → Option ℕ
 unfolding onCycle
 cycleOf G = first (onCycle G) (upto (length (G .nodes)) 0)

@@ -15,7 +15,8 @@ use Rattle.store.specs.Graph.{Graph, out, nodeAt}
 use Rattle.groups.specs.Groups.{headOr, mates}
 use Rattle.strokes.specs.Stroke.{isRed, stroke}
 
--- the graph with, for each node, 0 if it is in no group, else one more than the number of its group's first member (`merged_nodes`)
+-- the graph with, for each node, 0 if it is in no group, else one more than the number of its group's first member
+-- (`merged_nodes`, line 522)
 pub record Drawn : Type 0 where
   pub tables : Tables
   pub graph : Graph
@@ -35,7 +36,7 @@ drawnOf opt T G =
       merged = cond (eqb opt 1) (map (λ n. markOf (mates (λ s. nameText T (solvableName T s)) G n)) (upto (length (G .nodes)) 0)) [];
     }
 
--- the root and the solvables have edges; of a merged group only the first is drawn
+-- the root and the solvables have edges; of a merged group only the first is drawn (lines 530 to 544)
 unfoldable pub drawnAt : List ℕ → ConflictNode → ℕ → Bool
 drawnAt ms N.Root n = true
 drawnAt ms (N.Solvable s) n = eqb (cond (ltb 0 (getD ms n 0)) (getD ms n 0 - 1) n) n
@@ -43,24 +44,27 @@ drawnAt ms N.UnresolvedDependency n = false
 drawnAt ms (N.Excluded r) n = false
 
 module _ (D : Drawn) where
+  -- `merged_nodes` has the node (line 577)
   abbrev pub isMerged : ℕ → Bool
   isMerged n = ltb 0 (getD (D .merged) n 0)
 
-  -- `merged.ids[0]`
+  -- `merged.ids[0]` (line 578)
   abbrev pub firstOf : ℕ → ℕ
   firstOf n = getD (D .merged) n 0 - 1
 
+  -- "If the target node has been merged, replace it by the first id in the group" (lines 573 to 578)
   abbrev pub leadOf : ℕ → ℕ
   leadOf n = cond (isMerged n) (firstOf n) n
 
   -- ---- edges
 
+  -- an edge of node n (lines 596 to 601)
   unfoldable pub edgeText : ℕ → Edge → List ℕ
   unfolding stroke isRed
   edgeText n e =
       stroke (D .tables) (nodeAt (D .graph) n) (nodeAt (D .graph) (leadOf (e .target))) (isRed (e .weight) (nodeAt (D .graph) (e .target))) (e .weight)
 
-  -- of the edges to one merged group only the newest, whatever its label; `seen` are the groups so far (`added_edges`)
+  -- of the edges to one merged group only the newest, whatever its label; `seen` are the groups so far (`added_edges`, lines 576 to 586)
   unfoldable pub kept : List Edge → List ℕ → List Edge
   kept [] seen = []
   kept (e ∷ es) seen =
@@ -71,26 +75,32 @@ module _ (D : Drawn) where
 
   -- ---- nodes
 
+  -- node n is drawn (`drawnAt`)
   unfoldable pub isDrawn : ℕ → Bool
   unfolding drawnAt
   isDrawn n = drawnAt (D .merged) (nodeAt (D .graph) n) n
 
+  -- the edges of node n (lines 546 to 602)
   unfoldable pub edgeUnits : ℕ → List (List ℕ)
   unfolding edgeText kept out
   edgeUnits n = map (edgeText n) (kept (out (D .graph) n) [])
 
+  -- the edges of node n, if it is drawn (lines 529 to 603)
   unfoldable pub nodeUnits : ℕ → List (List ℕ)
   unfolding isDrawn edgeUnits
   nodeUnits n = cond (isDrawn n) (edgeUnits n) []
 
+  -- the edges of all nodes in number order (lines 529 to 603)
   unfoldable pub allUnits : List (List ℕ)
   unfolding nodeUnits
   allUnits = concatMap nodeUnits (upto (length (D .graph .nodes)) 0)
 
+  -- behind the opening: the edges and "the closing brace" (line 604)
   unfoldable pub restUnits : List (List ℕ)
   unfolding allUnits
   restUnits = snoc allUnits (utf8 "}")
 
+  -- "in the graph text the opening, one edge or the closing brace" (lines 528 to 604)
   unfoldable pub drawingUnits : List (List ℕ)
   unfolding restUnits
   drawingUnits = utf8 "digraph {" ∷ restUnits

@@ -5,12 +5,15 @@ use Rattle.machine.specs.Units.{TextUnit, Result, fit}
 use Rattle.drawing.specs.declared.Answer.{Answer}
 use Rattle.drawing.specs.Draw.{Drawn, drawingUnits}
 
+-- a unit of the graph text, which opens nothing: "its depth is 0"
 abbrev pub unitOf : List ℕ → TextUnit
 unitOf t = record { bytes = t; openings = 0 }
 
+-- the units that fit; 10 where "the next unit doesn't fit the room"
 unfoldable pub shownOf : List (List ℕ) → ℕ → Result
 shownOf us room = fit 0 0 room (map unitOf us)
 
+-- the graph text, as far as it fits (conflict.rs, `graphviz`)
 unfoldable pub drawShown : Drawn → ℕ → Result
 unfolding drawingUnits shownOf
 drawShown D room = shownOf (drawingUnits D) room

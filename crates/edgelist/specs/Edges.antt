@@ -17,6 +17,7 @@ causeKind (C.Constrains v) = 2
 causeKind C.ForbidMultipleInstances = 3
 causeKind C.Excluded = 4
 
+-- "kind (0 requires, 1 locked, 2 constrains, 3 forbid-multiple, 4 excluded)"
 abbrev pub kindOf : ConflictEdge → ℕ
 kindOf (W.Requires q) = 0
 kindOf (W.Conflict c) = causeKind c
@@ -28,11 +29,12 @@ causeNames (C.Constrains v) = v
 causeNames C.ForbidMultipleInstances = 0
 causeNames C.Excluded = 0
 
+-- "the number that it names (requirement, locked solvable, version set, else 0)"
 abbrev pub namesOf : ConflictEdge → ℕ
 namesOf (W.Requires q) = q
 namesOf (W.Conflict c) = causeNames c
 
--- "source, target, kind, the number that it names, clause"
+-- "source, target, kind .., the number that it names .., clause"
 abbrev pub numbersOf : Edge → List ℕ
 numbersOf e = e .source ∷ e .target ∷ kindOf (e .weight) ∷ namesOf (e .weight) ∷ e .clause ∷ []
 

@@ -23,20 +23,24 @@ use Rattle.expansion.specs.declared.Side.the-variants.{Parent, Candidate
 
 -- ---- building
 
--- the graph so far, the last solvable + 1 under each forbidden name (`last_node_by_name`), and the triples made (`constrains_edges`)
+-- the graph so far, the last solvable + 1 under each forbidden name (`last_node_by_name`), and the triples made (`constrains_edges`):
+-- conflict.rs, lines 50, 57 and 163
 pub record Build : Type 0 where
   pub graph : Graph
   pub last : List ℕ
   pub made : List Triple
 
+-- what the loop begins with (conflict.rs, lines 50 to 57 and 163): root and unresolved, no name, no triple
 abbrev pub startBuild : Build
 startBuild = record { graph = startGraph; last = replicate 128 0; made = [] }
 
+-- what a clause leads to in `expandBy`: the build goes on, or there is no room
 pub data Step : Type 0 where
   on : Build → Step
   -- 8, with the graph as far as it came
   stop : Graph → Step
 
+-- the links of a clause that touches nothing else, in `expandBy`
 abbrev pub kept : Build → Linked → Step
 kept b (more g) = on (record { graph = g; last = b .last; made = b .made })
 kept b (short g) = stop g
@@ -46,6 +50,7 @@ abbrev pub noted : Build → Triple → Added → Step
 noted b t (added i g) = on (record { graph = g; last = b .last; made = snoc (b .made) t })
 noted b t (full g) = stop g
 
+-- "Each triple (parent, candidate, version set of the clause at hand) from clauses 23 and 24 makes one edge"
 unfoldable pub once : Build → Triple → Step
 unfolding addLink addNode addEdge
 once b t =
@@ -54,20 +59,23 @@ once b t =
       | false ↦ noted b t (addLink (b .graph) (t .parent) (t .candidate) (W.Conflict (K.Constrains (t .vset))))
     ]
 
+-- "a clause's partners in file order"
 unfoldable pub onceAll : List Triple → Build → Step
 unfolding once
 onceAll [] b = on b
 onceAll (t ∷ rest) b = elim (once b t) [ stop g ↦ stop g | on c ↦ onceAll rest c ]
 
--- the triple of the clause at hand: its own node, and one of the other side
+-- "(parent, candidate, version set of the clause at hand)": the clause's own node, and one of the other side
 abbrev pub tripleBy : Side → ConflictNode → ℕ → ConflictNode → Triple
 tripleBy Parent p v d = triple p d v
 tripleBy Candidate d v p = triple p d v
 
+-- the triples of a clause, "a clause's partners in file order"
 unfoldable pub triplesOf : Side → ConflictNode → ℕ → List ConflictNode → List Triple
 triplesOf side n v ms = map (tripleBy side n v) ms
 
--- the other side of an auxiliary: for a parent the candidates that it excludes (kind 24), for a candidate the parents (kind 23)
+-- the other side of an auxiliary: for a parent the candidates that it excludes (kind 24), for a candidate the parents (kind 23);
+-- "a side absent from the core comes from the assigned-by clause of the auxiliary"
 unfoldable pub others : Tables → Side → ℕ → List ConflictNode
 unfolding partnersOr auxPartners parentReason excludedReason
 others T Parent v = partnersOr T (auxPartners T 24 v) (excludedReason T v)
@@ -83,15 +91,18 @@ abbrev pub lastly : Build → ℕ → ℕ → Linked → Step
 lastly b n s (more g) = on (record { graph = g; last = set (b .last) n (suc s); made = b .made })
 lastly b n s (short g) = stop g
 
+-- solvable and forbidden name, where the variables name them (conflict.rs, lines 243 to 263)
 abbrev pub forbidIn : Build → List ℕ → List ℕ → Step
 forbidIn b [] ns = on b
 forbidIn b (s ∷ ss) [] = on b
 forbidIn b (s ∷ ss) (n ∷ ns) = lastly b n s (forbidAll (b .graph) (getD (b .last) n 0) s)
 
+-- "ForbidMultipleInstances links the previous solvable under that forbidden name to this one."
 unfoldable pub forbid : Tables → ℕ → ℕ → Build → Step
 unfolding originOf forbidAll
 forbid T x y b = forbidIn b (solvableIn (originOf T x)) (nameIn (originOf T y))
 
+-- clauses 23 and 24, by the node that a names (`pairAll`)
 unfoldable pub pair : Tables → Side → ℕ → ℕ → ℕ → Build → Step
 unfolding onceAll triplesOf others partyOf
 pair T side a b v d = pairAll T side b v (partyOf T a) d
@@ -109,6 +120,7 @@ expandBy T d (C.ConstrainsParent a b v) = pair T Parent a b v d
 expandBy T d (C.ConstrainsExcluded a b v) = pair T Candidate a b v d
 expandBy T d (C.AnyOf a b) = on d
 
+-- one clause of the core (`expandBy`)
 unfoldable pub expand : Tables → Clause → Build → Step
 unfolding linkAll excludedLinks requiresOf requirers lockLinks forbid constrainsLinks pair
 expand T c b = expandBy T b c

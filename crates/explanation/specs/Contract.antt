@@ -35,7 +35,7 @@ use Rattle.explanation.specs.Explain.{refusal, isEdition, explainEdition
 use Rattle.explanation.specs.Laws.Solvables.{solvables-most}
 use Rattle.explanation.specs.Laws.Numbers.{bad-low, refused-low}
 
--- for some number of turns the definitions give r
+-- for some number of turns `explainEdition` gives r
 pub record ExplainedFile (e : ℕ) (file : List ℕ) (opt room : ℕ) (r : Result) : Type 0 where
   pub turns : ℕ
   pub so : explainEdition e turns file opt room ≡ some r

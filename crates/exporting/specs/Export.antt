@@ -16,6 +16,7 @@ use Rattle.wall.specs.Lines.{Label, Edge, nodeLine, hashLine, edgeLine, nodeLin
 unfoldable pub nodeText : Tables → ℕ → ConflictNode → List ℕ
 nodeText T i x = nodeLine i (nodeCaption T x)
 
+-- "a line per edge with source, target and label"
 abbrev pub wallEdge : Tables → ℕ → ℕ → ConflictEdge → Edge
 wallEdge T a b w = record { source = a; target = b; label = edgeCaption T w }
 
@@ -27,19 +28,23 @@ edgeText T a b w = edgeLine (wallEdge T a b w)
 unfoldable pub labelsOf : Tables → Graph → List Label
 labelsOf T G = map (nodeCaption T) (G .nodes)
 
--- the edges, oldest first
+-- "edges oldest first"
 unfoldable pub edgesOf : Tables → Graph → List Edge
 edgesOf T G = map (λ (e : Stored.Edge). wallEdge T (e .source) (e .target) (e .weight)) (G .edges)
 
+-- "a line per node with its number, a space and a label"
 unfoldable pub nodeUnits : Tables → Graph → List (List ℕ)
 nodeUnits T G = nodeLines 0 (labelsOf T G)
 
+-- "then a line per edge with source, target and label"
 unfoldable pub edgeUnits : Tables → Graph → List (List ℕ)
 edgeUnits T G = map edgeLine (edgesOf T G)
 
+-- "a line with #, then a line per edge"
 unfoldable pub restUnits : Tables → Graph → List (List ℕ)
 restUnits T G = hashLine ∷ edgeUnits T G
 
+-- all lines: "A unit is a line."
 unfoldable pub exportUnits : Tables → Graph → List (List ℕ)
 exportUnits T G = nodeUnits T G ++ restUnits T G
 

@@ -29,6 +29,7 @@ abbrev pub outcomeBy : Reading → Outcome
 outcomeBy (bad k p) = refused k p
 outcomeBy (good T) = graphOf T
 
+-- from the file's bytes (`outcomeBy`)
 unfoldable pub outcomeOf : List ℕ → Outcome
 unfolding readOf graphOf
 outcomeOf file = outcomeBy (readOf file)

@@ -10,6 +10,7 @@ use Rattle.records.specs.Views.{clauseOf, clauseIn, coreAt}
 use Rattle.store.specs.Graph.{Graph, handing, settle, reached, unreached}
 use Rattle.expansion.specs.Expand.{Build, Step, on, stop, startBuild, expand}
 
+-- the clause is Learnt: 7, "Learnt in the core"
 abbrev pub isLearnt : Clause → Bool
 isLearnt C.InstallRoot = false
 isLearnt (C.Excluded a b) = false
@@ -22,12 +23,12 @@ isLearnt (C.ConstrainsParent a b c) = false
 isLearnt (C.ConstrainsExcluded a b c) = false
 isLearnt (C.AnyOf a b) = false
 
--- what one clause leads to: a refusal's number comes with the graph so far
+-- what one clause leads to in `coreTurn`: a refusal's number comes with the graph so far
 pub data Turned : Type 0 where
   go : Build → Turned
   halt : ℕ → Graph → Turned
 
--- 8: no room
+-- 8: "node 129 or edge 1,025 would be added"
 abbrev pub expanded : Step → Turned
 expanded (on b) = go b
 expanded (stop g) = halt 8 g
@@ -41,16 +42,17 @@ coreTurn T c b = elim (isLearnt c) [ true ↦ halt 7 (b .graph) | false ↦ expa
 abbrev pub handed : ℕ → Build → Build
 handed i b = record { graph = handing i (b .graph); last = b .last; made = b .made }
 
+-- "Core clauses go in file order": one outside the core adds nothing
 unfoldable pub turnAt : Tables → ℕ → Build → Turned
 unfolding clauseOf clauseIn expand
 turnAt T i b = elim (coreAt T i) [ false ↦ go b | true ↦ coreTurn T (clauseOf T i) (handed i b) ]
 
--- the graph of the whole core, or a refusal with its number, its place and the graph so far
+-- what `buildOf` gives: the graph of the whole core, or a refusal with its number, its place and the graph so far
 pub data Built : Type 0 where
   built : Build → Built
   stopped : ℕ → ℕ → Graph → Built
 
--- n clauses from number i on
+-- n clauses from number i on, in `buildOf`
 unfoldable pub buildFrom : ℕ → Tables → ℕ → Build → Built
 unfolding turnAt
 buildFrom zero T i b = built b
@@ -61,7 +63,7 @@ unfoldable pub buildOf : Tables → Built
 unfolding buildFrom
 buildOf T = buildFrom (length (T .clauses)) T 0 startBuild
 
--- the finished graph, or 7, 8 or 9 with its place
+-- what `graphOf` gives: the finished graph, or 7, 8 or 9 with its place
 pub data Outcome : Type 0 where
   drawn : Graph → Outcome
   refused : ℕ → ℕ → Outcome

@@ -19,9 +19,11 @@ unfoldable pub orderOf : Graph → List ℕ
 unfolding targets postorder
 orderOf G = postorder (targets G) (length (G .nodes)) (replicate 128 0)
 
+-- the edge is a conflict (conflict.rs, line 693)
 abbrev pub conflicts : Edge → Bool
 conflicts e = isConflict (e .weight)
 
+-- the edge is an Excluded one (conflict.rs, line 684)
 abbrev pub excludes : Edge → Bool
 excludes e = isExcluded (e .weight)
 
@@ -37,11 +39,12 @@ unfoldable pub isLacking : Graph → (ℕ → Bool) → ℕ → Bool
 unfolding out
 isLacking G already n = not (any conflicts (out G n)) && someRun already (runsOf (out G n))
 
--- along an order: the nodes that pass are added to those that did
+-- along an order: the nodes that pass are added to those that did, which are the "already" of both rules (conflict.rs, lines 673 to 718)
 unfoldable pub passing : ((ℕ → Bool) → ℕ → Bool) → List ℕ → List ℕ → List ℕ
 passing rule [] yet = yet
 passing rule (n ∷ ns) yet = elim (rule (λ t. has t yet) n) [ true ↦ passing rule ns (n ∷ yet) | false ↦ passing rule ns yet ]
 
+-- conflict.rs, `get_installable_set`
 unfoldable pub installables : Graph → List ℕ
 unfolding canInstall passing orderOf
 installables G = passing (canInstall G) (orderOf G) []
@@ -55,8 +58,10 @@ unfoldable pub missings : Graph → List ℕ
 unfolding isLacking passing orderOf
 missings G = cond (hasUnresolved G) (passing (isLacking G) (orderOf G) (1 ∷ [])) []
 
+-- node n is one of `installables`
 abbrev pub installable : Graph → ℕ → Bool
 installable G n = has n (installables G)
 
+-- node n is one of `missings`
 abbrev pub missing : Graph → ℕ → Bool
 missing G n = has n (missings G)

@@ -6,18 +6,20 @@ use lib.ListN.{getD, set}
 use lib.Dec.{eqb}
 use Rattle.basis.specs.Lists.{snoc}
 
--- `marks` has one number a node, 0 until it is come to; `left` are the nodes that were left, the first first
+-- how `visit` stands: `marks` has one number a node, 0 until it is come to; `left` are the nodes that were left, the first first
 pub record Walk : Type 0 where
   pub marks : List ℕ
   pub left : List ℕ
 
+-- node n is come to, in `visit`
 abbrev pub mark : ℕ → Walk → Walk
 mark n w = record { marks = set (w .marks) n 1; left = w .left }
 
+-- node n is left, in `visit`
 abbrev pub leave : ℕ → Walk → Walk
 leave n w = record { marks = w .marks; left = snoc (w .left) n }
 
--- one node after another
+-- `Iterator::fold`: one node after another
 unfoldable pub through : (ℕ → Walk → Walk) → List ℕ → Walk → Walk
 through f [] w = w
 through f (n ∷ ns) w = through f ns (f n w)

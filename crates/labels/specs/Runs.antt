@@ -8,12 +8,12 @@ use Rattle.store.specs.declared.ConflictEdge.{ConflictEdge}
 use Rattle.store.specs.declared.ConflictEdge.the-variants as W
 use Rattle.store.specs.declared.Edge.{Edge}
 
--- a requirement and the targets of its edges
+-- "A run is a stretch of consecutive outgoing edges with equal requirement": that requirement and the targets
 pub record Run : Type 0 where
   pub req : ℕ
   pub to : List ℕ
 
--- one edge in front: it joins the first run, or opens one
+-- conflict.rs, `chunk_by`: one edge in front, which joins the first run or opens one
 abbrev pub addTo : ℕ → ℕ → List Run → List Run
 addTo q n [] = record { req = q; to = n ∷ [] } ∷ []
 addTo q n (r ∷ rs) =

@@ -46,6 +46,7 @@ module _ (S : Shown) where
   packageLines opt ms n (constraining vs) = (indent (topOf opt) ms ++ packageText S n ++ utf8 " would constrain\n") ∷ setLines opt ms vs
   packageLines opt ms n requiring = (indent (topOf opt) ms ++ packageText S n ++ utf8 " would require\n") ∷ []
 
+  -- line 928: the lines of a requirement or of a candidate
   abbrev pub linesOf : ℕ → Entry Run → List (List ℕ)
   linesOf opt e =
       elim (e .op) [

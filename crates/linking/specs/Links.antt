@@ -30,10 +30,12 @@ partyBy O.RequiresGate = Neither
 partyBy O.ConstrainsAuxiliary = Neither
 partyBy O.Other = Neither
 
+-- the node that variable v names, if it does (conflict.rs, `as_solvable_or_root`)
 unfoldable pub partyOf : Tables → ℕ → Party
 unfolding originOf
 partyOf T v = partyBy (originOf T v)
 
+-- `Option::into_iter`: the node, or none
 abbrev pub asList : Party → List ConflictNode
 asList (Node n) = n ∷ []
 asList Neither = []
@@ -51,7 +53,7 @@ solvableIn O.RequiresGate = []
 solvableIn O.ConstrainsAuxiliary = []
 solvableIn O.Other = []
 
--- the name that a forbid-multiple variable forbids twice
+-- the name that a forbid-multiple variable forbids twice (conflict.rs, lines 249 to 253)
 abbrev pub nameIn : Origin → List ℕ
 nameIn O.Root = []
 nameIn (O.Solvable s) = []
@@ -75,6 +77,7 @@ anyOfIn T (C.ConstrainsParent a b c) = Neither
 anyOfIn T (C.ConstrainsExcluded a b c) = Neither
 anyOfIn T (C.AnyOf a b) = partyOf T b
 
+-- the parent, "if that is of the other kind, whatever its own auxiliary" (conflict.rs, line 113)
 abbrev pub parentIn : Tables → Clause → Party
 parentIn T C.InstallRoot = Neither
 parentIn T (C.Excluded a b) = Neither
@@ -87,6 +90,7 @@ parentIn T (C.ConstrainsParent a b c) = partyOf T a
 parentIn T (C.ConstrainsExcluded a b c) = Neither
 parentIn T (C.AnyOf a b) = Neither
 
+-- the candidate, "if that is of the other kind, whatever its own auxiliary" (conflict.rs, line 102)
 abbrev pub excludedIn : Tables → Clause → Party
 excludedIn T C.InstallRoot = Neither
 excludedIn T (C.Excluded a b) = Neither
@@ -99,14 +103,17 @@ excludedIn T (C.ConstrainsParent a b c) = Neither
 excludedIn T (C.ConstrainsExcluded a b c) = partyOf T a
 excludedIn T (C.AnyOf a b) = Neither
 
+-- by "the gate's assigned-by clause" (conflict.rs, line 152)
 unfoldable pub gateReason : Tables → ℕ → Party
 unfolding assignedBy clauseOf clauseIn partyOf
 gateReason T v = elim (assignedBy T v) [ none ↦ Neither | some i ↦ anyOfIn T (clauseOf T i) ]
 
+-- by "the assigned-by clause of the auxiliary" (conflict.rs, lines 109 to 119)
 unfoldable pub parentReason : Tables → ℕ → Party
 unfolding assignedBy clauseOf clauseIn partyOf
 parentReason T v = elim (assignedBy T v) [ none ↦ Neither | some i ↦ parentIn T (clauseOf T i) ]
 
+-- by "the assigned-by clause of the auxiliary" (conflict.rs, lines 98 to 108)
 unfoldable pub excludedReason : Tables → ℕ → Party
 unfolding assignedBy clauseOf clauseIn partyOf
 excludedReason T v = elim (assignedBy T v) [ none ↦ Neither | some i ↦ excludedIn T (clauseOf T i) ]
@@ -125,25 +132,29 @@ requirersBy T v O.RequiresGate = partnersOr T (gatePartners T v) (gateReason T v
 requirersBy T v O.ConstrainsAuxiliary = []
 requirersBy T v O.Other = []
 
+-- the nodes that require by variable v (conflict.rs, lines 192 to 199)
 unfoldable pub requirers : Tables → ℕ → List ConflictNode
 unfolding originOf partnersOr gatePartners gateReason
 requirers T v = requirersBy T v (originOf T v)
 
 -- ---- links
 
+-- an edge by what its ends stand for: what `addLink` adds
 pub record Link : Type 0 where
   pub source : ConflictNode
   pub target : ConflictNode
   pub weight : ConflictEdge
 
+-- a `Link`
 abbrev pub link : ConflictNode → ConflictNode → ConflictEdge → Link
 link x y w = record { source = x; target = y; weight = w }
 
--- the graph with all links, or without room for one, as far as it came
+-- the graph with all links, or 8, "node 129 or edge 1,025 would be added", and the graph as far as it came
 pub data Linked : Type 0 where
   more : Graph → Linked
   short : Graph → Linked
 
+-- the links one after another, each by `addLink`
 unfoldable pub linkAll : List Link → Graph → Linked
 unfolding addLink addNode addEdge
 linkAll [] g = more g
@@ -153,10 +164,12 @@ linkAll (l ∷ rest) g = elim (addLink g (l .source) (l .target) (l .weight)) [ 
 abbrev pub requireLink : ℕ → ConflictNode → ℕ → Link
 requireLink q p c = link p (N.Solvable c) (W.Requires q)
 
+-- of one requirer: "an edge per candidate in table order, or one to unresolved if there are none"
 abbrev pub requireLinks : ℕ → List ℕ → ConflictNode → List Link
 requireLinks q [] p = link p N.UnresolvedDependency (W.Requires q) ∷ []
 requireLinks q (c ∷ cs) p = map (requireLink q p) (c ∷ cs)
 
+-- "Requires: for each requirer, an edge per candidate in table order" (conflict.rs, lines 205 to 229)
 unfoldable pub requiresOf : Tables → ℕ → List ConflictNode → List Link
 unfolding candidatesOf
 requiresOf T q ps = concatMap (requireLinks q (candidatesOf T q)) ps
@@ -172,6 +185,7 @@ unfolding originOf
 lockLinks T a b =
     concatMap (λ l. map (λ f. link N.Root (N.Solvable f) (W.Conflict (K.Locked l))) (solvableIn (originOf T b))) (solvableIn (originOf T a))
 
+-- Constrains: from a's node to b's, with the version set (conflict.rs, lines 264 to 280)
 unfoldable pub constrainsLinks : Tables → ℕ → ℕ → ℕ → List Link
 unfolding partyOf
 constrainsLinks T a b v = concatMap (λ n. map (λ m. link n m (W.Conflict (K.Constrains v))) (nodesOf T b)) (nodesOf T a)
@@ -181,7 +195,7 @@ abbrev pub previousLinks : ℕ → ℕ → List Link
 previousLinks zero s = []
 previousLinks (suc p) s = link (N.Solvable p) (N.Solvable s) (W.Conflict K.ForbidMultipleInstances) ∷ []
 
--- the node is added even where there is no link
+-- the node is added even where there is no link (conflict.rs, line 247)
 unfoldable pub forbidAll : Graph → ℕ → ℕ → Linked
 unfolding addNode linkAll
 forbidAll g p s = elim (addNode g (N.Solvable s)) [ full h ↦ short h | added i h ↦ linkAll (previousLinks p s) h ]

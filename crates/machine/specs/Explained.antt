@@ -18,7 +18,7 @@ finish placeOf room us done = some (fit 0 0 room us)
 finish placeOf room us (loops n) = some (fit 11 (placeOf n) room us)
 
 module _ {R : Type 0} (P : Plan R) where
-  -- lines that an entry writes, as units
+  -- "A unit is a line": those that an entry writes, with its openings
   abbrev pub linesAs : Entry R → List (List ℕ) → List TextUnit
   linesAs e ls = map (λ l. record { bytes = l; openings = openings P e }) ls
 
@@ -27,10 +27,11 @@ module _ {R : Type 0} (P : Plan R) (linesOf : Entry R → List (List ℕ)) where
   abbrev pub unitsOf : Entry R → List TextUnit
   unitsOf e = linesAs P e (linesOf e)
 
+  -- `unitsOf` one entry after another
   abbrev pub unitsFor : List (Entry R) → List TextUnit
   unitsFor es = concatMap unitsOf es
 
-  -- the result, if n turns of the port's machine are enough
+  -- the result, if n turns of the port's machine are enough (`finish` of what `tell` says)
   abbrev pub explain : (ℕ → ℕ) → ℕ → State R → ℕ → Option Result
   explain placeOf n s room = let t = tell P n s in finish placeOf room (unitsFor (t .shown)) (t .stop)
 

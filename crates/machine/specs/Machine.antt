@@ -34,24 +34,26 @@ pub record State (R : Type 0) : Type 0 where
   pub stack : List (Entry R)
   pub reported : List ℕ
 
--- how the port's loop stands: it goes on, the stack is empty, or this package would be opened below itself (11)
+-- how the port's loop stands: it goes on, the stack is empty (924), or "an unmerged package comes to be opened below itself" (11)
 pub data Stop : Type 0 where
   going done : Stop
   loops : ℕ → Stop
 
--- the entries whose lines are written, and how the loop stands then
+-- what `tell` says: the entries whose lines are written, and how the loop stands then
 pub record Told (R : Type 0) : Type 0 where
   pub shown : List (Entry R)
   pub stop : Stop
 
 module _ {R : Type 0} where
+  -- an `Entry`
   abbrev pub entry : Op R → List Bool → List ℕ → Entry R
   entry o ms b = record { op = o; marks = ms; branch = b }
 
+  -- a `State`
   abbrev pub state : List (Entry R) → List ℕ → State R
   state es rep = record { stack = es; reported = rep }
 
-  -- a list that is pushed: `push_level` for each (914, 970, 1026, 1171), then `set_last` on element 0 (921, 1003, 1057, 1177).
+  -- a list that is pushed: `push_level` for each (914, 971, 1027, 1171), then `set_last` on element 0 (921, 1003, 1057, 1177).
   -- Marks are set when the list is pushed, so a last mark stays with its holder even if that is skipped later.
   abbrev pub level : {A : Type 0} → (A → Op R) → List Bool → List ℕ → List A → List (Entry R)
   level f ms b [] = []
@@ -78,26 +80,31 @@ module _ {R : Type 0} (P : Plan R) where
   abbrev pub pushes : Entry R → List (Entry R)
   pushes e = elim (e .op) [ requirement r ↦ level candidate (e .marks) (e .branch) (P .kids r) | candidate n ↦ under (e .marks) (e .branch) n ]
 
+  -- line 1066: a requirement is never skipped
   abbrev pub skips : List ℕ → Entry R → Bool
   skips rep e = elim (e .op) [ requirement r ↦ false | candidate n ↦ skipped rep n ]
 
+  -- line 1074: a requirement reports nothing
   abbrev pub reports : Entry R → List ℕ → List ℕ
   reports e rep = elim (e .op) [ requirement r ↦ rep | candidate n ↦ report n rep ]
 
   -- ---- the Rust's rules: one turn of `while let Some((node, indenter)) = stack.pop()` (924 to 1184), with neither 10 nor 11
 
+  -- lines 924 to 1184: a turn pops the top, and unless it is skipped (1067) pushes what stands under it
   abbrev pub nextOf : List (Entry R) → List ℕ → State R
   nextOf [] rep = state [] rep
   nextOf (e ∷ es) rep = cond (skips rep e) (state es rep) (state (pushes e ++ es) (reports e rep))
 
+  -- lines 924 to 1184: what a turn writes, nothing where the top is skipped (1067)
   abbrev pub saysOf : List (Entry R) → List ℕ → List (Entry R)
   saysOf [] rep = []
   saysOf (e ∷ es) rep = cond (skips rep e) [] (e ∷ [])
 
+  -- one turn of the loop (924): `nextOf`
   abbrev pub next : State R → State R
   next s = nextOf (s .stack) (s .reported)
 
-  -- the entry whose lines a turn writes, if any
+  -- the entry whose lines a turn writes, if any (`saysOf`)
   abbrev pub says : State R → List (Entry R)
   says s = saysOf (s .stack) (s .reported)
 
@@ -121,6 +128,7 @@ module _ {R : Type 0} (P : Plan R) where
   abbrev pub repeats : List ℕ → ℕ → Bool
   repeats b n = not (P .merged n) && P .opens n && below b n
 
+  -- the package that `repeats`, if the top of the stack is one
   abbrev pub loopOf : List (Entry R) → Option ℕ
   loopOf [] = none
   loopOf (e ∷ es) = elim (e .op) [ requirement r ↦ none | candidate n ↦ cond (repeats (e .branch) n) (some n) none ]
@@ -130,7 +138,7 @@ module _ {R : Type 0} (P : Plan R) where
   stopOf [] = done
   stopOf (e ∷ es) = elim (loopOf (e ∷ es)) [ none ↦ going | some n ↦ loops n ]
 
-  -- at most n turns
+  -- at most n turns of the loop (924)
   abbrev pub tell : ℕ → State R → Told R
   tell zero s = record { shown = []; stop = stopOf (s .stack) }
   tell (suc n) s =

@@ -21,6 +21,7 @@ pub record Result : Type 0 where
   pub depth : ℕ
   pub text : List ℕ
 
+-- "Each line is written behind the earlier ones in the lent room"
 abbrev pub textOf : List TextUnit → List ℕ
 textOf us = concatMap (λ u. u .bytes) us
 
@@ -29,12 +30,12 @@ abbrev pub depthOf : List TextUnit → ℕ
 depthOf [] = 0
 depthOf (u ∷ us) = max (u .openings) (depthOf us)
 
--- what is answered when these units are written
+-- what is answered when these units are written: "An answer holds number, place, bytes, units, depth"
 abbrev pub written : ℕ → ℕ → List TextUnit → Result
 written num place us =
     record { number = num; place = place; bytes = length (textOf us); units = length us; depth = depthOf us; text = textOf us }
 
--- units are taken while they fit
+-- units are taken while they fit: "exactly the first units of the text"
 abbrev pub fitting : ℕ → List TextUnit → List TextUnit
 fitting room [] = []
 fitting room (u ∷ us) = elim (leb (length (u .bytes)) room) [ true ↦ u ∷ fitting (room - length (u .bytes)) us | false ↦ [] ]

@@ -11,7 +11,7 @@ use Rattle.records.specs.Tables.{Tables}
 use Rattle.records.specs.Views.{nameText, solvableName}
 use Rattle.naming.specs.Firsts.{firstsTo}
 
--- the text of a solvable's name
+-- the text of a solvable's name: "their names have the same text" (conflict.rs, lines 638 to 640)
 abbrev pub nameOf : Tables → ℕ → List ℕ
 nameOf T s = nameText T (solvableName T s)
 

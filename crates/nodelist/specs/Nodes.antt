@@ -17,7 +17,7 @@ use Rattle.listing.specs.Listing.{kindOf}
 use Rattle.entries.specs.declared.NodeEntry.{NodeEntry}
 use Rattle.nodelist.specs.declared.Counted.{Counted}
 
--- a label as a number: a host may lend a list with any bytes in it, so an entry holds no bool
+-- "uint8_t installable, missing": a host may lend a list with any bytes in it, so an entry holds no bool
 abbrev pub flag : Bool → ℕ
 flag true = 1
 flag false = 0
@@ -36,15 +36,17 @@ nodeEntry T G n =
       clause = firstAt G n;
     }
 
+-- "one entry a node"
 unfoldable pub nodeEntries : Tables → Graph → List NodeEntry
 unfolding nodeEntry
 nodeEntries T G = map (nodeEntry T G) (upto (length (G .nodes)) 0)
 
--- what comes of a file: its nodes' entries, or one of the refusals 1 to 9 with its place
+-- what `nodesOf` gives: the nodes' entries, or one of the refusals 1 to 9 with its place
 pub data Nodes : Type 0 where
   entered : List NodeEntry → Nodes
   denied : ℕ → ℕ → Nodes
 
+-- the entries of a graph that is drawn (`nodeEntries`), or its refusal
 abbrev pub nodesDrawn : Tables → Outcome → Nodes
 nodesDrawn T (drawn G) = entered (nodeEntries T G)
 nodesDrawn T (refused k p) = denied k p
@@ -54,6 +56,7 @@ abbrev pub nodesRead : Reading → Nodes
 nodesRead (bad k p) = denied k p
 nodesRead (good T) = nodesDrawn T (graphOf T)
 
+-- from the file's bytes (`nodesRead`)
 unfoldable pub nodesOf : List ℕ → Nodes
 unfolding readOf graphOf nodeEntries
 nodesOf file = nodesRead (readOf file)
@@ -69,7 +72,7 @@ abbrev pub countedBy : Nodes → ℕ → Counted
 countedBy (denied k p) room = refusalOf k p
 countedBy (entered es) room = cond (ltb room (length es)) (refusalOf 10 0) (record { number = 0; place = 0; units = 1; count = length es })
 
--- the entries that are filled in
+-- the entries that are filled in; none where it is 10, "nothing changed"
 abbrev pub listedBy : Nodes → ℕ → List NodeEntry
 listedBy (denied k p) room = []
 listedBy (entered es) room = cond (ltb room (length es)) [] es

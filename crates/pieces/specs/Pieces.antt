@@ -10,6 +10,7 @@ unfoldable pub pieces : ℕ → List ℕ → List (List ℕ)
 pieces zero s = []
 pieces (suc n) s = take 32 s ∷ pieces n (drop 32 s)
 
+-- `slice::concat`: the pieces, one behind another
 unfoldable pub joined : List (List ℕ) → List ℕ
 joined [] = []
 joined (x ∷ xs) = x ++ joined xs

@@ -12,14 +12,14 @@ use Rattle.store.specs.declared.ConflictNode.the-variants as N
 use Rattle.store.specs.Graph.{nodeAt}
 use Rattle.plan.specs.Plan.{Shown, groupOf, isMerged}
 
--- the number of a node's solvable
+-- conflict.rs, `solvable`: the number of a node's solvable
 abbrev pub solvableBy : ConflictNode → ℕ
 solvableBy N.Root = 0
 solvableBy (N.Solvable s) = s
 solvableBy N.UnresolvedDependency = 0
 solvableBy (N.Excluded r) = 0
 
--- the last of these texts, x where there are none
+-- the last of these texts, x where there are none: "then its last"
 abbrev pub lastOf : List ℕ → List (List ℕ) → List ℕ
 lastOf x [] = x
 lastOf x (y ∷ ys) = lastOf y ys
@@ -34,13 +34,15 @@ joined [] = []
 joined (v ∷ vs) = v ++ concatMap (λ w. utf8 " | " ++ w) vs
 
 module _ (S : Shown) where
+  -- of node n (`solvableBy`)
   abbrev pub solvableOf : ℕ → ℕ
   solvableOf n = solvableBy (nodeAt (S .graph) n)
 
+  -- the version of node n, in `packageText`
   abbrev pub versionOf : ℕ → List ℕ
   versionOf n = versionText (S .tables) (solvableOf n)
 
-  -- the packages that a line names: a group in node order, or the one
+  -- the packages that a line names: a group in node order, or the one (conflict.rs, lines 1070 to 1081)
   abbrev pub membersOf : ℕ → List ℕ
   membersOf n = cond (isMerged S n) (groupOf S n) (n ∷ [])
 

@@ -21,14 +21,15 @@ use Rattle.labels.specs.Labels.{installables}
 use Rattle.groups.specs.Groups.{mates}
 use Rattle.machine.specs.Machine.{Plan, State, start}
 
--- all that the text is made from: the tables, the graph, the installable nodes, and each node's group in node order (`DisplayUnsat`, 844)
+-- all that the text is made from: the tables, the graph, the installable nodes, and each node's group in node order
+-- (`DisplayUnsat`, 842 to 848)
 pub record Shown : Type 0 where
   pub tables : Tables
   pub graph : Graph
   pub installable : List ℕ
   pub groups : List (List ℕ)
 
--- `DisplayUnsat::new` (853): a solvable's name by its text
+-- `DisplayUnsat::new` (851 to 863): a solvable's name by its text
 unfoldable pub shownOf : Tables → Graph → Shown
 unfolding installables mates
 shownOf T G =
@@ -39,7 +40,7 @@ shownOf T G =
       groups = map (mates (λ s. nameText T (solvableName T s)) G) (upto (length (G .nodes)) 0);
     }
 
--- what a package's line says
+-- what a package's line says (1109 to 1153)
 pub data Kind : Type 0 where
   excluded : ℕ → Kind
   bare : Kind
@@ -49,14 +50,14 @@ pub data Kind : Type 0 where
 
 -- ---- what an edge adds to its source's line
 
--- the reason of an Excluded edge
+-- the reason of an Excluded edge (1090)
 abbrev pub reasonBy : ConflictNode → List ℕ
 reasonBy N.Root = []
 reasonBy (N.Solvable s) = []
 reasonBy N.UnresolvedDependency = []
 reasonBy (N.Excluded r) = r ∷ []
 
--- of an edge that leads to this node
+-- of an edge that leads to this node (1088 to 1096)
 abbrev pub reasonsBy : ConflictEdge → ConflictNode → List ℕ
 reasonsBy (W.Requires q) x = []
 reasonsBy (W.Conflict (K.Locked s)) x = []
@@ -64,6 +65,7 @@ reasonsBy (W.Conflict (K.Constrains v)) x = []
 reasonsBy (W.Conflict K.ForbidMultipleInstances) x = []
 reasonsBy (W.Conflict K.Excluded) x = reasonBy x
 
+-- the edge forbids several versions of one package (1098 to 1099)
 abbrev pub isForbid : ConflictEdge → Bool
 isForbid (W.Requires q) = false
 isForbid (W.Conflict (K.Locked s)) = false
@@ -71,6 +73,7 @@ isForbid (W.Conflict (K.Constrains v)) = false
 isForbid (W.Conflict K.ForbidMultipleInstances) = true
 isForbid (W.Conflict K.Excluded) = false
 
+-- the version set of an edge that constrains (1125 to 1130)
 abbrev pub setsBy : ConflictEdge → List ℕ
 setsBy (W.Requires q) = []
 setsBy (W.Conflict (K.Locked s)) = []
@@ -78,24 +81,27 @@ setsBy (W.Conflict (K.Constrains v)) = v ∷ []
 setsBy (W.Conflict K.ForbidMultipleInstances) = []
 setsBy (W.Conflict K.Excluded) = []
 
+-- `dedup` (1131): one more in front, unless it stands there already
 abbrev pub joinSet : ℕ → List ℕ → List ℕ
 joinSet v [] = v ∷ []
 joinSet v (w ∷ ws) = cond (eqb v w) (w ∷ ws) (v ∷ w ∷ ws)
 
--- lines 1126 to 1135, `dedup`: equal neighbours once, after other edges are dropped
+-- lines 1123 to 1131, `dedup`: equal neighbours once, after other edges are dropped
 abbrev pub setsOf : List Edge → List ℕ
 setsOf [] = []
 setsOf (e ∷ es) = elim (setsBy (e .weight)) [ [] ↦ setsOf es | v ∷ vs ↦ joinSet v (setsOf es) ]
 
+-- lines 1122 and 1152: constrains or require
 abbrev pub bySets : List ℕ → Kind
 bySets [] = requiring
 bySets (v ∷ vs) = constraining (v ∷ vs)
 
--- excluded, leaf, forbid, constrains, require
+-- lines 1109 to 1152: excluded, leaf, forbid, constrains, require
 abbrev pub byReasons : List Edge → List ℕ → Kind
 byReasons es (r ∷ rs) = excluded r
 byReasons es [] = cond (isNil es) bare (cond (any (λ e. isForbid (e .weight)) es) conflicting (bySets (setsOf es)))
 
+-- the line says "would require" (1153)
 abbrev pub isRequiring : Kind → Bool
 isRequiring (excluded r) = false
 isRequiring bare = false
@@ -104,6 +110,7 @@ isRequiring (constraining vs) = false
 isRequiring requiring = true
 
 module _ (S : Shown) where
+  -- `merged_candidates` (1070 to 1072), and for an unmerged package itself
   abbrev pub groupOf : ℕ → List ℕ
   groupOf n = getD (S .groups) n []
 
@@ -111,34 +118,36 @@ module _ (S : Shown) where
   abbrev pub isMerged : ℕ → Bool
   isMerged n = ltb 1 (length (groupOf n))
 
-  -- one number a group: its first member's
+  -- one number a group, its first member's, as `Plan` asks for
   abbrev pub leadOf : ℕ → ℕ
   leadOf n = getD (groupOf n) 0 n
 
+  -- `installable_nodes` (934)
   abbrev pub isInstallable : ℕ → Bool
   isInstallable n = has n (S .installable)
 
-  -- lines 928 to 931: `installable`
+  -- lines 932 to 935: `installable`
   abbrev pub runInstallable : Run → Bool
   runInstallable r = any isInstallable (r .to)
 
-  -- lines 907 to 911 and 1163 to 1168, `sorted_by_key`: those with an installable target last, each kind in its old order
+  -- lines 906 to 910 and 1162 to 1167, `sorted_by_key`: those with an installable target last, each kind in its old order
   abbrev pub sorted : List Run → List Run
   sorted rs = filter (λ r. not (runInstallable r)) rs ++ filter runInstallable rs
 
-  -- the stack takes them in this order and gives them back from its end
+  -- the stack takes them in this order and gives them back from its end (924)
   abbrev pub popped : ℕ → List Run
   popped n = reverse (sorted (runsOf (out (S .graph) n)))
 
-  -- lines 936 to 937, `missing`: one edge, and it leads to unresolved
+  -- lines 939 to 941, `missing`: one edge, and it leads to unresolved
   abbrev pub noCandidates : Run → Bool
   noCandidates r = eqb (length (r .to)) 1 && all (λ n. isUnresolved (nodeAt (S .graph) n)) (r .to)
 
-  -- lines 961 to 968 and 1022 to 1030: the installable targets, or all where there are none, as far as they are solvables (983 to 986, 1042 to 1044)
+  -- lines 963 to 974 and 1022 to 1030: the installable targets, or all where there are none, as far as they are
+  -- solvables (983 to 986, 1039 to 1041)
   abbrev pub offered : Run → List ℕ
   offered r = filter (λ n. isSolvable (nodeAt (S .graph) n)) (cond (runInstallable r) (filter isInstallable (r .to)) (r .to))
 
-  -- lines 976 to 999 and 1034 to 1055: of a merged group only the first; an unmerged one stays however often it comes
+  -- lines 977 to 1000 and 1033 to 1054: of a merged group only the first; an unmerged one stays however often it comes
   abbrev pub dedup : List ℕ → List ℕ → List ℕ
   dedup [] seen = []
   dedup (n ∷ ns) seen =
@@ -150,13 +159,15 @@ module _ (S : Shown) where
 
   -- ---- lines 1087 to 1108: what a package's line is, by its outgoing edges, newest first
 
+  -- lines 1086 to 1096: the reasons for which a package is excluded, newest edge first
   abbrev pub reasonsOf : List Edge → List ℕ
   reasonsOf es = concatMap (λ e. reasonsBy (e .weight) (nodeAt (S .graph) (e .target))) es
 
-  -- lines 1110 to 1152, in this order: excluded, leaf, forbid, constrains, require
+  -- lines 1109 to 1152, in this order: excluded, leaf, forbid, constrains, require
   abbrev pub kindOf : ℕ → Kind
   kindOf n = let es = out (S .graph) n in byReasons es (reasonsOf es)
 
+  -- what `fmt_graph` asks of a labelled graph, as a `Plan`
   abbrev pub planOf : Plan Run
   planOf = record { opens = λ n. isRequiring (kindOf n); runs = popped; kids = kidsOf; merged = isMerged; lead = leadOf }
 

@@ -21,10 +21,11 @@ use Rattle.records.specs.Tables.{Tables, noTables, tableOf, put, countsO
 
 -- ---- 3: "bad length, flag, text byte, origin number, or nonzero unused byte"
 
+-- "zero beyond its length", "Unused fields are 0"
 abbrev pub zeros : List ℕ → Bool
 zeros s = all (eqb 0) s
 
--- the text of a record: the first bytes, as many as byte 1 says
+-- the text of a record: the first bytes, as many as byte 1 says ("byte 1 text length or flag")
 abbrev pub shown : Rec → List ℕ
 shown r = take (r .first) (r .text)
 
@@ -32,6 +33,7 @@ shown r = take (r .first) (r .text)
 abbrev pub textGood : Rec → Bool
 textGood r = leb 1 (r .first) && (leb (r .first) 24 && (all (λ x. leb 32 x && leb x 126) (shown r) && zeros (drop (r .first) (r .text))))
 
+-- byte 1 and the text, by what the kind has there: 3 for a "bad length, flag, text byte .. or nonzero unused byte"
 abbrev pub firstGood : First → Rec → Bool
 firstGood F.Length r = textGood r
 firstGood F.Flag r = leb (r .first) 1 && zeros (r .text)
@@ -47,15 +49,17 @@ fieldGood S.Origin r x = leb x 5
 fieldGood S.Named r x = eqb (r .b) 1 || (eqb (r .b) 2 || eqb x 0)
 fieldGood S.Unassigned r x = true
 
+-- else 3: "bad length, flag, text byte, origin number, or nonzero unused byte"
 abbrev pub shapeGood : Shape → Rec → Bool
 shapeGood s r = firstGood (s .first) r && (fieldGood (s .a) r (r .a) && (fieldGood (s .b) r (r .b) && fieldGood (s .c) r (r .c)))
 
 -- ---- 4: "own number not the next, undefined reference, second record 8"
 
--- what a variable names: a solvable for origin 1, a name for origin 2
+-- what a variable names: a solvable for origin 1, a name for origin 2 ("7 variable, a own, b origin, c what it names")
 abbrev pub namedGood : Tables → ℕ → ℕ → Bool
 namedGood T o x = cond (eqb o 1) (ltb x (length (T .solvables))) (cond (eqb o 2) (ltb x (length (T .names))) true)
 
+-- the field x of the record r: else 4, "own number not the next, undefined reference, second record 8"
 abbrev pub numberGood : Tables → Table → Slot → Rec → ℕ → Bool
 numberGood T t S.Unused r x = true
 numberGood T t S.Own r x = eqb x (length (tableOf t T))
@@ -65,13 +69,14 @@ numberGood T t S.Origin r x = true
 numberGood T t S.Named r x = namedGood T (r .b) x
 numberGood T t S.Unassigned r x = ltb x (length (T .variables)) && not (any (λ g. eqb (g .a) x) (T .assigned))
 
+-- 4 for one of the three fields; "A record names only earlier records."
 abbrev pub numbersGood : Tables → Shape → Rec → Bool
 numbersGood T s r =
     numberGood T (s .table) (s .a) r (r .a) && (numberGood T (s .table) (s .b) r (r .b) && numberGood T (s .table) (s .c) r (r .c))
 
 -- ---- 5: "origin not allowed in its slot"
 
--- origins: 0 root, 1 solvable, 2 forbid-multiple, 3 requires gate, 4 constrains auxiliary, 5 other
+-- "origin 0 root, 1 solvable, 2 forbid-multiple (a name), 3 requires gate, 4 constrains auxiliary, 5 other"; the slots are those of `kinds`
 abbrev pub allows : Allowed → ℕ → Bool
 allows A.Solvable o = eqb o 1
 allows A.SolvableOrRoot o = leb o 1
@@ -80,6 +85,7 @@ allows A.ForbidMultiple o = eqb o 2
 allows A.Auxiliary o = eqb o 4
 allows A.Any o = true
 
+-- the field x: else 5, "origin not allowed in its slot"
 abbrev pub originGood : Tables → Slot → ℕ → Bool
 originGood T S.Unused x = true
 originGood T S.Own x = true
@@ -89,11 +95,13 @@ originGood T S.Origin x = true
 originGood T S.Named x = true
 originGood T S.Unassigned x = true
 
+-- 5 for one of the three fields: "origin not allowed in its slot"
 abbrev pub originsGood : Tables → Shape → Rec → Bool
 originsGood T s r = originGood T (s .a) (r .a) && (originGood T (s .b) (r .b) && originGood T (s .c) (r .c))
 
 -- ---- one record: the first refusal that fits, or 0
 
+-- "record by record in the table's order": 3, 6 ("the record's table is full"), 4, 5; 0 for a good record
 abbrev pub refusalIn : Tables → Shape → Rec → ℕ
 refusalIn T s r =
     cond (shapeGood s r)
@@ -103,11 +111,12 @@ refusalIn T s r =
 
 -- ---- the whole file
 
+-- what `readOf` gives: the tables, or the number and the place of a refusal
 pub data Reading : Type 0 where
   good : Tables → Reading
   bad : ℕ → ℕ → Reading
 
--- the records from number i on, over the tables of those before
+-- the records from number i on, over the tables of those before: "record by record in the table's order"; 2 is "unknown kind"
 unfoldable pub readFrom : List Rec → ℕ → Tables → Reading
 readFrom [] i T = good T
 readFrom (r ∷ rs) i T =

@@ -24,18 +24,20 @@ pub record Rec : Type 0 where
   -- all 24 bytes
   pub text : List ℕ
 
+-- `u16::from_le_bytes` of the bytes i and i + 1: "16 bits each, little-endian"
 abbrev pub le16 : List ℕ → ℕ → ℕ
 le16 s i = getD s i 0 + 256 * getD s (i + 1) 0
 
--- the record of its 32 bytes
+-- the `Rec` of its 32 bytes
 abbrev pub recOf : List ℕ → Rec
 recOf s = record { kind = getD s 0 0; first = getD s 1 0; a = le16 s 2; b = le16 s 4; c = le16 s 6; text = take 24 (drop 8 s) }
 
--- the first n records of a file
+-- the first n records of a file: "Records of 32 bytes, no header."
 unfoldable pub cut : ℕ → List ℕ → List Rec
 cut zero s = []
 cut (suc n) s = recOf (take 32 s) ∷ cut n (drop 32 s)
 
+-- all records of a file: "Records of 32 bytes, no header."
 abbrev pub recordsOf : List ℕ → List Rec
 recordsOf file = cut (length file / 32) file
 
@@ -51,15 +53,19 @@ limit Variables = 1024
 limit Assigned = 1024
 limit Clauses = 1024
 
+-- a row of `kinds`
 abbrev shape : Table → First → Slot → Slot → Slot → Option Shape
 shape t f x y z = some (record { table = t; first = f; a = x; b = y; c = z })
 
+-- in `kinds`, a variable that stands for a solvable: "17 a, 20 a and b, 21 a, 22 b, 24 a: solvable"
 abbrev solvable : Slot
 solvable = S.Variable A.Solvable
 
+-- "22 a, 23 a: solvable or root."
 abbrev solvableOrRoot : Slot
 solvableOrRoot = S.Variable A.SolvableOrRoot
 
+-- "23 b, 24 b: auxiliary."
 abbrev auxiliary : Slot
 auxiliary = S.Variable A.Auxiliary
 
@@ -87,10 +93,11 @@ kinds =
     ∷ (25, shape Clauses F.Flag (S.Variable A.Any) (S.Variable A.Any) S.Unused)
     ∷ []
 
+-- the row of kind k, if there is one: `Iterator::find` in `kinds`
 abbrev pub rowAt : ℕ → List (ℕ × Option Shape) → Option Shape
 rowAt k [] = none
 rowAt k (x ∷ xs) = elim (eqb k (x .0)) [ true ↦ x .1 | false ↦ rowAt k xs ]
 
--- the shape of a kind, if it is one of the 18
+-- the shape of a kind, if it is one of the 18 of `kinds`
 unfoldable pub shapeOf : ℕ → Option Shape
 shapeOf k = rowAt k kinds

@@ -8,6 +8,7 @@ use Rattle.records.specs.declared.Table.the-variants.{Names, Solvables, 
 use Rattle.records.specs.declared.Counts.{Counts}
 use Rattle.records.specs.Shapes.{Rec}
 
+-- "Tables (limit)": the records of each, in file order; "Clauses, 1,024 in all, numbered from 0 in file order"
 pub record Tables : Type 0 where
   pub names : List Rec
   pub solvables : List Rec
@@ -19,9 +20,11 @@ pub record Tables : Type 0 where
   pub assigned : List Rec
   pub clauses : List Rec
 
+-- what `readOf` begins with
 abbrev pub noTables : Tables
 noTables = record { names = []; solvables = []; versionSets = []; requirements = []; candidates = []; reasons = []; variables = []; assigned = []; clauses = [] }
 
+-- one of the `Tables`
 abbrev pub tableOf : Table → Tables → List Rec
 tableOf Names T = T .names
 tableOf Solvables T = T .solvables
@@ -33,7 +36,7 @@ tableOf Variables T = T .variables
 tableOf Assigned T = T .assigned
 tableOf Clauses T = T .clauses
 
--- one record more
+-- one record more in its table: `Vec::push`
 abbrev pub put : Table → Rec → Tables → Tables
 put Names r T = record { names = snoc (T .names) r; solvables = T .solvables; versionSets = T .versionSets; requirements = T .requirements; candidates = T .candidates; reasons = T .reasons; variables = T .variables; assigned = T .assigned; clauses = T .clauses }
 put Solvables r T = record { names = T .names; solvables = snoc (T .solvables) r; versionSets = T .versionSets; requirements = T .requirements; candidates = T .candidates; reasons = T .reasons; variables = T .variables; assigned = T .assigned; clauses = T .clauses }
@@ -58,9 +61,10 @@ countsOf T = record {
   clauses = length (T .clauses);
 }
 
--- what stands past the end of a table
+-- what `at` gives past the end of a table
 abbrev pub noRec : Rec
 noRec = record { kind = 0; first = 0; a = 0; b = 0; c = 0; text = [] }
 
+-- record i of a table: "Own numbers, and records as places, count up from 0."
 abbrev pub at : List Rec → ℕ → Rec
 at rs i = getD rs i noRec

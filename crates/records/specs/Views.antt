@@ -16,24 +16,31 @@ use Rattle.records.specs.Read.{shown}
 
 -- ---- texts
 
+-- "1 name, a own number, text"
 abbrev pub nameText : Tables → ℕ → List ℕ
 nameText T n = shown (at (T .names) n)
 
+-- "2 solvable, a own, b name, text version"
 abbrev pub solvableName : Tables → ℕ → ℕ
 solvableName T s = at (T .solvables) s .b
 
+-- "2 solvable, a own, b name, text version"
 abbrev pub versionText : Tables → ℕ → List ℕ
 versionText T s = shown (at (T .solvables) s)
 
+-- "3 version set, a own, b name, text"
 abbrev pub setName : Tables → ℕ → ℕ
 setName T v = at (T .versionSets) v .b
 
+-- "3 version set, a own, b name, text"
 abbrev pub setText : Tables → ℕ → List ℕ
 setText T v = shown (at (T .versionSets) v)
 
+-- "4 requirement, a own, text"
 abbrev pub requirementText : Tables → ℕ → List ℕ
 requirementText T q = shown (at (T .requirements) q)
 
+-- "6 reason, a own, text"
 abbrev pub reasonText : Tables → ℕ → List ℕ
 reasonText T r = shown (at (T .reasons) r)
 
@@ -48,12 +55,14 @@ originBy (suc (suc (suc zero))) c = RequiresGate
 originBy (suc (suc (suc (suc zero)))) c = ConstrainsAuxiliary
 originBy (suc (suc (suc (suc (suc o))))) c = Other
 
+-- the origin of variable v: "7 variable, a own, b origin, c what it names"
 unfoldable pub originOf : Tables → ℕ → Origin
 originOf T v = originBy (at (T .variables) v .b) (at (T .variables) v .c)
 
 -- ---- clauses
 
--- a clause record, by its kind; a kind that is no clause's gives Learnt, which no table of clauses holds for it
+-- "16 InstallRoot. 17 Excluded(a variable, b reason). 18 Learnt. 19 Requires(a, b requirement). 20 Lock(a locked, b forbidden). .."
+-- a kind that is no clause's gives Learnt, which no table of clauses holds for it
 unfoldable pub clauseIn : Rec → Clause
 clauseIn r =
     cond (eqb (r .kind) 16) C.InstallRoot
@@ -66,6 +75,7 @@ clauseIn r =
     (cond (eqb (r .kind) 24) (C.ConstrainsExcluded (r .a) (r .b) (r .c))
     (cond (eqb (r .kind) 25) (C.AnyOf (r .a) (r .b)) C.Learnt))))))))
 
+-- the clause with this number: "numbered from 0 in file order"
 unfoldable pub clauseOf : Tables → ℕ → Clause
 unfolding clauseIn
 clauseOf T i = clauseIn (at (T .clauses) i)
@@ -74,6 +84,7 @@ clauseOf T i = clauseIn (at (T .clauses) i)
 abbrev pub inCore : Rec → Bool
 inCore r = eqb (r .first) 1
 
+-- clause i is in the core (`inCore`)
 abbrev pub coreAt : Tables → ℕ → Bool
 coreAt T i = inCore (at (T .clauses) i)
 
@@ -91,6 +102,6 @@ candidatesOf T q = map (λ r. r .b) (filter (λ r. eqb (r .a) q) (T .candidates)
 unfoldable pub gatePartners : Tables → ℕ → List ℕ
 gatePartners T v = map (λ r. r .b) (filter (λ r. inCore r && (eqb (r .kind) 25 && eqb (r .a) v)) (T .clauses))
 
--- the a of the core's clauses of kind 23 (parents) or 24 (candidates) whose b is the auxiliary
+-- the a of the core's clauses of kind 23 (parents) or 24 (candidates) whose b is the auxiliary (conflict.rs, lines 69 to 88)
 unfoldable pub auxPartners : Tables → ℕ → ℕ → List ℕ
 auxPartners T k v = map (λ r. r .a) (filter (λ r. inCore r && (eqb (r .kind) k && eqb (r .b) v)) (T .clauses))

@@ -15,7 +15,7 @@ refusalOf n i = record { number = n; place = i; bytes = 0; replaced = 0; dropped
 abbrev pub doneOf : ℕ → ℕ → ℕ → Salvaged
 doneOf b k d = record { number = 0; place = 0; bytes = b; replaced = k; dropped = d }
 
--- b bytes and k numbers go into n bytes and m numbers
+-- b bytes and k numbers go into n bytes and m numbers; else "10 if either lent place is short"
 abbrev pub fits : ℕ → ℕ → ℕ → ℕ → Bool
 fits b k n m = leb b n && leb k m
 
@@ -29,21 +29,22 @@ abbrev pub roomFor : Salvage → List ℕ → ℕ → List ℕ
 roomFor (refused k i) room m = room
 roomFor (repaired out ls d) room m = cond (fits (length out) (length ls) (length room) m) (out ++ drop (length out) room) room
 
+-- the same for the list: "on any refusal both are as before"
 abbrev pub listFor : Salvage → ℕ → List ℕ → List ℕ
 listFor (refused k i) n list = list
 listFor (repaired out ls d) n list = cond (fits (length out) (length ls) n (length list)) (ls ++ drop (length ls) list) list
 
--- the answer for n bytes of room and m numbers of list
+-- the answer for n bytes of room and m numbers of list (`answerFor`)
 unfoldable pub salvageAnswer : List ℕ → ℕ → ℕ → Salvaged
 unfolding salvageOf
 salvageAnswer file n m = answerFor (salvageOf file) n m
 
--- what becomes of the room, beside m numbers of list
+-- what becomes of the room, beside m numbers of list (`roomFor`)
 unfoldable pub salvageRoom : List ℕ → List ℕ → ℕ → List ℕ
 unfolding salvageOf
 salvageRoom file room m = roomFor (salvageOf file) room m
 
--- what becomes of the list, beside n bytes of room
+-- what becomes of the list, beside n bytes of room (`listFor`)
 unfoldable pub salvageList : List ℕ → ℕ → List ℕ → List ℕ
 unfolding salvageOf
 salvageList file n list = listFor (salvageOf file) n list

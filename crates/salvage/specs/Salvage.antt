@@ -21,6 +21,7 @@ use Rattle.salvage.specs.declared.Verdict.the-variants.{Stays, Replaced,
 abbrev pub coreLearnt : Rec → Bool
 coreLearnt r = eqb (r .kind) 18 && eqb (r .first) 1
 
+-- "replace each clause record": the table of clauses
 abbrev pub isClauses : Table → Bool
 isClauses Names = false
 isClauses Solvables = false
@@ -44,10 +45,11 @@ abbrev pub onOther : ℕ → Table → Verdict
 onOther zero t = Stays t
 onOther (suc n) t = Stops (suc n)
 
+-- a record of a known kind, by `onClause` or by `onOther`
 abbrev pub onKnown : Tables → Shape → Rec → Verdict
 onKnown T s r = cond (isClauses (s .table)) (onClause T s r) (onOther (refusalIn T s r) (s .table))
 
--- the record r over the tables that the repaired records before it fill
+-- "Each record is judged by the tables that the repaired records before it fill"; "In a record: 2 first"
 unfoldable pub verdictOf : Tables → Rec → Verdict
 unfolding shapeOf
 verdictOf T r = elim (shapeOf (r .kind)) [ none ↦ Stops 2 | some s ↦ onKnown T s r ]
@@ -58,11 +60,12 @@ verdictOf T r = elim (shapeOf (r .kind)) [ none ↦ Stops 2 | some s ↦ onKnown
 abbrev pub blank : List ℕ
 blank = 16 ∷ replicate 31 0
 
--- the repaired records and the numbers of those that were replaced, or a refusal with its place
+-- what `mendFrom` gives: the repaired records and the numbers of those that were replaced, or a refusal with its place
 pub data Mended : Type 0 where
   mended : List (List ℕ) → List ℕ → Mended
   halted : ℕ → ℕ → Mended
 
+-- "no byte outside the listed records differs": the record stands as it came
 abbrev pub with-kept : List ℕ → Mended → Mended
 with-kept x (mended ys ls) = mended (x ∷ ys) ls
 with-kept x (halted n i) = halted n i
@@ -72,7 +75,7 @@ abbrev pub with-blank : ℕ → Mended → Mended
 with-blank i (mended ys ls) = mended (blank ∷ ys) (i ∷ ls)
 with-blank i (halted n j) = halted n j
 
--- the records from number i on, over the tables of the repaired ones before: a replaced clause counts as a clause
+-- the records from number i on, over the tables of the repaired ones before: "a replaced clause counts as a clause"
 unfoldable pub mendFrom : List (List ℕ) → ℕ → Tables → Mended
 unfolding verdictOf
 mendFrom [] i T = mended [] []
@@ -90,6 +93,7 @@ pub data Salvage : Type 0 where
   repaired : List ℕ → List ℕ → ℕ → Salvage
   refused : ℕ → ℕ → Salvage
 
+-- what `salvageOf` gives once the records are mended, d bytes being dropped
 abbrev pub finished : ℕ → Mended → Salvage
 finished d (mended ys ls) = repaired (joined ys) ls d
 finished d (halted n i) = refused n i

@@ -8,16 +8,18 @@ use lib.ListN.{take, replicate}
 use lib.Dec.{ltb}
 use Rattle.basis.specs.Lists.{all}
 
--- the 24 counts: done, refusals 1 to 18, nodes, edges, groups, missing nodes, lines; and the greatest depth with the first file
--- that had it, where a file had a depth. Files count from 0
+-- "how many were done, how many got each refusal, and totals of nodes, edges, groups, missing nodes and lines, with the greatest depth and
+-- the first file that had it": 24 counts, refusals 1 to 18 among them, and depth and file where a file had a depth. "Files count from 0."
 pub record Report : Type 0 where
   pub counts : List ℕ
   pub deepest : Option (ℕ × ℕ)
 
+-- `Iterator::sum`
 abbrev pub sum : List ℕ → ℕ
 sum [] = 0
 sum (x ∷ xs) = x + sum xs
 
+-- "each total is the sum": count by count, for `join`
 abbrev pub sums : List ℕ → List ℕ → List ℕ
 sums [] ys = []
 sums (x ∷ xs) [] = []
@@ -44,20 +46,22 @@ deeper n none o = moved n o
 deeper n (some p) none = some p
 deeper n (some p) (some q) = elim (ltb (p .0) (q .0)) [ true ↦ some (q .0, n + q .1) | false ↦ some p ]
 
--- two reports joined, whatever the size of the sums
+-- "a season cut into two reports joined gives the report of the whole": two reports joined, whatever the size of the sums
 unfoldable pub join : Report → Report → Report
 join r s = record { counts = sums (r .counts) (s .counts); deepest = deeper (files r) (r .deepest) (s .deepest) }
 
 -- ---- "Counts are 64-bit."
 
+-- "Counts are 64-bit."
 abbrev pub narrow : ℕ → Bool
 narrow n = ltb n (2 ^ 64)
 
+-- the depth and the file number, for `fits`
 abbrev pub numbers : Option (ℕ × ℕ) → List ℕ
 numbers none = []
 numbers (some p) = p .0 ∷ p .1 ∷ []
 
--- no count passes its width: the 24, the number of files, the depth and the file number
+-- "14 if a count would pass its width": none does, of the 24, the number of files, the depth and the file number
 unfoldable pub fits : Report → Bool
 fits r = all narrow (r .counts) && (narrow (files r) && all narrow (numbers (r .deepest)))
 

@@ -14,7 +14,7 @@ use Rattle.season.specs.Report.{Report, empty, join, fits, joined, orKep
 abbrev pub adds : ℕ → Bool
 adds k = eqb k 0 || (eqb k 10 || eqb k 11)
 
--- a file's own answer and the counts of its graph, as a report of that one file; depth 0 is a depth
+-- "depth 0 is a depth": a file's own answer and the counts of its graph, as a report of that one file; depth 0 is a depth
 unfoldable pub share : Own → Report
 share a =
     record {

@@ -15,18 +15,22 @@ use Rattle.season.specs.Season.{share}
 unfoldable pub deepIn : List ℕ → Option (ℕ × ℕ)
 deepIn ws = elim (eqb (getD ws 26 0) 0) [ true ↦ none | false ↦ some (getD ws 24 0, getD ws 25 0) ]
 
+-- "a report is 27 numbers", read
 unfoldable pub reportOf : List ℕ → Report
 reportOf ws = record { counts = take 24 ws; deepest = deepIn ws }
 
+-- "a report that is written holds 0 or 1 there", with `deepIn` the other way
 abbrev pub named : Option (ℕ × ℕ) → List ℕ
 named none = 0 ∷ 0 ∷ 0 ∷ []
 named (some p) = p .0 ∷ p .1 ∷ 1 ∷ []
 
+-- "a report is 27 numbers", written
 unfoldable pub wordsOf : Report → List ℕ
 wordsOf r = r .counts ++ named (r .deepest)
 
 -- ---- joining two lent reports
 
+-- two lent reports, by `join`
 abbrev pub both : List ℕ → List ℕ → Report
 both ws vs = join (reportOf ws) (reportOf vs)
 
@@ -34,6 +38,7 @@ both ws vs = join (reportOf ws) (reportOf vs)
 unfoldable pub joinBy : {X : Type 0} → List ℕ → List ℕ → X → X → X → X
 joinBy ws vs short wide done = guard (eqb (length ws) 27) short (guard (eqb (length vs) 27) short (guard (fits (both ws vs)) wide done))
 
+-- the number of the answer, by `joinBy`
 abbrev pub joinNumber : List ℕ → List ℕ → ℕ
 joinNumber ws vs = joinBy ws vs 10 14 0
 
@@ -41,6 +46,6 @@ joinNumber ws vs = joinBy ws vs 10 14 0
 abbrev pub joinWords : List ℕ → List ℕ → List ℕ
 joinWords ws vs = joinBy ws vs ws ws (wordsOf (both ws vs))
 
--- one file joined to a report
+-- what one file adds, by `share`, as a lent report
 abbrev pub shareWords : Own → List ℕ
 shareWords a = wordsOf (share a)

@@ -13,7 +13,7 @@ unfoldable pub recordOf : ℕ → ℕ → List ℕ
 recordOf s c =
     (lowest s c % 256) ∷ (s % 256) ∷ (c % 256) ∷ (c / 256 % 256) ∷ 0 ∷ 0 ∷ 0 ∷ 0 ∷ 0 ∷ 0 ∷ 0 ∷ 0 ∷ 0 ∷ 0 ∷ 0 ∷ 0 ∷ []
 
--- the file in the room
+-- "the first `used` bytes of the room are the file"
 unfoldable pub fileIn : List ℕ → ℕ → List ℕ
 fileIn room used = take used room
 
@@ -29,6 +29,7 @@ changeBy bad on room used v s c =
     (guard (leb (used + 16) 4096) (bad 10 0)
     (guard (leb (used + 16) (length room)) (bad 10 0) on))))))
 
+-- `changeOf` on a refusal: number and place
 abbrev pub refusal : ℕ → ℕ → Change
 refusal k p = record { number = k; place = p; bytes = 0; units = 0 }
 
@@ -36,10 +37,11 @@ refusal k p = record { number = k; place = p; bytes = 0; units = 0 }
 abbrev pub done : Change
 done = record { number = 0; place = 0; bytes = 16; units = 1 }
 
+-- the answer (`changeBy`)
 unfoldable pub changeOf : List ℕ → ℕ → ℕ → ℕ → ℕ → Change
 changeOf room used v s c = changeBy refusal done room used v s c
 
--- the room with the record behind the file
+-- the room with the record behind the file: "Changing a setting appends one record"
 unfoldable pub appended : List ℕ → ℕ → ℕ → ℕ → List ℕ
 appended room used s c = fileIn room used ++ (recordOf s c ++ drop (used + 16) room)
 

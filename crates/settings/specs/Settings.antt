@@ -11,13 +11,14 @@ use Rattle.settings.specs.declared.Settings.{Settings}
 
 -- ---- the versions
 
--- what a version adds to those before it: a setting, and the contents from low to high that it may have
+-- a row of `table`: what a version adds to those before it: a setting, and the contents from low to high that it may have
 pub record Row : Type 0 where
   pub version : ℕ
   pub setting : ℕ
   pub low : ℕ
   pub high : ℕ
 
+-- a `Row`
 abbrev pub row : ℕ → ℕ → ℕ → ℕ → Row
 row v s l h = record { version = v; setting = s; low = l; high = h }
 
@@ -26,11 +27,11 @@ row v s l h = record { version = v; setting = s; low = l; high = h }
 abbrev pub table : List Row
 table = row 1 1 0 1 ∷ row 1 2 0 1 ∷ row 2 3 1 2 ∷ []
 
--- s is the setting n, and c is among the contents from l to h
+-- s is the setting n, and c is among the contents from l to h: a row of `table` taken apart
 unfoldable pub fits : ℕ → ℕ → ℕ → ℕ → ℕ → Bool
 fits s c n l h = guard (eqb s n) false (guard (leb l c) false (leb c h))
 
--- the row has the setting s, with c among its contents
+-- the row of `table` has the setting s, with c among its contents
 abbrev pub fitsRow : ℕ → ℕ → Row → Bool
 fitsRow s c r = fits s c (r .setting) (r .low) (r .high)
 
@@ -39,18 +40,20 @@ unfoldable pub lowestIn : List Row → ℕ → ℕ → ℕ
 lowestIn [] s c = 0
 lowestIn (r ∷ rs) s c = cond (fitsRow s c r) (r .version) (lowestIn rs s c)
 
+-- "the lowest version that knows it" (`lowestIn`)
 unfoldable pub lowest : ℕ → ℕ → ℕ
 lowest s c = lowestIn table s c
 
--- a version knows what it adds and what those before it know
+-- "version 2 adds": a version knows what it adds and what those before it know
 abbrev pub knowsRow : ℕ → ℕ → ℕ → Row → Bool
 knowsRow v s c r = leb (r .version) v && fitsRow s c r
 
--- a record of version v may set s to c
+-- a record of version v may set s to c: "A version 2 record may hold any of the three settings; a
+-- version 1 record with an edition is 3"
 unfoldable pub knows : ℕ → ℕ → ℕ → Bool
 knows v s c = any (knowsRow v s c) table
 
--- the greatest version of the table
+-- the greatest version of the table: "`version` is the reader's: 1 or 2, else 12"
 unfoldable pub newestIn : List Row → ℕ
 newestIn [] = 0
 newestIn (r ∷ rs) = cond (leb (r .version) (newestIn rs)) (newestIn rs) (r .version)
@@ -64,17 +67,20 @@ pub record Entry : Type 0 where
   pub content : ℕ
   pub rest : List ℕ
 
+-- an `Entry`
 abbrev pub entryOf : List ℕ → Entry
 entryOf s = record { version = getD s 0 0; setting = getD s 1 0; content = getD s 2 0 + 256 * getD s 3 0; rest = drop 4 s }
 
--- the first n records of a file
+-- the first n records of a file: "a file of 16-byte records without a header"
 unfoldable pub cut : ℕ → List ℕ → List Entry
 cut zero s = []
 cut (suc n) s = entryOf (take 16 s) ∷ cut n (drop 16 s)
 
+-- all records of a file: "a file of 16-byte records without a header"
 abbrev pub entriesOf : List ℕ → List Entry
 entriesOf file = cut (length file / 16) file
 
+-- "the rest zero"
 unfoldable pub zeros : List ℕ → Bool
 zeros s = all (eqb 0) s
 
@@ -94,17 +100,18 @@ judged reader e =
 abbrev pub defaults : Settings
 defaults = record { number = 0; place = 0; indent = 1; simplify = 1; edition = 1 }
 
--- a refusal has three zeros for the settings
+-- "On a refusal the three settings are 0."
 abbrev pub refused : ℕ → ℕ → Settings
 refused k i = record { number = k; place = i; indent = 0; simplify = 0; edition = 0 }
 
--- the settings with s set to c
+-- the settings with s set to c: "The last record for a setting counts"
 abbrev pub putBy : ℕ → ℕ → Settings → Settings
 putBy s c x =
     cond (eqb s 1) (record { number = x .number; place = x .place; indent = c; simplify = x .simplify; edition = x .edition })
     (cond (eqb s 2) (record { number = x .number; place = x .place; indent = x .indent; simplify = c; edition = x .edition })
     (cond (eqb s 3) (record { number = x .number; place = x .place; indent = x .indent; simplify = x .simplify; edition = c }) x))
 
+-- the settings with s set to c (`putBy`)
 unfoldable pub put : ℕ → ℕ → Settings → Settings
 put s c x = putBy s c x
 

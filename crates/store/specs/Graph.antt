@@ -21,6 +21,7 @@ pub record Graph : Type 0 where
   pub firsts : List ℕ
   pub hand : ℕ
 
+-- conflict.rs, `ConflictNode`: its `==`
 abbrev pub sameNode : ConflictNode → ConflictNode → Bool
 sameNode N.Root N.Root = true
 sameNode N.Root (N.Solvable t) = false
@@ -43,20 +44,22 @@ sameNode (N.Excluded s) (N.Excluded t) = eqb s t
 abbrev pub startGraph : Graph
 startGraph = record { nodes = N.Root ∷ N.UnresolvedDependency ∷ []; edges = []; firsts = 65535 ∷ 65535 ∷ []; hand = 65535 }
 
--- the graph with clause i at hand
+-- the graph with clause i at hand, as `handed` gives it
 abbrev pub handing : ℕ → Graph → Graph
 handing i g = record { nodes = g .nodes; edges = g .edges; firsts = g .firsts; hand = i }
 
--- one more node, which the clause at hand adds first; one more edge
+-- one more node, which the clause at hand adds first: "per node, the clause that first added it"
 abbrev pub withNode : Graph → ConflictNode → Graph
 withNode g x = record { nodes = snoc (g .nodes) x; edges = g .edges; firsts = snoc (g .firsts) (g .hand); hand = g .hand }
 
+-- conflict.rs, `add_edge`: one more edge, behind the older ones
 abbrev pub withEdge : Graph → Edge → Graph
 withEdge g e = record { nodes = g .nodes; edges = snoc (g .edges) e; firsts = g .firsts; hand = g .hand }
 
 -- ---- adding: 8 where "node 129 or edge 1,025 would be added"
 
--- how adding went: the number of the node, and the graph with it; or no room, and the graph as far as it came
+-- how adding went: the number of the node, and the graph with it; or 8, "node 129 or edge 1,025 would be added", and the graph as
+-- far as it came
 pub data Added : Type 0 where
   added : ℕ → Graph → Added
   full : Graph → Added
@@ -69,11 +72,12 @@ addNode g x =
       | none ↦ cond (ltb (length (g .nodes)) 128) (added (length (g .nodes)) (withNode g x)) (full g)
     ]
 
+-- conflict.rs, `add_edge`; no room for "edge 1,025"
 unfoldable pub addEdge : Graph → Edge → Added
 addEdge g e =
     cond (ltb (length (g .edges)) 1024) (added (length (g .edges)) (withEdge g e)) (full g)
 
--- both ends, the source first, then the edge, which keeps the clause at hand
+-- both ends, the source first, then the edge, which keeps the clause at hand (conflict.rs, lines 206 and 220 to 226)
 unfoldable pub addLink : Graph → ConflictNode → ConflictNode → ConflictEdge → Added
 unfolding addNode addEdge
 addLink g x y w =
@@ -86,22 +90,27 @@ addLink g x y w =
 -- conflict.rs leaves this to petgraph's `remove_node`; no edge goes with it, since none starts at unresolved, and edges keep their order.
 -- A node takes the clause that first added it along, and an edge keeps its own
 
+-- "the last node takes number 1"
 abbrev pub renumber : ℕ → ℕ → ℕ
 renumber last x = cond (eqb x last) 1 x
 
+-- both ends of an edge: "the last node takes number 1"
 abbrev pub renumberEdge : ℕ → Edge → Edge
 renumberEdge last e = record { source = renumber last (e .source); target = renumber last (e .target); weight = e .weight; clause = e .clause }
 
+-- `slice::last`, as a list of one or of none
 abbrev pub lastOf : {A : Type 0} → List A → List A
 lastOf [] = []
 lastOf (x ∷ []) = x ∷ []
 lastOf (x ∷ y ∷ r) = lastOf (y ∷ r)
 
+-- `slice::split_last`: all but the last
 abbrev pub front : {A : Type 0} → List A → List A
 front [] = []
 front (x ∷ []) = []
 front (x ∷ y ∷ r) = x ∷ front (y ∷ r)
 
+-- "If unresolved has no incoming edge it is removed, and the last node takes number 1." (conflict.rs, lines 354 to 363)
 unfoldable pub settle : Graph → Graph
 settle g =
     cond (any (λ e. eqb (e .target) 1) (g .edges)) g
@@ -114,40 +123,47 @@ settle g =
 
 -- ---- looking at a graph: "Outgoing and incoming edges are read newest first."
 
+-- "Outgoing and incoming edges are read newest first."
 unfoldable pub out : Graph → ℕ → List Edge
 out g n = filter (λ e. eqb (e .source) n) (reverse (g .edges))
 
+-- "Outgoing and incoming edges are read newest first."
 unfoldable pub into : Graph → ℕ → List Edge
 into g n = filter (λ e. eqb (e .target) n) (reverse (g .edges))
 
+-- the node with this number: "Root is node 0, unresolved node 1, others as first added."
 abbrev pub nodeAt : Graph → ℕ → ConflictNode
 nodeAt g n = getD (g .nodes) n N.Root
 
--- the clause that first added node n
+-- of node n, "the clause that first added it"
 abbrev pub firstAt : Graph → ℕ → ℕ
 firstAt g n = getD (g .firsts) n 65535
 
+-- conflict.rs, `ConflictNode::Solvable`
 abbrev pub isSolvable : ConflictNode → Bool
 isSolvable N.Root = false
 isSolvable (N.Solvable s) = true
 isSolvable N.UnresolvedDependency = false
 isSolvable (N.Excluded r) = false
 
+-- conflict.rs, `ConflictNode::UnresolvedDependency`
 abbrev pub isUnresolved : ConflictNode → Bool
 isUnresolved N.Root = false
 isUnresolved (N.Solvable s) = false
 isUnresolved N.UnresolvedDependency = true
 isUnresolved (N.Excluded r) = false
 
+-- conflict.rs, `ConflictEdge::Conflict`
 abbrev pub isConflict : ConflictEdge → Bool
 isConflict (W.Requires q) = false
 isConflict (W.Conflict c) = true
 
--- "(requirement, or none for a conflict)": 0 for none, else 1 + the requirement's number (conflict.rs: `try_requires`)
+-- "(requirement, or none for a conflict; other end)": 0 for none, else 1 + the requirement's number (conflict.rs: `try_requires`)
 abbrev pub tryRequires : ConflictEdge → ℕ
 tryRequires (W.Requires q) = suc q
 tryRequires (W.Conflict c) = 0
 
+-- conflict.rs, `ConflictCause::Excluded`
 abbrev pub isExcluded : ConflictEdge → Bool
 isExcluded (W.Requires q) = false
 isExcluded (W.Conflict (C.Locked s)) = false
@@ -157,20 +173,21 @@ isExcluded (W.Conflict C.Excluded) = true
 
 -- ---- 9: "a node not reached from the root"
 
--- the nodes seen so far, and those that an edge leads to from one of them
+-- one step of `Bfs` (conflict.rs, line 368): the nodes seen so far, and those that an edge leads to from one of them
 abbrev pub spread : Graph → List ℕ → List ℕ
 spread g seen = filter (λ n. has n seen || any (λ e. eqb (e .target) n && has (e .source) seen) (g .edges)) (upto (length (g .nodes)) 0)
 
--- until nothing is added: as many rounds as there are nodes are enough
+-- `Bfs` (conflict.rs, lines 367 to 370) until nothing is added: as many rounds as there are nodes are enough
 abbrev pub rounds : ℕ → Graph → List ℕ → List ℕ
 rounds zero g seen = seen
 rounds (suc k) g seen =
     let more = spread g seen in elim (eqb (length more) (length seen)) [ true ↦ seen | false ↦ rounds k g more ]
 
+-- 9: "reached from the root"
 unfoldable pub reached : Graph → List ℕ
 reached g = rounds (length (g .nodes)) g (0 ∷ [])
 
--- the lowest node that is not reached
+-- "lowest such node": that is not reached
 unfoldable pub unreached : Graph → Option ℕ
 unfolding reached
 unreached g = let seen = reached g in first (λ n. not (has n seen)) (upto (length (g .nodes)) 0)

@@ -78,7 +78,7 @@ edgeOf w = record { source = w % 256; target = w / 256 % 256; weight = weightOf 
 
 -- ---- the round trip of a node
 
--- the number that a node names fits 16 bits, as its type says
+-- "kind and number as in `ConflictNode`, 0 where it has none": the number, which fits 16 bits, as its type says
 abbrev pub nodeNumber : ConflictNode → ℕ
 nodeNumber N.Root = 0
 nodeNumber (N.Solvable s) = s

@@ -9,6 +9,7 @@ use Rattle.basis.specs.Lists.{concatMap}
 unfoldable pub escaped : ℕ → List ℕ
 escaped c = cond (eqb c 34) (92 ∷ 34 ∷ []) (c ∷ [])
 
+-- a text, each byte `escaped`
 unfoldable pub quoted : List ℕ → List ℕ
 unfolding escaped
 quoted cs = concatMap escaped cs

@@ -18,6 +18,7 @@ use Rattle.strokes.specs.Quoted.{quoted}
 unfoldable pub solvableText : Tables → ℕ → List ℕ
 solvableText T s = nameText T (solvableName T s) ++ utf8 " " ++ versionText T s
 
+-- the text of an excluded node (conflict.rs, line 592)
 unfoldable pub excludedText : Tables → ℕ → List ℕ
 excludedText T r = utf8 "reason: " ++ reasonText T r
 
@@ -29,6 +30,7 @@ nodeText T (N.Solvable s) = solvableText T s
 nodeText T N.UnresolvedDependency = utf8 "unresolved"
 nodeText T (N.Excluded r) = excludedText T r
 
+-- the label of an edge (conflict.rs, lines 557 to 569)
 unfoldable pub label : Tables → ConflictEdge → List ℕ
 label T (W.Requires q) = requirementText T q
 label T (W.Conflict (K.Locked s)) = utf8 "already installed"
@@ -36,14 +38,16 @@ label T (W.Conflict (K.Constrains v)) = setText T v
 label T (W.Conflict K.ForbidMultipleInstances) = utf8 "already installed"
 label T (W.Conflict K.Excluded) = utf8 "excluded"
 
--- black for a requirement that has a candidate, else red
+-- black for a requirement that has a candidate, else red (conflict.rs, lines 550 to 555)
 unfoldable pub isRed : ConflictEdge → ConflictNode → Bool
 isRed (W.Requires q) x = isUnresolved x
 isRed (W.Conflict c) x = true
 
+-- the colour's name (conflict.rs, lines 552 and 554)
 abbrev pub colour : Bool → List ℕ
 colour red = cond red (utf8 "red") (utf8 "black")
 
+-- what stands between target and label (conflict.rs, line 598)
 unfoldable pub paint : Bool → List ℕ
 paint red = utf8 "\"[color=" ++ colour red ++ utf8 ", label=\""
 

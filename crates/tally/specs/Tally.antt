@@ -17,11 +17,12 @@ use Rattle.groups.specs.Groups.{groups}
 use Rattle.plan.specs.Fields.{mergedIn, leadIn}
 use Rattle.tally.specs.declared.Counts.{Counts}
 
--- the nodes that are labelled missing
+-- "missing nodes": those that are labelled so
 unfoldable pub missingNodes : Graph → List ℕ
 unfolding missings
 missingNodes G = filter (missing G) (upto (length (G .nodes)) 0)
 
+-- "totals of nodes, edges, groups, missing nodes"
 unfoldable pub countsOf : Tables → Graph → Counts
 unfolding groups missingNodes
 countsOf T G =
@@ -32,18 +33,21 @@ countsOf T G =
       missing = length (missingNodes G);
     }
 
+-- "A file refused with 1 to 9 or 12 adds nothing but its refusal"
 abbrev pub noCounts : Counts
 noCounts = record { nodes = 0; edges = 0; groups = 0; missing = 0 }
 
--- a file that is refused with 1 to 9 has no graph
+-- `fileCounts` of a file that is read: 7 to 9 add nothing
 abbrev pub countsDrawn : Tables → Outcome → Counts
 countsDrawn T (drawn G) = countsOf T G
 countsDrawn T (refused k p) = noCounts
 
+-- `fileCounts`, by what reading says: 1 to 6 add nothing
 abbrev pub countsRead : Reading → Counts
 countsRead (bad k p) = noCounts
 countsRead (good T) = countsDrawn T (graphOf T)
 
+-- "its graph counts"
 unfoldable pub fileCounts : List ℕ → Counts
 unfolding readOf graphOf countsOf
 fileCounts file = countsRead (readOf file)

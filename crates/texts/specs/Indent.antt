@@ -9,12 +9,12 @@ use lib.ListN.{length, length-append}
 use lib.Dec.{eqb}
 use Rattle.basis.specs.Quote.{utf8}
 
--- the tree prefix and its space, where `is_at_deepest_level`
+-- the tree prefix and its space, where `is_at_deepest_level` (lines 824, 825 and 833)
 unfoldable pub deepest : Bool → List ℕ
 deepest true = utf8 "└─ "
 deepest false = utf8 "├─ "
 
--- the same at the levels above
+-- the same at the levels above (lines 826, 827 and 833)
 unfoldable pub older : Bool → List ℕ
 older true = utf8 "   "
 older false = utf8 "│  "
@@ -25,7 +25,7 @@ unlessTop true ms t = t
 unlessTop false [] t = []
 unlessTop false (m ∷ ms) t = t
 
--- the levels above a line's own, and what comes behind them
+-- the levels above a line's own, and what comes behind them (`get_indent`, lines 815 to 834)
 unfoldable pub above : Bool → List Bool → List ℕ → List ℕ
 unfolding older
 above top [] rest = rest

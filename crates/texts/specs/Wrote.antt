@@ -8,7 +8,7 @@ use lib.ListN.{length, take, drop, length-append, length-drop}
 use lib.Seq.{take-length, drop-length, take-append-seam, drop-append-seam, drop-drop}
 use borrow.Rule.Slice.PartMut.{putMid}
 
--- the text at the start of the room, and the room's old bytes behind it
+-- the text at the start of the room, and the room's old bytes behind it: "lent bytes past those written stay"
 abbrev pub over : List ℕ → List ℕ → List ℕ
 over text room = text ++ drop (length text) room
 

@@ -18,14 +18,17 @@ use Rattle.store.specs.Graph.{sameNode}
 use Rattle.store.specs.declared.ConflictNode.the-variants as N
 use Rattle.store.specs.Words.{wordOf, nodeOf, nodeNumber, NodeWord, node-back, same-true, same-refl, word-root, word-solvable, word-unresolved, word-excluded}
 
+-- "(parent, candidate, version set of the clause at hand)" (conflict.rs, `ConstrainsEdge`)
 pub record Triple : Type 0 where
   pub parent : ConflictNode
   pub candidate : ConflictNode
   pub vset : ℕ
 
+-- a `Triple`
 abbrev pub triple : ConflictNode → ConflictNode → ℕ → Triple
 triple p d v = record { parent = p; candidate = d; vset = v }
 
+-- "Each triple .. makes one edge": the same in all three (conflict.rs, `ConstrainsEdge`)
 abbrev pub sameTriple : Triple → Triple → Bool
 sameTriple s t = sameNode (s .parent) (t .parent) && (sameNode (s .candidate) (t .candidate) && eqb (s .vset) (t .vset))
 

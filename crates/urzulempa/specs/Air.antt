@@ -16,24 +16,29 @@ use Rattle.urzulempa.specs.Says.{Says, says-one}
 
 -- ---- which of 15, 16 and 17 is given: "tested in that order after 9". Passed where none is, or where 12 or one of 1 to 9 comes first
 
+-- "tested in that order after 9": 7 to 9 come first
 abbrev pub airBuilt : Tables → Outcome → Profile
 airBuilt T (refused k p) = Passed
 airBuilt T (drawn G) = profileOf T G
 
+-- "12, 1 to 9 as ever, then 15": 1 to 6 come first
 abbrev pub airRead : Reading → Profile
 airRead (bad k p) = Passed
 airRead (good T) = airBuilt T (graphOf T)
 
+-- "12, 1 to 9 as ever, then 15": 12 comes first
 unfoldable pub airOf : List ℕ → ℕ → Profile
 unfolding readOf graphOf profileOf
 airOf file opt = cond (leb opt 1) (airRead (readOf file)) Passed
 
 -- ---- "Everything else answers as in document 01": a refusal of the profile, which writes nothing, or the explanation by edition 1
 
+-- "Everything else answers as in document 01."; 15 to 17 write nothing
 abbrev pub SaysBy : Profile → List ℕ → ℕ → List ℕ → List ℕ → Answer → Type 0
 SaysBy Passed file opt out left r = Says 1 file opt out left r
 SaysBy (Refused k p) file opt out left r = (r ≡ refusalOf k p) × (left ≡ out)
 
+-- what the call says: `SaysBy` what the profile is
 pub record SaysAir (file : List ℕ) (opt : ℕ) (out left : List ℕ) (r : Answer) : Type 0 where
   pub says : SaysBy (airOf file opt) file opt out left r
 

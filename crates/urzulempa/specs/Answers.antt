@@ -14,6 +14,7 @@ use Rattle.urzulempa.specs.declared.Answer.{Answer}
 abbrev pub refusalOf : ℕ → ℕ → Answer
 refusalOf k p = record { number = k; place = p; bytes = 0; units = 0; depth = 0 }
 
+-- 7 to 9, or "0 means done, place 0."
 abbrev pub outcomeAnswer : Outcome → Answer
 outcomeAnswer (drawn G) = refusalOf 0 0
 outcomeAnswer (refused k p) = refusalOf k p
@@ -23,6 +24,7 @@ abbrev pub checkBy : Reading → Answer
 checkBy (bad k p) = refusalOf k p
 checkBy (good T) = outcomeAnswer (graphOf T)
 
+-- from the file's bytes (`checkBy`)
 unfoldable pub checkOf : List ℕ → Answer
 checkOf file = checkBy (readOf file)
 

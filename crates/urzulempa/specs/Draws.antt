@@ -32,16 +32,17 @@ use Rattle.urzulempa.specs.Answers.{refusalOf}
 
 -- ---- what is right
 
--- a refusal writes nothing, in the explanation and here
+-- 7 to 9 write nothing: "the last three are 0 for 1 to 9 and 12"
 abbrev pub drawBy : ℕ → ℕ → Tables → Outcome → Result
 drawBy opt room T (refused k p) = refusal k p
 drawBy opt room T (drawn G) = drawShown (drawnOf opt T G) room
 
+-- 1 to 6 write nothing: "the last three are 0 for 1 to 9 and 12"
 abbrev drawRead : ℕ → ℕ → Reading → Result
 drawRead opt room (bad k p) = refusal k p
 drawRead opt room (good T) = drawBy opt room T (graphOf T)
 
--- once the option is known to be 0 or 1
+-- once the option is known to be 0 or 1, in `drawFile`
 unfoldable pub drawBytes : ℕ → ℕ → List ℕ → Result
 drawBytes opt room file = drawRead opt room (readOf file)
 
@@ -50,7 +51,7 @@ unfoldable pub drawFile : List ℕ → ℕ → ℕ → Result
 unfolding drawBytes
 drawFile file opt room = cond (leb opt 1) (drawBytes opt room file) (refusal 12 0)
 
--- the answer: all of the result but the text
+-- "An answer holds number, place, bytes, units, depth": all of the result but the text
 abbrev pub resultAnswer : Result → Answer
 resultAnswer r = record { number = r .number; place = r .place; bytes = r .bytes; units = r .units; depth = r .depth }
 

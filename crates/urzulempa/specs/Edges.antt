@@ -19,6 +19,7 @@ listedAnswer n = record { number = 0; place = 0; bytes = 10 * n; units = 1; dept
 abbrev pub edgesIn : Graph → ℕ → Answer
 edgesIn G len = cond (ltb len (5 * length (G .edges))) (refusalOf 10 0) (listedAnswer (length (G .edges)))
 
+-- "Fewer than 5 × edges: 10, place 0, nothing changed."
 abbrev pub edgesInto : Graph → List ℕ → List ℕ
 edgesInto G l = cond (ltb (length l) (5 * length (G .edges))) l (edgesOver G l)
 
@@ -27,16 +28,17 @@ abbrev pub edgesBy : Outcome → ℕ → Answer
 edgesBy (refused k p) len = refusalOf k p
 edgesBy (drawn G) len = edgesIn G len
 
+-- "Refusals change nothing that was lent"
 abbrev pub leavesBy : Outcome → List ℕ → List ℕ
 leavesBy (refused k p) l = l
 leavesBy (drawn G) l = edgesInto G l
 
--- the answer for a list of `len` numbers
+-- the answer for a list of `len` numbers (`edgesBy`)
 unfoldable pub edgesAnswer : List ℕ → ℕ → Answer
 unfolding outcomeOf
 edgesAnswer file len = edgesBy (outcomeOf file) len
 
--- what becomes of the list l
+-- what becomes of the list l (`leavesBy`)
 unfoldable pub edgesLeft : List ℕ → List ℕ → List ℕ
 unfolding outcomeOf
 edgesLeft file l = leavesBy (outcomeOf file) l

@@ -23,7 +23,7 @@ abbrev pub nodesBy : Nodes → ℕ → Answer
 nodesBy (denied k p) len = refusalOf k p
 nodesBy (entered es) len = cond (ltb len (length es)) (refusalOf 10 0) (record { number = 0; place = 0; bytes = 0; units = 1; depth = 0 })
 
--- the answer for a list of `len` entries
+-- the answer for a list of `len` entries (`nodesBy`)
 unfoldable pub nodesAnswer : List ℕ → ℕ → Answer
 unfolding nodesOf
 nodesAnswer file len = nodesBy (nodesOf file) len
@@ -32,7 +32,7 @@ nodesAnswer file len = nodesBy (nodesOf file) len
 abbrev pub listOver : List NodeEntry → List NodeEntry → List NodeEntry
 listOver es l = es ++ drop (length es) l
 
--- what becomes of the list l: its first entries are the nodes' where the answer is done, else none changes
+-- what becomes of the list l: its first entries are the nodes' where the answer is done, else none changes (`listOver`, `listedBy`)
 unfoldable pub nodesLeft : List ℕ → List NodeEntry → List NodeEntry
 unfolding nodesOf
 nodesLeft file l = listOver (listedBy (nodesOf file) (length l)) l

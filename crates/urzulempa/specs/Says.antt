@@ -48,7 +48,7 @@ use Rattle.drawing.specs.Same.{optionOf}
 use Rattle.urzulempa.specs.declared.Answer.{Answer}
 use Rattle.urzulempa.specs.Answers.{refusalOf}
 
--- an answer with the text that it counts
+-- an answer with the text that it counts: "An answer holds number, place, bytes, units, depth"
 abbrev pub resultBy : Answer → List ℕ → Result
 resultBy r t = record { number = r .number; place = r .place; bytes = r .bytes; units = r .units; depth = r .depth; text = t }
 

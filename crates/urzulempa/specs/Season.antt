@@ -15,7 +15,7 @@ use Rattle.urzulempa.specs.Says.{Says, says-one}
 
 -- ---- two reports joined
 
--- done, 10 or 14, and no more
+-- done, 10 or 14 by `joinNumber`, and no more
 abbrev pub joinAnswer : List ℕ → List ℕ → Answer
 joinAnswer ws vs = refusalOf (joinNumber ws vs) 0
 
@@ -40,19 +40,20 @@ pub record Enters (ws : List ℕ) (a : Answer) (c : Counts) (vs : List ℕ) (r :
   pub answer : r ≡ joinBy ws (shareWords (ownOf a c)) (refusalOf 10 0) (refusalOf 14 0) a
   pub report : vs ≡ joinWords ws (shareWords (ownOf a c))
 
--- the file is explained into the room, and its own answer is added with the counts of its graph. The room is as the explanation leaves it,
--- where the answer is 14 as well
+-- "explains one file into the room as `urzulempa_explain_edition` does and adds it"; "the room as the explanation leaves it", where the answer is
+-- 14 as well
 pub record Entered (e : ℕ) (file : List ℕ) (opt : ℕ) (ws vs out left : List ℕ) (r : Answer) : Type 0 where
   pub own : Answer
   pub says : Says e file opt out left own
   pub enters : Enters ws own (fileCounts file) vs r
 
--- whether the report is 27 words: one of another length gets 10 before all others, and nothing is changed and nothing explained
+-- "A report of another length than 27: 10, place 0, nothing changed, nothing explained."
 abbrev pub AddsBy : Bool → ℕ → List ℕ → ℕ → List ℕ → List ℕ → List ℕ → List ℕ → Answer → Type 0
 AddsBy true e file opt ws vs out left r = Entered e file opt ws vs out left r
 AddsBy false e file opt ws vs out left r = (r ≡ refusalOf 10 0) × (vs ≡ ws) × (left ≡ out)
 
--- one call: ws is the report before and vs the report after, out the room before and left the room after
+-- "explains one file into the room .. and adds it": ws is the report before and vs the report after, out the room before and left the room
+-- after
 pub record Adds (e : ℕ) (file : List ℕ) (opt : ℕ) (ws vs out left : List ℕ) (r : Answer) : Type 0 where
   pub by : AddsBy (eqb (length ws) 27) e file opt ws vs out left r
 

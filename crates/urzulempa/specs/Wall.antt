@@ -8,14 +8,16 @@ use Rattle.machine.specs.Units.{Result}
 use Rattle.explanation.specs.Explain.{refusal}
 use Rattle.exporting.specs.Export.{exportShown}
 
--- a refusal writes nothing
+-- 7 to 9: "Refusals change nothing that was lent"
 abbrev pub exportBy : ℕ → Tables → Outcome → Result
 exportBy room T (refused k p) = refusal k p
 exportBy room T (drawn G) = exportShown T G room
 
+-- 1 to 6: "Refusals change nothing that was lent"
 abbrev pub exportRead : ℕ → Reading → Result
 exportRead room (bad k p) = refusal k p
 exportRead room (good T) = exportBy room T (graphOf T)
 
+-- from the file's bytes (`exportRead`)
 unfoldable pub exportFile : List ℕ → ℕ → Result
 exportFile file room = exportRead room (readOf file)

@@ -31,23 +31,25 @@ use Rattle.urzulempa.specs.Says.{resultBy}
 
 -- ---- the node list then
 
--- the answer for a list of `len` entries: the file's 1 to 9, then 4, 8 and 17, then 10 as `urzulempa_nodes` gives it
+-- the answer for a list of `len` entries: "the file's 1 to 9, then 4, 8, 17"; "The list too short: 10, place 0."
 unfoldable pub whatIfAnswer : List ℕ → ℕ → ℕ → ℕ → Answer
 unfolding askedNodes
 whatIfAnswer file s r len = nodesBy (askedNodes file s r) len
 
 -- what becomes of the list l: its first entries are those of the nodes asked for where the answer is done, else none changes
+-- (`listOver`, `listedBy`)
 unfoldable pub whatIfLeft : List ℕ → ℕ → ℕ → List NodeEntry → List NodeEntry
 unfolding askedNodes
 whatIfLeft file s r l = listOver (listedBy (askedNodes file s r) (length l)) l
 
 -- ---- the text then
 
--- what is shown, by document 01's rules (edition 1), of the graph that the question gave, if n turns are enough
+-- "the text is `fmt_graph`'s of it", by document 01's rules (edition 1), if n turns are enough
 abbrev pub explainOutcome : ℕ → Tables → Outcome → ℕ → ℕ → Option Result
 explainOutcome n T (refused k p) opt room = some (refusal k p)
 explainOutcome n T (drawn G) opt room = explainShown 1 n (shownOf T G) opt room
 
+-- "with that file's refusals first"
 abbrev pub explainRead : ℕ → ℕ → ℕ → ℕ → ℕ → Reading → Option Result
 explainRead n s r opt room (bad k p) = some (refusal k p)
 explainRead n s r opt room (good T) = explainOutcome n T (askTables T s r) opt room

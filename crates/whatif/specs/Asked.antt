@@ -19,7 +19,7 @@ use Rattle.cycles.specs.Cycles.{onCycle, cycleOf}
 
 -- ---- the graph asked for: at most one node and one edge behind the others
 
--- x is one of the nodes
+-- x is one of the nodes: "A reason that already has a node uses it"
 abbrev pub hasNode : List ConflictNode → ConflictNode → Bool
 hasNode ns x = any (sameNode x) ns
 
@@ -27,11 +27,11 @@ hasNode ns x = any (sameNode x) ns
 abbrev pub withNode : List ConflictNode → ConflictNode → List ConflictNode
 withNode ns x = elim (hasNode ns x) [ true ↦ ns | false ↦ snoc ns x ]
 
--- the clause that first added it is the new one, c
+-- "the new node's clause is the number of clauses", which is c
 abbrev pub withFirst : List ConflictNode → ConflictNode → List ℕ → ℕ → List ℕ
 withFirst ns x fs c = elim (hasNode ns x) [ true ↦ fs | false ↦ snoc fs c ]
 
--- from the chosen package, the solvable s, to the excluded node of reason r, made by clause c
+-- from the chosen package, the solvable s, to the excluded node of reason r, made by clause c: "one edge, the newest"
 abbrev pub newEdge : List ConflictNode → ℕ → ℕ → ℕ → Edge
 newEdge ns c s r = record { source = numberOf ns (N.Solvable s); target = numberOf ns (N.Excluded r); weight = W.Conflict C.Excluded; clause = c }
 
@@ -51,7 +51,7 @@ asked G c s r =
 abbrev pub known : Tables → Graph → ℕ → ℕ → Bool
 known T G s r = ltb s (length (T .solvables)) && (ltb r (length (T .reasons)) && hasNode (G .nodes) (N.Solvable s))
 
--- 1 where unresolved has gone
+-- 1 where unresolved has gone: "unresolved counted"
 abbrev pub goneCount : Graph → ℕ
 goneCount G = cond (isUnresolved (nodeAt G 1)) 0 1
 
@@ -80,6 +80,7 @@ abbrev pub askDrawn : Tables → ℕ → ℕ → Outcome → Outcome
 askDrawn T s r (refused k p) = refused k p
 askDrawn T s r (drawn G) = questionOf T G s r
 
+-- of a file's tables (`askDrawn`)
 unfoldable pub askTables : Tables → ℕ → ℕ → Outcome
 unfolding graphOf questionOf
 askTables T s r = askDrawn T s r (graphOf T)

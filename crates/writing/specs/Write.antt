@@ -12,7 +12,7 @@ use Rattle.pieces.specs.Pieces.{pieces, joined}
 use Rattle.writing.specs.declared.Written.{Written}
 use Rattle.writing.specs.Arranged.{rowsOf, arranged}
 
--- the file, or a refusal with its place
+-- what `writeOf` gives: the file, or a refusal with its place
 pub data File : Type 0 where
   written : List ℕ → File
   refused : ℕ → ℕ → File
@@ -31,6 +31,7 @@ writeOf rows =
     (judged (readFrom (map recOf (arranged (rowsOf rows))) 0 noTables) (arranged (rowsOf rows)))
     (refused 1 0)
 
+-- a refusal's number and place: "nothing written"
 abbrev pub refusalOf : ℕ → ℕ → Written
 refusalOf n i = record { number = n; place = i; bytes = 0; units = 0 }
 
@@ -48,12 +49,12 @@ abbrev pub roomFor : File → List ℕ → List ℕ
 roomFor (refused k i) room = room
 roomFor (written out) room = cond (leb (length out) (length room)) (out ++ drop (length out) room) room
 
--- the answer for n bytes of room
+-- the answer for n bytes of room (`answerFor`)
 unfoldable pub writeAnswer : List ℕ → ℕ → Written
 unfolding writeOf
 writeAnswer rows n = answerFor (writeOf rows) n
 
--- what becomes of the room
+-- what becomes of the room (`roomFor`)
 unfoldable pub writeRoom : List ℕ → List ℕ → List ℕ
 unfolding writeOf
 writeRoom rows room = roomFor (writeOf rows) room
