@@ -1,0 +1,15 @@
+pub mod Numbers
+pub mod Calls
+pub mod Counts
+pub mod Shown
+pub mod Told
+pub mod Lists
+pub mod Labels
+pub mod Cases
+pub mod Texts
+pub mod Levels
+pub mod Branches
+pub mod ReadOff
+pub mod Openings
+pub mod Others
+pub mod Ends
