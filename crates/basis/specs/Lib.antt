@@ -7,3 +7,4 @@ pub mod Limit
 pub mod Store
 pub mod Chains
 pub mod Walks
+pub mod Laws

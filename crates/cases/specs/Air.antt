@@ -21,7 +21,8 @@ use Rattle.air.specs.declared.Profile.the-variants.{Passed, Refused}
 use Rattle.urzulempa.specs.declared.Answer.{Answer}
 use Rattle.urzulempa.specs.Answers.{refusalOf}
 use Rattle.urzulempa.specs.Says.{resultBy}
-use Rattle.urzulempa.specs.Air.{airOf, SaysBy, SaysAir, says-air-one}
+use Rattle.urzulempa.specs.Air.{airOf, SaysBy, SaysAir}
+use Rattle.urzulempa.specs.Laws.Air.{says-air-one}
 use Rattle.cases.specs.Files.{badLength, replay, deckPanel, lost, wide, withLock, selfish, twined, crowdedLoop, lockedLoop}
 use Rattle.cases.specs.Texts.{printed, replayLines, loneLines}
 use Rattle.cases.specs.Room.{more-room}

@@ -19,7 +19,8 @@ use Rattle.machine.specs.Bound.{most}
 use Rattle.machine.specs.Count.{groups, unmerged}
 use Rattle.plan.specs.Plan.{shownOf, planOf}
 use Rattle.explanation.specs.Explain.{refusal, explainFile, explainEdition, explainTables}
-use Rattle.explanation.specs.Contract.{Drawn, theBound, file-depth}
+use Rattle.explanation.specs.Contract.{Drawn}
+use Rattle.explanation.specs.Laws.Contract.{theBound, file-depth}
 use Rattle.urzulempa.specs.declared.Answer.{Answer}
 use Rattle.urzulempa.specs.Says.{Says, resultBy}
 

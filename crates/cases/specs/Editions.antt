@@ -19,7 +19,8 @@ use Rattle.explanation.specs.Explain.{explainEdition}
 use Rattle.explanation.specs.Openings.{howMany, openingsOf, onceOf}
 use Rattle.urzulempa.specs.declared.Answer.{Answer}
 use Rattle.urzulempa.specs.Answers.{refusalOf}
-use Rattle.urzulempa.specs.Says.{Says, resultBy, says-one}
+use Rattle.urzulempa.specs.Says.{Says, resultBy}
+use Rattle.urzulempa.specs.Laws.Says.{says-one}
 use Rattle.cases.specs.Files.{badLength, replay, deckPanel, mergedPair, desk, shared}
 use Rattle.cases.specs.Texts.{printed, replayLines, deckLines, pairLines, deskLines, sharedLines}
 use Rattle.cases.specs.Table.{Rooms, atLeast, shortest, Fits}

@@ -5,7 +5,7 @@ use Prim.Native.Nat.{ℕ, _≤_}
 use native.Mathlib.Omega.{arith}
 use lib.ListN.{length, replicate, getD}
 use Rattle.texts.specs.Wrote.{over}
-use Rattle.explanation.specs.Contract.{file-answers}
+use Rattle.explanation.specs.Laws.Contract.{file-answers}
 use Rattle.urzulempa.specs.declared.Answer.{Answer}
 use Rattle.urzulempa.specs.Draws.{resultAnswer}
 use Rattle.urzulempa.specs.Plain.{plainOption}

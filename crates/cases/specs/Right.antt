@@ -22,7 +22,8 @@ use Rattle.nodelist.specs.Nodes.{Nodes, entered, denied, nodesDrawn, nodesRead,
 use Rattle.urzulempa.specs.declared.Answer.{Answer}
 use Rattle.urzulempa.specs.Answers.{refusalOf, outcomeAnswer, checkBy, checkOf}
 use Rattle.urzulempa.specs.Nodes.{nodesBy, nodesAnswer, nodesLeft, listOver}
-use Rattle.urzulempa.specs.Says.{Says, resultBy, says-one}
+use Rattle.urzulempa.specs.Says.{Says, resultBy}
+use Rattle.urzulempa.specs.Laws.Says.{says-one}
 use Rattle.cases.specs.Bound.{boundOf}
 use Rattle.cases.specs.Room.{more-room}
 use Rattle.cases.specs.Table.{Case, Rooms, atLeast, exactly, shortest, Fits, table, replayNodes}

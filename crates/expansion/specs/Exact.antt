@@ -10,7 +10,8 @@ use Rattle.store.specs.declared.Size.{Size}
 use Rattle.store.specs.Graph.{Graph}
 use Rattle.store.specs.Table.{graphIn}
 use Rattle.store.specs.Exact.{size-one, table-one}
-use Rattle.triples.specs.Triple.{Triple, tripleOf, Triples, madeIn, lastIn, held}
+use Rattle.triples.specs.Triple.{Triple}
+use Rattle.triples.specs.Hashed.{tripleOf, Triples, madeIn, lastIn, held}
 use Rattle.expansion.specs.declared.Work.{Work}
 use Rattle.expansion.specs.declared.Progress.{Progress}
 use Rattle.expansion.specs.declared.Progress.the-variants as P

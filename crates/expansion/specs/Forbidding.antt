@@ -28,7 +28,7 @@ use Rattle.index.specs.Found.{loaded-valid}
 use Rattle.store.specs.declared.Size.{Size}
 use Rattle.store.specs.Graph.{Graph}
 use Rattle.store.specs.Table.{graphIn, Growing, edges-count}
-use Rattle.triples.specs.Triple.{lastIn, last-put, triples-put}
+use Rattle.triples.specs.Hashed.{lastIn, last-put, triples-put}
 use Rattle.linking.specs.declared.Grown.{Grown}
 use Rattle.linking.specs.declared.Grown.the-variants as G
 use Rattle.linking.specs.Links.{solvableIn, nameIn, Link, Linked, more, short, linkAll, requiresOf, requirers, excludedLinks, lockLinks, constrainsLinks, forbidAll}

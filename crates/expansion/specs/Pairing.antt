@@ -24,7 +24,8 @@ use Rattle.store.specs.declared.Put.{Put}
 use Rattle.store.specs.declared.Put.the-variants.{At, Full}
 use Rattle.store.specs.Graph.{Graph, Added, added, full, addLink}
 use Rattle.store.specs.Table.{graphIn, Stored, Growing, addedIn, sizeOf, edges-count}
-use Rattle.triples.specs.Triple.{Triple, triple, sameTriple, TripleWord, Triples, tripleLay, hashOf, madeIn, lastIn, made-before, made-new, triples-add, last-linked}
+use Rattle.triples.specs.Triple.{Triple, triple, sameTriple}
+use Rattle.triples.specs.Hashed.{TripleWord, Triples, tripleLay, hashOf, madeIn, lastIn, made-before, made-new, triples-add, last-linked}
 use Rattle.linking.specs.declared.Party.{Party}
 use Rattle.linking.specs.declared.Party.the-variants.{Node, Neither}
 use Rattle.linking.specs.Links.{partyOf, asList, nodesOf, parentReason, excludedReason, partnersOr}

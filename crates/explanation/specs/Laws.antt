@@ -1,3 +1,4 @@
+pub mod Contract
 pub mod Solvables
 pub mod Numbers
 pub mod Reading

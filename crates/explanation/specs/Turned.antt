@@ -16,7 +16,8 @@ use Rattle.machine.specs.Tally.{Added, added-none}
 use Rattle.machine.specs.Explained.{linesAs, unitsOf, unitsFor}
 use Rattle.machine.specs.Turns.{Turns, stay}
 use Rattle.machine.specs.Frames.{Frame, marksOf, branchOf, stackAt, kidEntry, kidMarks, runEntry, marks-length, openings-run, openings-shut, run-goes, kid-goes, kid-loops, run-says, kid-says, turn-run, turn-skip, turn-kid}
-use Rattle.texts.specs.Wrote.{Wrote, wrote-none, wrote-length}
+use Rattle.texts.specs.Wrote.{Wrote}
+use Rattle.texts.specs.Laws.Wrote.{wrote-none, wrote-length}
 use Rattle.texts.specs.Marks as M
 use Rattle.texts.specs.Marks.{upper}
 use Rattle.texts.specs.Levels.{marks-count, upper-whole, upper-own, upper-under}

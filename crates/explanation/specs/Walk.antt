@@ -19,11 +19,13 @@ use Rattle.machine.specs.Halts.{Halted, halts}
 use Rattle.machine.specs.Units.{TextUnit, Result, textOf}
 use Rattle.machine.specs.Tally.{Tally, tally-none, tally-added, Added}
 use Rattle.machine.specs.Fit.{text-append}
-use Rattle.machine.specs.Explained.{Explained, unique, linesAs, unitsFor}
+use Rattle.machine.specs.Explained.{Explained, linesAs, unitsFor}
+use Rattle.machine.specs.Laws.Explained.{unique}
 use Rattle.machine.specs.Turns.{Turns, stay, turn, turns-then, turns-fit}
 use Rattle.machine.specs.Writes.{soFar, units-append, end-done, end-loops, end-full}
 use Rattle.machine.specs.Frames.{Frame, branchOf, branch-length, stackAt, kidMarks, stack-start}
-use Rattle.texts.specs.Wrote.{Wrote, over, wrote-none, wrote-length, behind}
+use Rattle.texts.specs.Wrote.{Wrote, over}
+use Rattle.texts.specs.Laws.Wrote.{wrote-none, wrote-length, behind}
 use Rattle.texts.specs.Marks as M
 use Rattle.texts.specs.declared.Indenter.{Indenter}
 use Rattle.plan.specs.Fields.{planIn, startIn, opensIn, kidsIn, runsIn, runFirst, runEnd, runsFrom, kidsFrom, kidAt, kids-none, kids-more, solvableIn, textLength}

@@ -19,7 +19,7 @@ use Rattle.store.specs.Graph.{Graph, startGraph, settle, unreached}
 use Rattle.store.specs.Table.{graphIn, Stored, Growing, taken, taken-growing, taken-graph}
 use Rattle.links.specs.Build.{Chains}
 use Rattle.reach.specs.Queue.{lowestOf}
-use Rattle.triples.specs.Triple.{Triples, lastIn, madeIn, triples-none, made-none, last-none, clear-fresh, Clear}
+use Rattle.triples.specs.Hashed.{Triples, lastIn, madeIn, triples-none, made-none, last-none, clear-fresh, Clear}
 use Rattle.expansion.specs.declared.Work.{Work}
 use Rattle.expansion.specs.declared.Progress.{Progress}
 use Rattle.expansion.specs.declared.Progress.the-variants as P

@@ -3,3 +3,4 @@ pub mod Drawing
 pub mod Files
 pub mod Exact
 pub mod Cases
+pub mod Laws

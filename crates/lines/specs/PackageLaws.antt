@@ -13,7 +13,8 @@ use Rattle.basis.specs.Members.{split}
 use Rattle.basis.specs.Quote.{utf8}
 use Rattle.records.specs.Tables.{Tables}
 use Rattle.records.specs.Views.{nameText, solvableName, versionText, reasonText}
-use Rattle.texts.specs.Wrote.{Wrote, wrote-none, wrote-length, behind}
+use Rattle.texts.specs.Wrote.{Wrote}
+use Rattle.texts.specs.Laws.Wrote.{wrote-none, wrote-length, behind}
 use Rattle.texts.specs.Indent.{indent}
 use Rattle.plan.specs.Fields.{solvableIn, leadIn, mateIn, matesFrom, mates-none, mates-more, mates-less, tagIn, reasonIn, textLength}
 use Rattle.plan.specs.Texts.{nextVersion, endsText, lastOfMany, versionsIn, furtherIn, packageIn}

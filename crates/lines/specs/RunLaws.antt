@@ -11,7 +11,8 @@ use Rattle.basis.specs.Members.{split}
 use Rattle.basis.specs.Quote.{utf8}
 use Rattle.records.specs.Tables.{Tables}
 use Rattle.records.specs.Views.{requirementText}
-use Rattle.texts.specs.Wrote.{Wrote, wrote-none}
+use Rattle.texts.specs.Wrote.{Wrote}
+use Rattle.texts.specs.Laws.Wrote.{wrote-none}
 use Rattle.texts.specs.Indent.{indent}
 use Rattle.texts.specs.Marks.{marksAt, marksOf}
 use Rattle.texts.specs.Levels.{marks-count}

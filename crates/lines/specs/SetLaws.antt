@@ -15,7 +15,8 @@ use Rattle.basis.specs.Quote.{utf8}
 use Rattle.records.specs.Tables.{Tables}
 use Rattle.records.specs.Views.{nameText, setName, setText}
 use Rattle.machine.specs.Fit.{concat-append}
-use Rattle.texts.specs.Wrote.{Wrote, wrote-none, wrote-length, behind}
+use Rattle.texts.specs.Wrote.{Wrote}
+use Rattle.texts.specs.Laws.Wrote.{wrote-none, wrote-length, behind}
 use Rattle.texts.specs.Indent.{indent}
 use Rattle.texts.specs.Marks.{marksOf, pushed}
 use Rattle.texts.specs.Levels.{marks-count, pushed-below}

@@ -10,7 +10,8 @@ use borrow.Author.Tests.{leb-true, leb-false, not-true, not-false}
 use borrow.Rule.Slice.PartMut.{putMid}
 use Rattle.basis.specs.Lists.{concatMap}
 use Rattle.basis.specs.Members.{split}
-use Rattle.texts.specs.Wrote.{Wrote, behind, wrote-none, wrote-length, wrote-one}
+use Rattle.texts.specs.Wrote.{Wrote}
+use Rattle.texts.specs.Laws.Wrote.{behind, wrote-none, wrote-length, wrote-one}
 
 -- r: the line's length, or 0 where the room is too short for it
 pub record Tried (line room left : List ℕ) (r : ℕ) : Type 0 where

@@ -1,23 +1,17 @@
 -- The node list as numbers: one word a node.
-use mathlib.Core.Path.{_≡_, refl, sym, ap, _∙_}
-use mathlib.Core.List.{List, [], _∷_}
+use mathlib.Core.Path.{_≡_, refl}
+use mathlib.Core.List.{List}
 use Prim.Native.Nat.{ℕ, zero, suc, _+_, _*_, _/_, _%_, _<_, _≤_}
 use native.Mathlib.Numerals.{add-one}
 use native.Mathlib.Omega.{arith}
-use lib.ListN.{length, getD, set}
+use lib.ListN.{getD, set}
 use Rattle.store.specs.declared.ConflictNode.{ConflictNode}
 use Rattle.store.specs.declared.ConflictNode.the-variants as N
 use Rattle.store.specs.declared.Size.{Size}
 use Rattle.store.specs.Graph.{Graph, nodeAt, firstAt}
-use Rattle.store.specs.Words.{nodeNumber}
+use Rattle.store.specs.Numbers.{nodeNumber}
 use Rattle.store.specs.Table.{graphIn, nodeIn, firstIn, Stored, node-in, first-in}
-
--- "kind and number as in `ConflictNode`, 0 where it has none": the number is `nodeNumber`
-abbrev pub kindOf : ConflictNode → ℕ
-kindOf N.Root = 0
-kindOf (N.Solvable s) = 1
-kindOf N.UnresolvedDependency = 2
-kindOf (N.Excluded r) = 3
+use Rattle.store.specs.Numbers.{kindOf}
 
 -- "one entry a node, holding its kind, both labels and its group", and the clause that first added it: kind of 8 bits, number of 16, group,
 -- installable and missing of 8 each, clause of 16; a mark is 1 for installable plus 2 for missing

@@ -15,7 +15,8 @@ use Rattle.machine.specs.Halts.{halts}
 use Rattle.machine.specs.Never.{by-stop, came-start}
 use Rattle.machine.specs.Told.{same, Finishes, done-finishes, loops-never, first-lines, shows-more, all-lines, within-bound}
 use Rattle.machine.specs.Units.{TextUnit, Result, textOf, depthOf, written, fitting, fit}
-use Rattle.machine.specs.Explained.{finish, unitsOf, unitsFor, Explained, explained-halted}
+use Rattle.machine.specs.Explained.{finish, unitsOf, unitsFor, Explained}
+use Rattle.machine.specs.Laws.Explained.{explained-halted}
 use Rattle.machine.specs.Fit.{concat-append, depth-append, depth-within, fitting-begins, fitting-within, next-unit, fit-whole, fit-less}
 
 -- ---- what any result leaves: "exactly the first units of the text that the Rust's rules give"

@@ -1,3 +1,4 @@
+pub mod Explained
 pub mod Silent
 pub mod Edition
 pub mod Once

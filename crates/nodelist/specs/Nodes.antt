@@ -12,8 +12,8 @@ use Rattle.graph.specs.Graphs.{Outcome, drawn, refused, graphOf}
 use Rattle.labels.specs.Labels.{installables, missings, installable, missing}
 use Rattle.groups.specs.Groups.{leadOf}
 use Rattle.naming.specs.Naming.{nameOf}
-use Rattle.store.specs.Words.{nodeNumber}
-use Rattle.listing.specs.Listing.{kindOf}
+use Rattle.store.specs.Numbers.{nodeNumber}
+use Rattle.store.specs.Numbers.{kindOf}
 use Rattle.entries.specs.declared.NodeEntry.{NodeEntry}
 use Rattle.nodelist.specs.declared.Counted.{Counted}
 

@@ -19,13 +19,15 @@ use Rattle.store.specs.Table.{graphIn, Stored, nodes-count, number-fits, firstI
 use Rattle.links.specs.Build.{Chains}
 use Rattle.graph.specs.declared.Made.{Made}
 use Rattle.graph.specs.declared.Made.the-variants as M
-use Rattle.graph.specs.Files.{Makes, makes-good, makes-graph, makes-refused}
+use Rattle.graph.specs.Files.{Makes}
+use Rattle.graph.specs.Laws.Files.{makes-good, makes-graph, makes-refused}
 use Rattle.labels.specs.Labels.{installable, missing}
 use Rattle.labels.specs.Marks.{bitsOf, marksOf, marks-at}
 use Rattle.groups.specs.Groups.{titleOf, leadBy, leadOf}
 use Rattle.groups.specs.Leads.{leadsTo, leads-at, lead-le}
 use Rattle.naming.specs.Naming.{nameOf}
-use Rattle.listing.specs.Listing.{kindOf, entriesTo, kind-small}
+use Rattle.listing.specs.Listing.{entriesTo, kind-small}
+use Rattle.store.specs.Numbers.{kindOf}
 use Rattle.listing.specs.Listing as W
 use Rattle.entries.specs.Entry.{wordOf, Narrow, Narrows}
 use Rattle.entries.specs.declared.NodeEntry.{NodeEntry}

@@ -11,7 +11,8 @@ use lib.Dec.{leb, ltb, eqb}
 use borrow.Author.Tests.{lt-leb, le-leb, eq-eqb, ne-eqb, ltb-true, ltb-false}
 use Rattle.basis.specs.Lists.{all}
 use Rattle.basis.specs.Members.{split}
-use Rattle.basis.specs.Guard.{guard, guard-no, guard-yes}
+use Rattle.basis.specs.Guard.{guard}
+use Rattle.basis.specs.Laws.Guard.{guard-no, guard-yes}
 use Rattle.records.specs.declared.First.{First}
 use Rattle.records.specs.declared.First.the-variants as F
 use Rattle.records.specs.Shapes.{Rec}

@@ -11,7 +11,8 @@ use Rattle.nodelist.specs.Listed.{Listed}
 use Rattle.asking.specs.Nodes.{askedNodes}
 use Rattle.urzulempa.specs.declared.Answer.{Answer}
 use Rattle.urzulempa.specs.Nodes.{answerOf}
-use Rattle.urzulempa.specs.WhatIf.{whatIfAnswer, whatIfLeft, SaysWhatIf, says-what-if-one}
+use Rattle.urzulempa.specs.WhatIf.{whatIfAnswer, whatIfLeft, SaysWhatIf}
+use Rattle.urzulempa.specs.Laws.WhatIf.{says-what-if-one}
 use Rattle.replay.specs.declared.calls.Seen.{Seen}
 use Rattle.replay.specs.Sum.{sumOf, sumEntries, entriesAt}
 use Rattle.replay.specs.Seen.{seenOf, answerIn, noCall, blank, blankList, blankWords, take-blank, both-one, shown-in}

@@ -16,10 +16,13 @@ use Rattle.nodelist.specs.declared.Counted.{Counted}
 use Rattle.nodelist.specs.Listed.{Listed, wordsOver, as-many, in-room}
 use Rattle.urzulempa.specs.declared.Answer.{Answer}
 use Rattle.urzulempa.specs.Answers.{checkOf}
-use Rattle.urzulempa.specs.Says.{Says, says-one}
-use Rattle.urzulempa.specs.Air.{SaysAir, says-air-one}
+use Rattle.urzulempa.specs.Says.{Says}
+use Rattle.urzulempa.specs.Laws.Says.{says-one}
+use Rattle.urzulempa.specs.Air.{SaysAir}
+use Rattle.urzulempa.specs.Laws.Air.{says-air-one}
 use Rattle.urzulempa.specs.Draws.{resultAnswer, drawFile}
-use Rattle.urzulempa.specs.Nodes.{nodesBy, nodesAnswer, listOver, nodesLeft, answerOf, answer-counted}
+use Rattle.urzulempa.specs.Nodes.{nodesBy, nodesAnswer, listOver, nodesLeft, answerOf}
+use Rattle.urzulempa.specs.Laws.Nodes.{answer-counted}
 use Rattle.urzulempa.specs.Edges.{edgesAnswer, edgesLeft}
 use Rattle.replay.specs.declared.calls.Seen.{Seen}
 use Rattle.replay.specs.Sum.{sumFrom, sumOf, sumEntries, entriesAt}

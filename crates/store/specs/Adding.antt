@@ -21,7 +21,8 @@ use Rattle.store.specs.declared.Put.the-variants.{At, Full}
 use Rattle.store.specs.Direct.{entryAt, Direct, entered, more, withNodes, putAt}
 use Rattle.store.specs.Laws.Direct.{edge-same, under-low, under-entry, under-edge, entered-length, entered-node, entered-nodes, entered-edges, entered-low, entered-own, entered-other, direct-same}
 use Rattle.store.specs.Graph.{Graph, Added, added, full, sameNode, startGraph, withNode, withEdge, addNode, addEdge, addLink}
-use Rattle.store.specs.Words.{wordOf, nodeOf, firstOf, edgeWord, edgeOf, nodeNumber, EdgeWord, NodeWord, node-back, node-low, first-back, low-back, low-word, same-word}
+use Rattle.store.specs.Words.{wordOf, nodeOf, firstOf, edgeWord, edgeOf, EdgeWord, NodeWord, node-back, node-low, first-back, low-back, low-word, same-word}
+use Rattle.store.specs.Numbers.{nodeNumber}
 use Rattle.store.specs.Table.{nodeWords, graphIn, Stored, Growing, addedIn, sizeOf, placeOf, taken-growing, nodes-count, edges-count}
 
 -- ---- finding a word among the nodes' words

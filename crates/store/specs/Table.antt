@@ -20,7 +20,8 @@ use Rattle.store.specs.declared.Put.{Put}
 use Rattle.store.specs.declared.Put.the-variants.{At, Full}
 use Rattle.store.specs.Direct.{Direct}
 use Rattle.store.specs.Graph.{Graph, handing, Added, added, full, nodeAt, firstAt, tryRequires, isConflict, isExcluded}
-use Rattle.store.specs.Words.{wordOf, nodeOf, firstOf, nodeNumber, edgeWord, edgeOf, weightOf, byKind, requires-is, requires-none, conflict-is, conflict-not, excluded-is, excluded-not}
+use Rattle.store.specs.Words.{wordOf, nodeOf, firstOf, edgeWord, edgeOf, weightOf, byKind, requires-is, requires-none, conflict-is, conflict-not, excluded-is, excluded-not}
+use Rattle.store.specs.Numbers.{nodeNumber}
 
 -- the words of the first k nodes
 abbrev pub nodeWords : List ℕ → ℕ → List ℕ

@@ -14,6 +14,7 @@ use Rattle.store.specs.declared.ConflictEdge.{ConflictEdge}
 use Rattle.store.specs.declared.ConflictEdge.the-variants as W
 use Rattle.store.specs.declared.Edge.{Edge}
 use Rattle.store.specs.Graph.{sameNode, isConflict, tryRequires, isExcluded}
+use Rattle.store.specs.Numbers.{nodeNumber}
 
 -- ---- nodes: kind + 4 number + 262144 clause, kinds in the order of `ConflictNode`
 
@@ -77,13 +78,6 @@ abbrev pub edgeOf : ℕ → Edge
 edgeOf w = record { source = w % 256; target = w / 256 % 256; weight = weightOf (w / 65536 % 256) (w / 16777216 % 65536); clause = w / 1099511627776 % 65536 }
 
 -- ---- the round trip of a node
-
--- "kind and number as in `ConflictNode`, 0 where it has none": the number, which fits 16 bits, as its type says
-abbrev pub nodeNumber : ConflictNode → ℕ
-nodeNumber N.Root = 0
-nodeNumber (N.Solvable s) = s
-nodeNumber N.UnresolvedDependency = 0
-nodeNumber (N.Excluded r) = r
 
 pub node-back : (x : ConflictNode) → nodeNumber x < 65536 → nodeOf (wordOf x) ≡ x
 node-back N.Root h = refl

@@ -1,11 +1,9 @@
 -- The text before a line, from `get_indent` of conflict.rs. One mark a level, the deepest first: true for
 -- `ChildOrder::Last`, false for `ChildOrder::HasRemainingSiblings`.
-use mathlib.Core.Path.{_≡_, refl, sym, ap, _∙_}
-use mathlib.Core.Bool.{Bool, true, false, cond}
-use mathlib.Core.List.{List, [], _∷_, _++_, append-assoc, append-nil}
-use Prim.Native.Nat.{ℕ, zero, suc, _+_, _*_, _-_, _≤_, _<_, zero-le}
-use native.Mathlib.Omega.{arith}
-use lib.ListN.{length, length-append}
+use mathlib.Core.Bool.{Bool, true, false}
+use mathlib.Core.List.{List, [], _∷_, _++_}
+use Prim.Native.Nat.{ℕ}
+use lib.ListN.{length}
 use lib.Dec.{eqb}
 use Rattle.basis.specs.Quote.{utf8}
 
@@ -44,12 +42,3 @@ atTop ms = eqb (length ms) 1
 -- The most levels that are held. Depth 2,079 has 4,159 levels written and 4,160 pushed.
 abbrev pub most : ℕ
 most = 4160
-
--- P7's third line, and its second with the option
-third : indent false (true ∷ true ∷ true ∷ []) ≡ utf8 "   └─ "
-unfolding indent
-third = refl
-
-second : indent true (true ∷ false ∷ []) ≡ utf8 "│  └─ "
-unfolding indent
-second = refl

@@ -6,3 +6,4 @@ pub mod Pieces
 pub mod Shown
 pub mod Small
 pub mod Length
+pub mod Laws

@@ -10,7 +10,8 @@ use lib.ListN.{length, take, drop, length-append, length-drop, length-take}
 use borrow.Rule.Slice.PartMut.{putMid}
 use Rattle.texts.specs.Indent.{older, deepest, unlessTop, above, indent}
 use Rattle.texts.specs.Marks.{bit, marksAt}
-use Rattle.texts.specs.Wrote.{Wrote, wrote-none}
+use Rattle.texts.specs.Wrote.{Wrote}
+use Rattle.texts.specs.Laws.Wrote.{wrote-none}
 use Rattle.texts.specs.Pieces.{bytesOf, pairWord, pairBytes, Laid, Near, near-more, near-last}
 
 -- the first level shown: the top one only with the option

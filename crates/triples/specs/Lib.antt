@@ -1,1 +1,2 @@
 pub mod Triple
+pub mod Hashed

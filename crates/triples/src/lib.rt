@@ -8,7 +8,8 @@ ghost use lib.Dec.{eqb};
 ghost use Rattle.basis.specs.Lists.{any};
 ghost use Rattle.basis.specs.Chains.{linked};
 ghost use Rattle.basis.specs.Walks.{wordIs};
-ghost use Rattle.triples.specs.Triple.{triple, TripleWord, NodePart, Triples, tripleLay, hashOf, lastIn};
+ghost use Rattle.triples.specs.Triple.{triple};
+ghost use Rattle.triples.specs.Hashed.{TripleWord, NodePart, Triples, tripleLay, hashOf, lastIn};
 use store::ConflictNode;
 
 fn node_word(x: ConflictNode) -> u64

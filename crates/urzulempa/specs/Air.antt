@@ -1,5 +1,5 @@
 -- What `urzulempa_explain_air` answers and leaves in the room, for every file, option and room (document 02, order 9).
-use mathlib.Core.Path.{_≡_, sym, _∙_}
+use mathlib.Core.Path.{_≡_}
 use mathlib.Core.Bool.{cond}
 use mathlib.Core.List.{List}
 use Prim.Native.Nat.{ℕ}
@@ -12,7 +12,7 @@ use Rattle.air.specs.declared.Profile.the-variants.{Passed, Refused}
 use Rattle.air.specs.Profile.{profileOf}
 use Rattle.urzulempa.specs.declared.Answer.{Answer}
 use Rattle.urzulempa.specs.Answers.{refusalOf}
-use Rattle.urzulempa.specs.Says.{Says, says-one}
+use Rattle.urzulempa.specs.Says.{Says}
 
 -- ---- which of 15, 16 and 17 is given: "tested in that order after 9". Passed where none is, or where 12 or one of 1 to 9 comes first
 
@@ -41,11 +41,3 @@ SaysBy (Refused k p) file opt out left r = (r ≡ refusalOf k p) × (left ≡ ou
 -- what the call says: `SaysBy` what the profile is
 pub record SaysAir (file : List ℕ) (opt : ℕ) (out left : List ℕ) (r : Answer) : Type 0 where
   pub says : SaysBy (airOf file opt) file opt out left r
-
--- two results that the contract allows are equal
-pub says-air-one : (file : List ℕ) (opt : ℕ) (out a b : List ℕ) (r q : Answer) → SaysAir file opt out a r → SaysAir file opt out b q → (r ≡ q) × (a ≡ b)
-says-air-one file opt out a b r q S T = by (airOf file opt) (S .says) (T .says)
-  where
-    by : (x : Profile) → SaysBy x file opt out a r → SaysBy x file opt out b q → (r ≡ q) × (a ≡ b)
-    by Passed s t = says-one 1 file opt out a b r q s t
-    by (Refused k p) s t = (s .0 ∙ sym (t .0), s .1 ∙ sym (t .1))

@@ -1,5 +1,5 @@
 -- What `urzulempa_season` and `urzulempa_join` answer, and what they leave of the report and the room (document 02, order 8).
-use mathlib.Core.Path.{_≡_, sym, ap, _∙_}
+use mathlib.Core.Path.{_≡_}
 use mathlib.Core.Bool.{Bool, true, false}
 use mathlib.Core.List.{List}
 use Prim.Native.Nat.{ℕ}
@@ -11,7 +11,7 @@ use Rattle.tally.specs.declared.Counts.{Counts}
 use Rattle.tally.specs.Tally.{fileCounts}
 use Rattle.urzulempa.specs.declared.Answer.{Answer}
 use Rattle.urzulempa.specs.Answers.{refusalOf}
-use Rattle.urzulempa.specs.Says.{Says, says-one}
+use Rattle.urzulempa.specs.Says.{Says}
 
 -- ---- two reports joined
 
@@ -56,25 +56,3 @@ AddsBy false e file opt ws vs out left r = (r ≡ refusalOf 10 0) × (vs ≡ ws)
 -- after
 pub record Adds (e : ℕ) (file : List ℕ) (opt : ℕ) (ws vs out left : List ℕ) (r : Answer) : Type 0 where
   pub by : AddsBy (eqb (length ws) 27) e file opt ws vs out left r
-
--- ---- two results that the contract allows are equal
-
-enters-one : (ws : List ℕ) (a b : Answer) (c : Counts) (u v : List ℕ) (r q : Answer) → a ≡ b → Enters ws a c u r → Enters ws b c v q → (r ≡ q) × (u ≡ v)
-enters-one ws a b c u v r q e S T = (
-  S .answer ∙ ap (λ (x : Answer). joinBy ws (shareWords (ownOf x c)) (refusalOf 10 0) (refusalOf 14 0) x) e ∙ sym (T .answer),
-  S .report ∙ ap (λ (x : Answer). joinWords ws (shareWords (ownOf x c))) e ∙ sym (T .report),
-)
-
-module _ (e : ℕ) (file : List ℕ) (opt : ℕ) (ws u v out a b : List ℕ) (r q : Answer) where
-  entered-one : Entered e file opt ws u out a r → Entered e file opt ws v out b q → (r ≡ q) × (u ≡ v) × (a ≡ b)
-  entered-one S T =
-      let h = says-one e file opt out a b (S .own) (T .own) (S .says) (T .says) in
-      let k = enters-one ws (S .own) (T .own) (fileCounts file) u v r q (h .0) (S .enters) (T .enters) in
-      (k .0, k .1, h .1)
-
-  pub adds-one : Adds e file opt ws u out a r → Adds e file opt ws v out b q → (r ≡ q) × (u ≡ v) × (a ≡ b)
-  adds-one S T = by (eqb (length ws) 27) (S .by) (T .by)
-    where
-      by : (t : Bool) → AddsBy t e file opt ws u out a r → AddsBy t e file opt ws v out b q → (r ≡ q) × (u ≡ v) × (a ≡ b)
-      by true s t = entered-one s t
-      by false s t = (s .0 ∙ sym (t .0), s .1 ∙ sym (t .1), s .2 ∙ sym (t .2))

@@ -1,5 +1,5 @@
 use borrow.Author.Needs.{needs}
-use Rattle.graph.specs.Files.{makes-loaded, makes-chains, makes-graph}
+use Rattle.graph.specs.Laws.Files.{makes-loaded, makes-chains, makes-graph}
 use Rattle.asking.specs.Laws.Ways.{file-denied, file-listed}
 use Rattle.asking.proofs.words_in.Statement.{statement}
 use Rattle.asking.proofs.words_in.Tie as tie

@@ -15,7 +15,8 @@ use Rattle.urzulempa.specs.declared.Answer.{Answer}
 use Rattle.urzulempa.specs.Answers.{refusalOf, checkOf}
 use Rattle.urzulempa.specs.Draws.{drawBytes, drawFile}
 use Rattle.urzulempa.specs.Edges.{edgesAnswer}
-use Rattle.urzulempa.specs.Nodes.{nodesAnswer, nodes-check}
+use Rattle.urzulempa.specs.Nodes.{nodesAnswer}
+use Rattle.urzulempa.specs.Laws.Nodes.{nodes-check}
 use Rattle.urzulempa.specs.Says.{Says}
 use Rattle.urzulempa.specs.Wall.{exportFile}
 use Rattle.demands.specs.Laws.Told.{refused-answer, option-twelve, early-room}

@@ -17,7 +17,7 @@ use Rattle.machine.specs.Machine.{Plan}
 use Rattle.machine.specs.Bound.{most}
 use Rattle.machine.specs.Count.{groups, unmerged}
 use Rattle.machine.specs.Units.{Result, textOf, depthOf}
-use Rattle.machine.specs.Explained as E
+use Rattle.machine.specs.Laws.Explained as E
 use Rattle.machine.specs.Explained.{Explained}
 use Rattle.machine.specs.Demand as D
 use Rattle.machine.specs.Demand.{Demand}

@@ -17,7 +17,8 @@ use Rattle.graph.specs.Graphs.{graphOf}
 use Rattle.machine.specs.Units.{Result}
 use Rattle.texts.specs.Wrote.{over}
 use Rattle.explanation.specs.Explain.{refusal, isEdition, explainEdition, explainTables}
-use Rattle.explanation.specs.Contract.{Drawn, file-answers, file-drawn}
+use Rattle.explanation.specs.Contract.{Drawn}
+use Rattle.explanation.specs.Laws.Contract.{file-answers, file-drawn}
 use Rattle.urzulempa.specs.declared.Answer.{Answer}
 use Rattle.urzulempa.specs.Answers.{refusalOf, checkOf}
 use Rattle.urzulempa.specs.Draws.{resultAnswer}

@@ -23,7 +23,8 @@ use Rattle.plan.specs.Plan.{Shown, shownOf, planOf, startOf, popped}
 use Rattle.plan.specs.Display.{solvableOf}
 use Rattle.lines.specs.Lines.{linesOf}
 use Rattle.explanation.specs.Explain.{refusal, explainFile}
-use Rattle.explanation.specs.Contract.{ExplainedFile, Drawn, file-demand, file-depth, file-whole, file-less, file-leaves}
+use Rattle.explanation.specs.Contract.{ExplainedFile, Drawn}
+use Rattle.explanation.specs.Laws.Contract.{file-demand, file-depth, file-whole, file-less, file-leaves}
 
 -- 12 for the option alone, and the machine over the plan as it is
 pub first-file : (n : ℕ) (file : List ℕ) (opt room : ℕ)

@@ -35,7 +35,8 @@ use Rattle.lines.specs.Said.{linesIn, packageAll, packageSaid}
 use Rattle.lines.specs.Same.{run-same, kid-same, package-same}
 use Rattle.explanation.specs.Walk.{Ready, Answered}
 use Rattle.explanation.specs.declared.walk.Told.{Told}
-use Rattle.explanation.specs.Contract.{ExplainedFile, Drawn, drawn-file}
+use Rattle.explanation.specs.Contract.{ExplainedFile, Drawn}
+use Rattle.explanation.specs.Laws.Contract.{drawn-file}
 use Rattle.explanation.specs.Laws.Solvables.{solvables-most, some-node}
 
 -- ---- the lines that are read from q are p's

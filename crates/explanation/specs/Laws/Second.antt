@@ -28,7 +28,8 @@ use Rattle.plan.specs.Display.{solvableOf}
 use Rattle.plan.specs.Laws.Leads.{shown-alone, shown-grouped, shown-told}
 use Rattle.lines.specs.Lines.{linesOf, packageLines, setLines}
 use Rattle.explanation.specs.Openings.{isOpening, openingLines, howMany, openingsIn, openingsRead, openingsOf, onceIn, onceRead, onceOf}
-use Rattle.explanation.specs.Contract.{ExplainedFile, Drawn, theBound, by-file, file-demand, file-drawn, file-depth}
+use Rattle.explanation.specs.Contract.{ExplainedFile, Drawn}
+use Rattle.explanation.specs.Laws.Contract.{theBound, by-file, file-demand, file-drawn, file-depth}
 
 -- ---- lines that open a package, and packages that are opened
 

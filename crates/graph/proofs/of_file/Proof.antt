@@ -1,6 +1,6 @@
 use borrow.Author.Needs.{needs}
 use Rattle.index.specs.Load.{load-loaded, clauses-counted}
-use Rattle.graph.specs.Files.{makes-unread, makes-drew}
+use Rattle.graph.specs.Laws.Files.{makes-unread, makes-drew}
 use Rattle.graph.proofs.of_file.Statement.{statement}
 use Rattle.graph.proofs.of_file.Tie as tie
 

@@ -1,5 +1,5 @@
 use borrow.Author.Needs.{needs}
-use Rattle.graph.specs.Files.{makes-loaded, makes-chains}
+use Rattle.graph.specs.Laws.Files.{makes-loaded, makes-chains}
 use Rattle.nodelist.specs.Ways.{listed-refused, listed-drawn}
 use Rattle.nodelist.proofs.words_in.Statement.{statement}
 use Rattle.nodelist.proofs.words_in.Tie as tie

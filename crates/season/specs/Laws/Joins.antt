@@ -10,7 +10,8 @@ use lib.Seq.{take-suc, take-take, length-take-le, set-at}
 use lib.Dec.{ltb, eqb}
 use borrow.Author.Tests.{lt-ltb, le-ltb, ltb-true, ltb-false, eq-eqb, ne-eqb, not-true, not-false}
 use Rattle.basis.specs.Lists.{all}
-use Rattle.basis.specs.Guard.{guard, guard-no, guard-yes}
+use Rattle.basis.specs.Guard.{guard}
+use Rattle.basis.specs.Laws.Guard.{guard-no, guard-yes}
 use Rattle.basis.specs.Members.{split, clash}
 use Rattle.basis.specs.Below.{allBelow}
 use Rattle.season.specs.declared.Total.{Total}

@@ -12,7 +12,8 @@ use borrow.Author.Tests.{le-leb, lt-leb, leb-true, leb-false, eq-eqb, ne-eqb, no
 use borrow.Rule.Slice.PartMut.{putMid}
 use Rattle.basis.specs.Lists.{all}
 use Rattle.basis.specs.Members.{split, no-both}
-use Rattle.basis.specs.Guard.{guard, guard-no, guard-yes}
+use Rattle.basis.specs.Guard.{guard}
+use Rattle.basis.specs.Laws.Guard.{guard-no, guard-yes}
 use Rattle.texts.specs.Wrote.{Wrote}
 use Rattle.settings.specs.declared.Settings.{Settings}
 use Rattle.settings.specs.declared.Change.{Change}

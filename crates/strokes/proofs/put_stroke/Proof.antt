@@ -1,5 +1,5 @@
 use borrow.Author.Needs.{needs}
-use Rattle.texts.specs.Wrote.{behind}
+use Rattle.texts.specs.Laws.Wrote.{behind}
 use Rattle.strokes.specs.Sizes.{stroke-wrote}
 use Rattle.strokes.proofs.put_stroke.Statement.{statement}
 use Rattle.strokes.proofs.put_stroke.Tie as tie

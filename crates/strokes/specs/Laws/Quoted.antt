@@ -13,7 +13,8 @@ use borrow.Rule.Slice.PartMut.{putMid}
 use Rattle.basis.specs.Lists.{any, has}
 use Rattle.basis.specs.Members.{split}
 use Rattle.basis.specs.Quote.{utf8}
-use Rattle.texts.specs.Wrote.{Wrote, wrote-none, wrote-length, behind}
+use Rattle.texts.specs.Wrote.{Wrote}
+use Rattle.texts.specs.Laws.Wrote.{wrote-none, wrote-length, behind}
 use Rattle.strokes.specs.Quoted.{escaped, quoted}
 
 -- ---- a byte

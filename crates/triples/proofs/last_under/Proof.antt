@@ -1,5 +1,5 @@
 use borrow.Author.Needs.{needs}
-use Rattle.triples.specs.Triple.{last-get}
+use Rattle.triples.specs.Hashed.{last-get}
 use Rattle.triples.proofs.last_under.Statement.{statement}
 use Rattle.triples.proofs.last_under.Tie as tie
 

@@ -6,7 +6,7 @@ use Prim.Native.Nat.{_<_}
 use Rattle.basis.specs.Lists.{any}
 use Rattle.basis.specs.Chains.{downs, keyed}
 use Rattle.basis.specs.Walks.{Down, someOf, wordIs, somes-down, has-start}
-use Rattle.triples.specs.Triple.{tripleLay, hashOf, held}
+use Rattle.triples.specs.Hashed.{tripleLay, hashOf, held}
 use Rattle.triples.proofs.made.Statement.{statement}
 use Rattle.triples.proofs.made.Tie as tie
 

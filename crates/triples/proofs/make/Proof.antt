@@ -1,5 +1,5 @@
 use borrow.Author.Needs.{needs}
-use Rattle.triples.specs.Triple.{hash-linked}
+use Rattle.triples.specs.Hashed.{hash-linked}
 use Rattle.triples.proofs.make.Statement.{statement}
 use Rattle.triples.proofs.make.Tie as tie
 

@@ -1,5 +1,5 @@
 use borrow.Author.Needs.{needs}
-use Rattle.triples.specs.Triple.{parts}
+use Rattle.triples.specs.Hashed.{parts}
 use Rattle.triples.proofs.node_word.Statement.{statement}
 use Rattle.triples.proofs.node_word.Tie as tie
 

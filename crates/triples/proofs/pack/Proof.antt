@@ -1,5 +1,5 @@
 use borrow.Author.Needs.{needs}
-use Rattle.triples.specs.Triple.{word-packed}
+use Rattle.triples.specs.Hashed.{word-packed}
 use Rattle.triples.proofs.pack.Statement.{statement}
 use Rattle.triples.proofs.pack.Tie as tie
 

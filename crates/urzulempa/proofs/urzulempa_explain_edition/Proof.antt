@@ -1,5 +1,5 @@
 use Rattle.index.specs.Index.{blank-fresh}
-use Rattle.urzulempa.specs.Says.{says-zeroth, says-later, says-option, says-file}
+use Rattle.urzulempa.specs.Laws.Says.{says-zeroth, says-later, says-option, says-file}
 use borrow.Author.Needs.{needs}
 use Rattle.urzulempa.proofs.urzulempa_explain_edition.Statement.{statement}
 use Rattle.urzulempa.proofs.urzulempa_explain_edition.Tie as tie

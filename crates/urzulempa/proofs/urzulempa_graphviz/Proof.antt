@@ -1,5 +1,5 @@
 use Rattle.index.specs.Index.{blank-fresh}
-use Rattle.urzulempa.specs.Draws.{file-option, file-option-room, file-bytes, file-bytes-room}
+use Rattle.urzulempa.specs.Laws.Draws.{file-option, file-option-room, file-bytes, file-bytes-room}
 use borrow.Author.Needs.{needs}
 use Rattle.urzulempa.proofs.urzulempa_graphviz.Statement.{statement}
 use Rattle.urzulempa.proofs.urzulempa_graphviz.Tie as tie

@@ -29,18 +29,29 @@ use Rattle.plan.specs.Plan.{Shown, shownOf, planOf, popped}
 use Rattle.plan.specs.Display.{solvableOf}
 use Rattle.lines.specs.Lines.{linesOf}
 use Rattle.explanation.specs.Explain.{refusal, explainEdition, explainTables}
-use Rattle.explanation.specs.Contract.{Drawn, theBound, file-demand, file-drawn, file-whole, file-less}
+use Rattle.explanation.specs.Contract.{Drawn}
+use Rattle.explanation.specs.Laws.Contract.{theBound, file-demand, file-drawn, file-whole, file-less}
 use Rattle.explanation.specs.Laws.Numbers.{bad-low, refused-low}
 use Rattle.air.specs.declared.Profile.{Profile}
 use Rattle.air.specs.declared.Profile.the-variants.{Passed, Refused}
 use Rattle.air.specs.Profile.{lockAt, firstLock, profileOf}
-use Rattle.air.specs.Laws.Kinds.{Taken, Tested, passed, locked, many, cyclic, tested}
-use Rattle.air.specs.Laws.Kinds.{lock-is, lock-least, unlocked-all}
+use Rattle.air.specs.Laws.Kinds.{Taken, Tested, passed, locked, many, cyclic, tested, lock-is, lock-least, unlocked-all}
 use Rattle.air.specs.Laws.Silent.{air-silent}
 use Rattle.urzulempa.specs.declared.Answer.{Answer}
 use Rattle.urzulempa.specs.Answers.{refusalOf}
 use Rattle.urzulempa.specs.Says.{Says, resultBy}
+use Rattle.urzulempa.specs.Laws.Says.{says-one}
 use Rattle.urzulempa.specs.Air.{airOf, SaysBy, SaysAir}
+
+-- ---- "Everything else answers as in document 01": a refusal of the profile, which writes nothing, or the explanation by edition 1
+
+-- two results that the contract allows are equal
+pub says-air-one : (file : List ℕ) (opt : ℕ) (out a b : List ℕ) (r q : Answer) → SaysAir file opt out a r → SaysAir file opt out b q → (r ≡ q) × (a ≡ b)
+says-air-one file opt out a b r q S T = by (airOf file opt) (S .says) (T .says)
+  where
+    by : (x : Profile) → SaysBy x file opt out a r → SaysBy x file opt out b q → (r ≡ q) × (a ≡ b)
+    by Passed s t = says-one 1 file opt out a b r q s t
+    by (Refused k p) s t = (s .0 ∙ sym (t .0), s .1 ∙ sym (t .1))
 
 -- ---- a file that is drawn, or refused before the profile
 

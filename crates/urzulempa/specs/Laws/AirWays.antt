@@ -14,15 +14,17 @@ use Rattle.store.specs.Table.{graphIn}
 use Rattle.graph.specs.declared.Made.{Made}
 use Rattle.graph.specs.declared.Made.the-variants as M
 use Rattle.graph.specs.Graphs.{drawn, refused, graphOf}
-use Rattle.graph.specs.Files.{Makes, makes-refused}
+use Rattle.graph.specs.Files.{Makes}
+use Rattle.graph.specs.Laws.Files.{makes-refused}
 use Rattle.drawing.specs.Same.{optionOf}
 use Rattle.air.specs.declared.Profile.{Profile}
 use Rattle.air.specs.declared.Profile.the-variants.{Passed, Refused}
 use Rattle.air.specs.Profile.{profileOf}
 use Rattle.urzulempa.specs.declared.Answer.{Answer}
 use Rattle.urzulempa.specs.Answers.{refusalOf}
-use Rattle.urzulempa.specs.Draws.{option-is}
-use Rattle.urzulempa.specs.Says.{Says, says-option, says-refused}
+use Rattle.urzulempa.specs.Laws.Draws.{option-is}
+use Rattle.urzulempa.specs.Says.{Says}
+use Rattle.urzulempa.specs.Laws.Says.{says-option, says-refused}
 use Rattle.urzulempa.specs.Air.{airBuilt, airRead, airOf, SaysBy, SaysAir}
 
 module _ (file : List ℕ) (opt : ℕ) (out left : List ℕ) (r : Answer) (x : Profile) (e : airOf file opt ≡ x) where

@@ -13,7 +13,8 @@ use Rattle.store.specs.Table.{graphIn, Stored, edges-count}
 use Rattle.graph.specs.declared.Made.{Made}
 use Rattle.graph.specs.declared.Made.the-variants as M
 use Rattle.graph.specs.Graphs.{Outcome, drawn, refused, graphOf}
-use Rattle.graph.specs.Files.{outcomeBy, outcomeOf, Makes, makes-outcome}
+use Rattle.graph.specs.Files.{outcomeBy, outcomeOf, Makes}
+use Rattle.graph.specs.Laws.Files.{makes-outcome}
 use Rattle.edgelist.specs.Edges.{edgesOver}
 use Rattle.urzulempa.specs.declared.Answer.{Answer}
 use Rattle.urzulempa.specs.Answers.{refusalOf, outcomeAnswer, checkBy, checkOf}

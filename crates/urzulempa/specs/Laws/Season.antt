@@ -8,7 +8,7 @@ use mathlib.Core.Option.{Option, some}
 use Prim.Native.Nat.{ℕ, suc, _≤_, _<_}
 use native.Mathlib.Omega.{arith}
 use lib.ListN.{length, getD, replicate}
-use lib.Dec.{leb, ltb}
+use lib.Dec.{leb, ltb, eqb}
 use borrow.Author.Tests.{leb-true, ltb-true, ltb-false, eq-eqb}
 use Rattle.basis.specs.Guard.{guard}
 use Rattle.basis.specs.Members.{All, split, either}
@@ -19,7 +19,8 @@ use Rattle.graph.specs.Graphs.{Outcome, drawn, refused, graphOf}
 use Rattle.machine.specs.Units.{Result}
 use Rattle.texts.specs.Wrote.{over}
 use Rattle.explanation.specs.Explain.{refusal, isEdition, explainEdition, explainTables}
-use Rattle.explanation.specs.Contract.{Drawn, file-demand, file-whole, file-less, file-answers}
+use Rattle.explanation.specs.Contract.{Drawn}
+use Rattle.explanation.specs.Laws.Contract.{file-demand, file-whole, file-less, file-answers}
 use Rattle.explanation.specs.Laws.Numbers.{bad-low, refused-low}
 use Rattle.season.specs.declared.Own.{Own}
 use Rattle.season.specs.Report.{Report, Joining, whole, wide, sum, files, join, empty, fits, joined, orKept}
@@ -32,8 +33,32 @@ use Rattle.season.specs.Laws.Promises.{words-long, joined-yes, whole-fits, by-f
 use Rattle.tally.specs.Tally.{fileCounts}
 use Rattle.urzulempa.specs.declared.Answer.{Answer}
 use Rattle.urzulempa.specs.Answers.{refusalOf}
-use Rattle.urzulempa.specs.Says.{Says, resultBy, says-one}
-use Rattle.urzulempa.specs.Season.{joinAnswer, ownOf, Entered, AddsBy, Adds}
+use Rattle.urzulempa.specs.Says.{Says, resultBy}
+use Rattle.urzulempa.specs.Laws.Says.{says-one}
+use Rattle.urzulempa.specs.Season.{joinAnswer, ownOf, Entered, AddsBy, Adds, Enters}
+use Rattle.tally.specs.declared.Counts.{Counts}
+
+-- ---- two results that the contract allows are equal
+
+enters-one : (ws : List ℕ) (a b : Answer) (c : Counts) (u v : List ℕ) (r q : Answer) → a ≡ b → Enters ws a c u r → Enters ws b c v q → (r ≡ q) × (u ≡ v)
+enters-one ws a b c u v r q e S T = (
+  S .answer ∙ ap (λ (x : Answer). joinBy ws (shareWords (ownOf x c)) (refusalOf 10 0) (refusalOf 14 0) x) e ∙ sym (T .answer),
+  S .report ∙ ap (λ (x : Answer). joinWords ws (shareWords (ownOf x c))) e ∙ sym (T .report),
+)
+
+module _ (e : ℕ) (file : List ℕ) (opt : ℕ) (ws u v out a b : List ℕ) (r q : Answer) where
+  entered-one : Entered e file opt ws u out a r → Entered e file opt ws v out b q → (r ≡ q) × (u ≡ v) × (a ≡ b)
+  entered-one S T =
+      let h = says-one e file opt out a b (S .own) (T .own) (S .says) (T .says) in
+      let k = enters-one ws (S .own) (T .own) (fileCounts file) u v r q (h .0) (S .enters) (T .enters) in
+      (k .0, k .1, h .1)
+
+  pub adds-one : Adds e file opt ws u out a r → Adds e file opt ws v out b q → (r ≡ q) × (u ≡ v) × (a ≡ b)
+  adds-one S T = by (eqb (length ws) 27) (S .by) (T .by)
+    where
+      by : (t : Bool) → AddsBy t e file opt ws u out a r → AddsBy t e file opt ws v out b q → (r ≡ q) × (u ≡ v) × (a ≡ b)
+      by true s t = entered-one s t
+      by false s t = (s .0 ∙ sym (t .0), s .1 ∙ sym (t .1), s .2 ∙ sym (t .2))
 
 -- ---- a file's own answer is 0, 1 to 9, 10, 11 or 12
 

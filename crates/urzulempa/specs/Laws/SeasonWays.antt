@@ -20,7 +20,8 @@ use Rattle.labels.specs.Marks.{marksOf}
 use Rattle.graph.specs.declared.Made.{Made}
 use Rattle.graph.specs.declared.Made.the-variants as M
 use Rattle.graph.specs.Graphs.{drawn, graphOf}
-use Rattle.graph.specs.Files.{Makes, makes-refused}
+use Rattle.graph.specs.Files.{Makes}
+use Rattle.graph.specs.Laws.Files.{makes-refused}
 use Rattle.shape.specs.Graphed.{Graphed}
 use Rattle.plan.specs.Plan.{shownOf}
 use Rattle.plan.specs.Planned.{Planned}
@@ -36,7 +37,8 @@ use Rattle.tally.specs.Tally.{countsOf, noCounts, countsDrawn, countsRead, file
 use Rattle.tally.specs.Laws.Counts.{counts-are}
 use Rattle.urzulempa.specs.declared.Answer.{Answer}
 use Rattle.urzulempa.specs.Answers.{refusalOf}
-use Rattle.urzulempa.specs.Says.{Says, PlannedAs, planned-as, Walked, editionOf, whole-graphed, whole-ready, whole-shows, whole-says, says-refused, says-zeroth, says-later, says-option, says-file}
+use Rattle.urzulempa.specs.Says.{Says, PlannedAs, Walked, editionOf}
+use Rattle.urzulempa.specs.Laws.Says.{planned-as, whole-graphed, whole-ready, whole-shows, whole-says, says-refused, says-zeroth, says-later, says-option, says-file}
 use Rattle.urzulempa.specs.Season.{joinAnswer, ownOf, Enters, Entered, Adds}
 
 -- ---- joining

@@ -7,7 +7,8 @@ use lib.ListN.{length, take}
 use Rattle.records.specs.Tables.{Tables}
 use Rattle.store.specs.Graph.{Graph}
 use Rattle.explanation.specs.Openings.{howMany, openingsOf, onceOf}
-use Rattle.explanation.specs.Contract.{Drawn, file-demand, file-depth}
+use Rattle.explanation.specs.Contract.{Drawn}
+use Rattle.explanation.specs.Laws.Contract.{file-demand, file-depth}
 use Rattle.explanation.specs.Laws.Second as Second
 use Rattle.urzulempa.specs.declared.Answer.{Answer}
 use Rattle.urzulempa.specs.Says.{Says, resultBy}

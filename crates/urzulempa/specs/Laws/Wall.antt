@@ -14,7 +14,8 @@ use Rattle.store.specs.Table.{graphIn}
 use Rattle.graph.specs.declared.Made.{Made}
 use Rattle.graph.specs.declared.Made.the-variants as M
 use Rattle.graph.specs.Graphs.{Outcome, drawn, refused, graphOf}
-use Rattle.graph.specs.Files.{Makes, makes-good, makes-graph, makes-refused}
+use Rattle.graph.specs.Files.{Makes}
+use Rattle.graph.specs.Laws.Files.{makes-good, makes-graph, makes-refused}
 use Rattle.texts.specs.Wrote.{over}
 use Rattle.explanation.specs.Explain.{refusal}
 use Rattle.wall.specs.Read as R

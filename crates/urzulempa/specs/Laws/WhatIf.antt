@@ -41,6 +41,35 @@ use Rattle.urzulempa.specs.Answers.{refusalOf}
 use Rattle.urzulempa.specs.Nodes.{nodesBy, listOver}
 use Rattle.urzulempa.specs.Says.{resultBy}
 use Rattle.urzulempa.specs.WhatIf.{whatIfAnswer, whatIfLeft, explainOutcome, explainRead, explainWhatIf, SaysWhatIf}
+use Rattle.machine.specs.Laws.Explained as E
+
+-- ---- two results that the contract allows are equal
+
+some-one : {a b : Result} {c d : Option Result} → c ≡ some a → d ≡ some b → c ≡ d → a ≡ b
+some-one x y z = cc
+
+outcome-one : (T : Tables) (X : Outcome) (opt room n m : ℕ) (a b : Result) → explainOutcome n T X opt room ≡ some a → explainOutcome m T X opt room ≡ some b → a ≡ b
+outcome-one T (refused k p) opt room n m a b x y = some-one x y refl
+outcome-one T (drawn G) opt room n m a b x y =
+    let S : Shown = shownOf T G in
+    E.unique (edited 1 (planOf S)) (linesOf S opt) (solvableOf S) (startOf S) room a b (record { turns = n; so = x }) (record { turns = m; so = y })
+
+read-one : (y : Reading) (s r opt room n m : ℕ) (a b : Result) → explainRead n s r opt room y ≡ some a → explainRead m s r opt room y ≡ some b → a ≡ b
+read-one (bad k p) s r opt room n m a b x y = some-one x y refl
+read-one (good T) s r opt room n m a b x y = outcome-one T (askTables T s r) opt room n m a b x y
+
+pub result-one : (file : List ℕ) (s r opt room n m : ℕ) (a b : Result) → explainWhatIf n file s r opt room ≡ some a → explainWhatIf m file s r opt room ≡ some b → a ≡ b
+result-one file s r opt room n m a b x y =
+    split (leb opt 1)
+    (λ t. read-one (readOf file) s r opt room n m a b (rw (t, explainWhatIf) at x) (rw (t, explainWhatIf) at y))
+    (λ t. some-one (rw (t, explainWhatIf) at x) (rw (t, explainWhatIf) at y) refl)
+
+pub says-what-if-one : (file : List ℕ) (s r opt : ℕ) (out a b : List ℕ) (x y : Answer) → SaysWhatIf file s r opt out a x → SaysWhatIf file s r opt out b y → (x ≡ y) × (a ≡ b)
+says-what-if-one file s r opt out a b x y S T =
+    let h : resultBy x (S .text) ≡ resultBy y (T .text) = result-one file s r opt (length out) (S .turns) (T .turns) (resultBy x (S .text)) (resultBy y (T .text)) (S .is) (T .is) in (
+      ap (λ (z : Result). record { number = z .number; place = z .place; bytes = z .bytes; units = z .units; depth = z .depth }) h,
+      S .room ∙ ap (λ (z : Result). over (z .text) out) h ∙ sym (T .room),
+    )
 
 -- ---- which refusals there are
 

@@ -18,7 +18,8 @@ use Rattle.store.specs.Table.{graphIn}
 use Rattle.graph.specs.declared.Made.{Made}
 use Rattle.graph.specs.declared.Made.the-variants as M
 use Rattle.graph.specs.Graphs.{Outcome, drawn, refused, graphOf}
-use Rattle.graph.specs.Files.{Makes, makes-refused}
+use Rattle.graph.specs.Files.{Makes}
+use Rattle.graph.specs.Laws.Files.{makes-refused}
 use Rattle.shape.specs.Graphed.{Graphed}
 use Rattle.whatif.specs.Asked.{questionOf, askDrawn, askTables}
 use Rattle.whatif.specs.Asks.{Asks}
@@ -36,9 +37,11 @@ use Rattle.drawing.specs.Same.{optionOf}
 use Rattle.explanation.specs.Explain.{refusal}
 use Rattle.urzulempa.specs.declared.Answer.{Answer}
 use Rattle.urzulempa.specs.Answers.{refusalOf}
-use Rattle.urzulempa.specs.Draws.{option-is}
-use Rattle.urzulempa.specs.Nodes.{noWords, answerOf, answer-counted}
-use Rattle.urzulempa.specs.Says.{Shows, resultBy, option-low}
+use Rattle.urzulempa.specs.Laws.Draws.{option-is}
+use Rattle.urzulempa.specs.Nodes.{noWords, answerOf}
+use Rattle.urzulempa.specs.Laws.Nodes.{answer-counted}
+use Rattle.urzulempa.specs.Says.{Shows, resultBy}
+use Rattle.urzulempa.specs.Laws.Says.{option-low}
 use Rattle.urzulempa.specs.WhatIf.{whatIfAnswer, whatIfLeft, explainOutcome, explainRead, explainWhatIf, SaysWhatIf}
 
 -- ---- the node list

@@ -10,6 +10,10 @@ use Rattle.writing.specs.Write.{writeAnswer}
 use Rattle.writing.specs.Laws.Promises.{outIn, done-reads}
 use Rattle.urzulempa.specs.Answers.{outcomeAnswer, checkBy, checkOf}
 use Rattle.urzulempa.specs.Write.{writtenAnswer}
+use Rattle.writing.specs.declared.Written.{Written}
+
+pub written-is : (w u : Written) → w ≡ u → record { number = w .number; place = w .place; bytes = w .bytes; units = w .units; depth = 0 } ≡ writtenAnswer u
+written-is w u e = ap writtenAnswer e
 
 -- the file that stands in the room of a call that is done is read whole: the check says what the graph of the rows' tables says
 pub written-check : (rows room : List ℕ) → writtenAnswer (writeAnswer rows (length room)) .number ≡ 0

@@ -1,5 +1,5 @@
 use borrow.Author.Needs.{needs}
-use Rattle.texts.specs.Wrote.{behind}
+use Rattle.texts.specs.Laws.Wrote.{behind}
 use Rattle.exporting.specs.Laws.Writing.{edge-wrote}
 use Rattle.exporting.proofs.lines.put_edge.Statement.{statement}
 use Rattle.exporting.proofs.lines.put_edge.Tie as tie

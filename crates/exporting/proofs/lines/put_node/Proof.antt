@@ -1,5 +1,5 @@
 use borrow.Author.Needs.{needs}
-use Rattle.texts.specs.Wrote.{behind}
+use Rattle.texts.specs.Laws.Wrote.{behind}
 use Rattle.exporting.specs.Laws.Writing.{node-wrote}
 use Rattle.exporting.proofs.lines.put_node.Statement.{statement}
 use Rattle.exporting.proofs.lines.put_node.Tie as tie

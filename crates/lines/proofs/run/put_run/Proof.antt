@@ -1,5 +1,5 @@
 use borrow.Author.Needs.{needs}
-use Rattle.texts.specs.Wrote.{behind}
+use Rattle.texts.specs.Laws.Wrote.{behind}
 use Rattle.lines.proofs.run.put_run.Statement.{statement}
 use Rattle.lines.proofs.run.put_run.Tie as tie
 

@@ -1,5 +1,5 @@
 use borrow.Author.Needs.{needs}
-use Rattle.basis.specs.Guard.{guards}
+use Rattle.basis.specs.Laws.Guard.{guards}
 use Rattle.records.specs.Fits.{boundedFits}
 use Rattle.records.proofs.fits.bounded.Statement.{statement}
 use Rattle.records.proofs.fits.bounded.Tie as tie

@@ -1,5 +1,5 @@
 use borrow.Author.Needs.{needs}
-use Rattle.basis.specs.Guard.{guards}
+use Rattle.basis.specs.Laws.Guard.{guards}
 use Rattle.records.specs.Fits.{candidateFits}
 use Rattle.records.proofs.fits.candidate.Statement.{statement}
 use Rattle.records.proofs.fits.candidate.Tie as tie

@@ -1,5 +1,5 @@
 use borrow.Author.Needs.{needs}
-use Rattle.basis.specs.Guard.{guards}
+use Rattle.basis.specs.Laws.Guard.{guards}
 use Rattle.records.specs.Pass.{allows-via}
 use Rattle.records.specs.Fits.{originFits}
 use Rattle.records.proofs.fits.origin_fits.Statement.{statement}

@@ -1,5 +1,5 @@
 use borrow.Author.Needs.{needs}
-use Rattle.basis.specs.Guard.{guards}
+use Rattle.basis.specs.Laws.Guard.{guards}
 use Rattle.records.specs.Pass.{moreOf, with-via}
 use Rattle.records.proofs.kinds.more.Statement.{statement}
 use Rattle.records.proofs.kinds.more.Tie as tie

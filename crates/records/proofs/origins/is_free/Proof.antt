@@ -1,5 +1,5 @@
 use borrow.Author.Needs.{needs}
-use Rattle.basis.specs.Guard.{guards}
+use Rattle.basis.specs.Laws.Guard.{guards}
 use Rattle.records.specs.Pass.{freePass, free-is}
 use Rattle.records.proofs.origins.is_free.Statement.{statement}
 use Rattle.records.proofs.origins.is_free.Tie as tie

@@ -1,5 +1,5 @@
 use borrow.Author.Needs.{needs}
-use Rattle.basis.specs.Guard.{guards}
+use Rattle.basis.specs.Laws.Guard.{guards}
 use Rattle.records.specs.Text.{textPass, low-no, low-yes, all-text-via, rest-zero-via}
 use Rattle.records.proofs.text.text_good.Statement.{statement}
 use Rattle.records.proofs.text.text_good.Tie as tie

@@ -1,5 +1,5 @@
 use borrow.Author.Needs.{needs}
-use Rattle.basis.specs.Guard.{guards}
+use Rattle.basis.specs.Laws.Guard.{guards}
 use Rattle.records.specs.Text.{firstPass}
 use Rattle.records.proofs.text.unmarked.Statement.{statement}
 use Rattle.records.proofs.text.unmarked.Tie as tie

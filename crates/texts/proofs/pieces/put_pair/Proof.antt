@@ -1,5 +1,5 @@
 use borrow.Author.Needs.{needs}
-use Rattle.texts.specs.Wrote.{behind}
+use Rattle.texts.specs.Laws.Wrote.{behind}
 use Rattle.texts.specs.Small.{pair-wrote}
 use Rattle.texts.proofs.pieces.put_pair.Statement.{statement}
 use Rattle.texts.proofs.pieces.put_pair.Tie as tie

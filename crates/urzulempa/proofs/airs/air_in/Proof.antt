@@ -1,4 +1,4 @@
-use Rattle.graph.specs.Files.{makes-loaded, makes-chains, makes-graph}
+use Rattle.graph.specs.Laws.Files.{makes-loaded, makes-chains, makes-graph}
 use Rattle.urzulempa.specs.Laws.AirWays.{air-unmade}
 use borrow.Author.Needs.{needs}
 use Rattle.urzulempa.proofs.airs.air_in.Statement.{statement}

@@ -1,5 +1,5 @@
 use borrow.Author.Needs.{needs}
-use Rattle.graph.specs.Files.{makes-loaded, makes-chains, makes-graph}
+use Rattle.graph.specs.Laws.Files.{makes-loaded, makes-chains, makes-graph}
 use Rattle.urzulempa.specs.Laws.WhatIfWays.{what-if-unmade}
 use Rattle.urzulempa.proofs.asks.ask_in.Statement.{statement}
 use Rattle.urzulempa.proofs.asks.ask_in.Tie as tie

@@ -1,4 +1,4 @@
-use Rattle.urzulempa.specs.Answers.{check-refused, check-whole}
+use Rattle.urzulempa.specs.Laws.Answers.{check-refused, check-whole}
 use borrow.Author.Needs.{needs}
 use Rattle.urzulempa.proofs.checks.check_in.Statement.{statement}
 use Rattle.urzulempa.proofs.checks.check_in.Tie as tie

@@ -1,5 +1,5 @@
 use borrow.Author.Needs.{needs}
-use Rattle.graph.specs.Files.{makes-stored}
+use Rattle.graph.specs.Laws.Files.{makes-stored}
 use Rattle.urzulempa.specs.Laws.Edges.{bytes-refused, bytes-refused-list, bytes-whole, bytes-whole-list}
 use Rattle.urzulempa.proofs.edges.edges_in.Statement.{statement}
 use Rattle.urzulempa.proofs.edges.edges_in.Tie as tie

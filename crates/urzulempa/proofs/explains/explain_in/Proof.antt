@@ -1,5 +1,5 @@
-use Rattle.graph.specs.Files.{makes-loaded, makes-chains, makes-graph}
-use Rattle.urzulempa.specs.Says.{says-refused}
+use Rattle.graph.specs.Laws.Files.{makes-loaded, makes-chains, makes-graph}
+use Rattle.urzulempa.specs.Laws.Says.{says-refused}
 use borrow.Author.Needs.{needs}
 use Rattle.urzulempa.proofs.explains.explain_in.Statement.{statement}
 use Rattle.urzulempa.proofs.explains.explain_in.Tie as tie

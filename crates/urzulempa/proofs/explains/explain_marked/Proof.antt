@@ -1,5 +1,5 @@
 use Rattle.measuring.specs.Assembly.{fresh-plan}
-use Rattle.urzulempa.specs.Says.{whole-ready, whole-shows}
+use Rattle.urzulempa.specs.Laws.Says.{whole-ready, whole-shows}
 use borrow.Author.Needs.{needs}
 use Rattle.urzulempa.proofs.explains.explain_marked.Statement.{statement}
 use Rattle.urzulempa.proofs.explains.explain_marked.Tie as tie

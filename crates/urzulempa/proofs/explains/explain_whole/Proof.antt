@@ -1,4 +1,4 @@
-use Rattle.urzulempa.specs.Says.{whole-graphed, whole-says}
+use Rattle.urzulempa.specs.Laws.Says.{whole-graphed, whole-says}
 use borrow.Author.Needs.{needs}
 use Rattle.urzulempa.proofs.explains.explain_whole.Statement.{statement}
 use Rattle.urzulempa.proofs.explains.explain_whole.Tie as tie

@@ -1,5 +1,5 @@
 use borrow.Author.Needs.{needs}
-use Rattle.urzulempa.specs.Says.{planned-as}
+use Rattle.urzulempa.specs.Laws.Says.{planned-as}
 use Rattle.urzulempa.proofs.explains.plan_as.Statement.{statement}
 use Rattle.urzulempa.proofs.explains.plan_as.Tie as tie
 

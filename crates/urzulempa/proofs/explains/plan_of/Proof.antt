@@ -1,4 +1,4 @@
-use Rattle.urzulempa.specs.Says.{labelled, made-long}
+use Rattle.urzulempa.specs.Laws.Says.{labelled, made-long}
 use borrow.Author.Needs.{needs}
 use Rattle.urzulempa.proofs.explains.plan_of.Statement.{statement}
 use Rattle.urzulempa.proofs.explains.plan_of.Tie as tie

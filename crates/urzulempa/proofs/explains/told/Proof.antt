@@ -1,4 +1,4 @@
-use Rattle.urzulempa.specs.Says.{told-via}
+use Rattle.urzulempa.specs.Laws.Says.{told-via}
 use borrow.Author.Needs.{needs}
 use Rattle.urzulempa.proofs.explains.told.Statement.{statement}
 use Rattle.urzulempa.proofs.explains.told.Tie as tie

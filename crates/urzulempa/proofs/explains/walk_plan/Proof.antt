@@ -1,4 +1,4 @@
-use Rattle.urzulempa.specs.Says.{walked}
+use Rattle.urzulempa.specs.Laws.Says.{walked}
 use borrow.Author.Needs.{needs}
 use Rattle.urzulempa.proofs.explains.walk_plan.Statement.{statement}
 use Rattle.urzulempa.proofs.explains.walk_plan.Tie as tie

@@ -1,5 +1,5 @@
 use borrow.Author.Needs.{needs}
-use Rattle.urzulempa.specs.Draws.{answer-via}
+use Rattle.urzulempa.specs.Laws.Draws.{answer-via}
 use Rattle.urzulempa.proofs.graphs.answer.Statement.{statement}
 use Rattle.urzulempa.proofs.graphs.answer.Tie as tie
 

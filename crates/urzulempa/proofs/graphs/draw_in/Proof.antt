@@ -1,5 +1,5 @@
-use Rattle.graph.specs.Files.{makes-loaded, makes-chains}
-use Rattle.urzulempa.specs.Draws.{bytes-refused, bytes-refused-room, bytes-whole, bytes-whole-room}
+use Rattle.graph.specs.Laws.Files.{makes-loaded, makes-chains}
+use Rattle.urzulempa.specs.Laws.Draws.{bytes-refused, bytes-refused-room, bytes-whole, bytes-whole-room}
 use borrow.Author.Needs.{needs}
 use Rattle.urzulempa.proofs.graphs.draw_in.Statement.{statement}
 use Rattle.urzulempa.proofs.graphs.draw_in.Tie as tie

@@ -1,4 +1,4 @@
-use Rattle.urzulempa.specs.Draws.{draws-answer}
+use Rattle.urzulempa.specs.Laws.Draws.{draws-answer}
 use borrow.Author.Needs.{needs}
 use Rattle.urzulempa.proofs.graphs.draw_whole.Statement.{statement}
 use Rattle.urzulempa.proofs.graphs.draw_whole.Tie as tie

@@ -1,4 +1,4 @@
-use Rattle.urzulempa.specs.Draws.{draws-given, draws-plain}
+use Rattle.urzulempa.specs.Laws.Draws.{draws-given, draws-plain}
 use borrow.Author.Needs.{needs}
 use Rattle.urzulempa.proofs.graphs.lead_if.Statement.{statement}
 use Rattle.urzulempa.proofs.graphs.lead_if.Tie as tie

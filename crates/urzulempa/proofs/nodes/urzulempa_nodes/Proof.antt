@@ -46,7 +46,8 @@ use denote.Triple.Walked.{says, Stays, stay-none-slice, gave-slice, walkOf, goes
 use denote.Exit.{yes}
 use Rattle.entries.specs.Entry.{fillTo}
 use Rattle.entries.specs.declared.NodeEntry.{NodeEntry}
-use Rattle.urzulempa.specs.Nodes.{noWords, answerOf, count-fits, exported}
+use Rattle.urzulempa.specs.Nodes.{noWords, answerOf}
+use Rattle.urzulempa.specs.Laws.Nodes.{count-fits, exported}
 use Rattle.nodelist.specs.Nodes.{nodesOf}
 use Rattle.nodelist.specs.Listed.{Listed}
 use Rattle.nodelist.specs.declared.Counted.{Counted}

@@ -1,5 +1,5 @@
 use borrow.Author.Needs.{needs}
-use Rattle.graph.specs.Files.{makes-loaded, makes-chains, makes-graph}
+use Rattle.graph.specs.Laws.Files.{makes-loaded, makes-chains, makes-graph}
 use Rattle.urzulempa.specs.Laws.SeasonWays.{entered-refused}
 use Rattle.urzulempa.proofs.seasons.season_in.Statement.{statement}
 use Rattle.urzulempa.proofs.seasons.season_in.Tie as tie

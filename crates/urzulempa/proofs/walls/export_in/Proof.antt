@@ -1,4 +1,4 @@
-use Rattle.graph.specs.Files.{makes-loaded, makes-stored}
+use Rattle.graph.specs.Laws.Files.{makes-loaded, makes-stored}
 use Rattle.urzulempa.specs.Laws.Wall.{export-refused, export-refused-room, export-whole, export-whole-room}
 use borrow.Author.Needs.{needs}
 use Rattle.urzulempa.proofs.walls.export_in.Statement.{statement}
