@@ -18,11 +18,11 @@ use Rattle.plan.specs.Plan.{shownOf}
 use Rattle.explanation.specs.Explain.{explainEdition}
 use Rattle.air.specs.declared.Profile.{Profile}
 use Rattle.air.specs.declared.Profile.the-variants.{Passed, Refused}
-use Rattle.urzulempa.specs.declared.Answer.{Answer}
-use Rattle.urzulempa.specs.Answers.{refusalOf}
-use Rattle.urzulempa.specs.Says.{resultBy}
-use Rattle.urzulempa.specs.Air.{airOf, SaysBy, SaysAir}
-use Rattle.urzulempa.specs.Laws.Air.{says-air-one}
+use Rattle.calls.specs.declared.Answer.{Answer}
+use Rattle.calls.specs.Answers.{refusalOf}
+use Rattle.calls.specs.Says.{resultBy}
+use Rattle.calls.specs.Air.{airOf, SaysBy, SaysAir}
+use Rattle.calls.specs.Laws.Air.{says-air-one}
 use Rattle.cases.specs.Files.{badLength, replay, deckPanel, lost, wide, withLock, selfish, twined, crowdedLoop, lockedLoop}
 use Rattle.cases.specs.Texts.{printed, replayLines, loneLines}
 use Rattle.cases.specs.Room.{more-room}

@@ -21,8 +21,8 @@ use Rattle.plan.specs.Plan.{shownOf, planOf}
 use Rattle.explanation.specs.Explain.{refusal, explainFile, explainEdition, explainTables}
 use Rattle.explanation.specs.Contract.{Drawn}
 use Rattle.explanation.specs.Laws.Contract.{theBound, file-depth}
-use Rattle.urzulempa.specs.declared.Answer.{Answer}
-use Rattle.urzulempa.specs.Says.{Says, resultBy}
+use Rattle.calls.specs.declared.Answer.{Answer}
+use Rattle.calls.specs.Says.{Says, resultBy}
 
 -- "the bound g + (g + 1) × u", with g groups and u unmerged packages among the solvable nodes; 0 where no graph is drawn
 abbrev boundIn : Tables → Outcome → ℕ

@@ -17,10 +17,10 @@ use Rattle.texts.specs.Indent.{indent}
 use Rattle.plan.specs.Plan.{shownOf}
 use Rattle.explanation.specs.Explain.{explainEdition}
 use Rattle.explanation.specs.Openings.{howMany, openingsOf, onceOf}
-use Rattle.urzulempa.specs.declared.Answer.{Answer}
-use Rattle.urzulempa.specs.Answers.{refusalOf}
-use Rattle.urzulempa.specs.Says.{Says, resultBy}
-use Rattle.urzulempa.specs.Laws.Says.{says-one}
+use Rattle.calls.specs.declared.Answer.{Answer}
+use Rattle.calls.specs.Answers.{refusalOf}
+use Rattle.calls.specs.Says.{Says, resultBy}
+use Rattle.calls.specs.Laws.Says.{says-one}
 use Rattle.cases.specs.Files.{badLength, replay, deckPanel, mergedPair, desk, shared}
 use Rattle.cases.specs.Texts.{printed, replayLines, deckLines, pairLines, deskLines, sharedLines}
 use Rattle.cases.specs.Table.{Rooms, atLeast, shortest, Fits}

@@ -6,10 +6,10 @@ use native.Mathlib.Omega.{arith}
 use lib.ListN.{length, replicate, getD}
 use Rattle.texts.specs.Wrote.{over}
 use Rattle.explanation.specs.Laws.Contract.{file-answers}
-use Rattle.urzulempa.specs.declared.Answer.{Answer}
-use Rattle.urzulempa.specs.Draws.{resultAnswer}
-use Rattle.urzulempa.specs.Plain.{plainOption}
-use Rattle.urzulempa.specs.Says.{Says}
+use Rattle.calls.specs.declared.Answer.{Answer}
+use Rattle.calls.specs.Draws.{resultAnswer}
+use Rattle.calls.specs.Plain.{plainOption}
+use Rattle.calls.specs.Says.{Says}
 use Rattle.cases.specs.Files.{replay}
 use Rattle.cases.specs.Texts.{printed, replayLines, indentedLines}
 use Rattle.cases.specs.Table.{p7, indented}

@@ -13,7 +13,7 @@ use Rattle.machine.specs.Units.{TextUnit, textOf, fit, written}
 use Rattle.drawing.specs.Draw.{drawnOf}
 use Rattle.drawing.specs.Graphviz.{drawShown}
 use Rattle.nodelist.specs.Nodes.{entered, nodesOf}
-use Rattle.urzulempa.specs.Draws.{drawFile}
+use Rattle.calls.specs.Draws.{drawFile}
 use Rattle.cases.specs.Files.{monitor}
 use Rattle.cases.specs.Texts.{printed, monitorLines}
 use Rattle.cases.specs.Table.{Case, atLeast, answer, node}

@@ -19,11 +19,11 @@ use Rattle.plan.specs.Plan.{shownOf}
 use Rattle.explanation.specs.Explain.{explainFile}
 use Rattle.entries.specs.declared.NodeEntry.{NodeEntry}
 use Rattle.nodelist.specs.Nodes.{Nodes, entered, denied, nodesDrawn, nodesRead, nodesOf, listedBy}
-use Rattle.urzulempa.specs.declared.Answer.{Answer}
-use Rattle.urzulempa.specs.Answers.{refusalOf, outcomeAnswer, checkBy, checkOf}
-use Rattle.urzulempa.specs.Nodes.{nodesBy, nodesAnswer, nodesLeft, listOver}
-use Rattle.urzulempa.specs.Says.{Says, resultBy}
-use Rattle.urzulempa.specs.Laws.Says.{says-one}
+use Rattle.calls.specs.declared.Answer.{Answer}
+use Rattle.calls.specs.Answers.{refusalOf, outcomeAnswer, checkBy, checkOf}
+use Rattle.calls.specs.Nodes.{nodesBy, nodesAnswer, nodesLeft, listOver}
+use Rattle.calls.specs.Says.{Says, resultBy}
+use Rattle.calls.specs.Laws.Says.{says-one}
 use Rattle.cases.specs.Bound.{boundOf}
 use Rattle.cases.specs.Room.{more-room}
 use Rattle.cases.specs.Table.{Case, Rooms, atLeast, exactly, shortest, Fits, table, replayNodes}

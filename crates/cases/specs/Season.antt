@@ -15,9 +15,9 @@ use Rattle.season.specs.Season.{share}
 use Rattle.season.specs.Words.{deepIn, reportOf, wordsOf, joinBy, joinWords, shareWords}
 use Rattle.tally.specs.declared.Counts.{Counts}
 use Rattle.tally.specs.Tally.{fileCounts}
-use Rattle.urzulempa.specs.declared.Answer.{Answer}
-use Rattle.urzulempa.specs.Answers.{refusalOf}
-use Rattle.urzulempa.specs.Season.{joinAnswer, ownOf, Entered, AddsBy, Adds}
+use Rattle.calls.specs.declared.Answer.{Answer}
+use Rattle.calls.specs.Answers.{refusalOf}
+use Rattle.calls.specs.Season.{joinAnswer, ownOf, Entered, AddsBy, Adds}
 use Rattle.cases.specs.Table.{Case, Fits, p6, p7, p8, p9}
 use Rattle.cases.specs.Right.{Right, right}
 

@@ -6,8 +6,8 @@ use lib.ListN.{take}
 use Rattle.basis.specs.Lists.{upto}
 use Rattle.entries.specs.declared.NodeEntry.{NodeEntry}
 use Rattle.nodelist.specs.Nodes.{Nodes, entered, denied}
-use Rattle.urzulempa.specs.declared.Answer.{Answer}
-use Rattle.urzulempa.specs.Answers.{refusalOf}
+use Rattle.calls.specs.declared.Answer.{Answer}
+use Rattle.calls.specs.Answers.{refusalOf}
 use Rattle.cases.specs.Files.{badLength, replay, deckPanel, mergedPair, lone, withLearnt, wide, lost, apart, panelDeck, desk}
 use Rattle.cases.specs.Texts.{printed, replayLines, indentedLines, deckLines, pairLines, loneLines, wideLines, deskLines}
 

@@ -6,10 +6,10 @@ use native.Mathlib.Omega.{arith}
 use lib.ListN.{length, replicate, getD, take}
 use Rattle.texts.specs.Wrote.{over}
 use Rattle.explanation.specs.Laws.Contract.{file-answers}
-use Rattle.urzulempa.specs.declared.Answer.{Answer}
-use Rattle.urzulempa.specs.Draws.{resultAnswer}
-use Rattle.urzulempa.specs.Says.{Says}
-use Rattle.urzulempa.specs.Laws.Says.{says-one}
+use Rattle.calls.specs.declared.Answer.{Answer}
+use Rattle.calls.specs.Draws.{resultAnswer}
+use Rattle.calls.specs.Says.{Says}
+use Rattle.calls.specs.Laws.Says.{says-one}
 use Rattle.cases.specs.Files.{replay, deckPanel, mergedPair, lone, lost, desk}
 use Rattle.cases.specs.Texts.{printed, replayLines, deskLines}
 use Rattle.cases.specs.Table.{Case, Fits, p5, p7, p9, p10, p11, twoRuns}

@@ -37,22 +37,22 @@ use Rattle.explanation.specs.Explain.{refusal, isEdition}
 use Rattle.explanation.specs.Openings.{howMany, openingsOf}
 use Rattle.explanation.specs.Contract.{Drawn}
 use Rattle.explanation.specs.Laws.Second.{second-openings}
-use Rattle.urzulempa.specs.declared.Answer.{Answer}
-use Rattle.urzulempa.specs.Answers.{refusalOf, checkOf}
-use Rattle.urzulempa.specs.Air.{airOf, SaysAir}
-use Rattle.urzulempa.specs.Laws.Air.{says-air-one}
-use Rattle.urzulempa.specs.Draws.{resultAnswer, drawFile}
-use Rattle.urzulempa.specs.Edges.{edgesAnswer, edgesLeft}
-use Rattle.urzulempa.specs.Nodes.{nodesAnswer, nodesLeft}
-use Rattle.urzulempa.specs.Settings.{changeAnswer}
-use Rattle.urzulempa.specs.Wall.{exportFile}
-use Rattle.urzulempa.specs.WhatIf.{whatIfAnswer, whatIfLeft, SaysWhatIf}
-use Rattle.urzulempa.specs.Laws.WhatIf.{says-what-if-one}
-use Rattle.urzulempa.specs.Write.{writtenAnswer}
-use Rattle.urzulempa.specs.Laws.WhatIf.{list-unchanged, what-if-never}
-use Rattle.urzulempa.specs.Says.{Says, Shows}
-use Rattle.urzulempa.specs.Laws.Says.{says-one}
-use Rattle.urzulempa.specs.Laws.Second.{second-never}
+use Rattle.calls.specs.declared.Answer.{Answer}
+use Rattle.calls.specs.Answers.{refusalOf, checkOf}
+use Rattle.calls.specs.Air.{airOf, SaysAir}
+use Rattle.calls.specs.Laws.Air.{says-air-one}
+use Rattle.calls.specs.Draws.{resultAnswer, drawFile}
+use Rattle.calls.specs.Edges.{edgesAnswer, edgesLeft}
+use Rattle.calls.specs.Nodes.{nodesAnswer, nodesLeft}
+use Rattle.calls.specs.Settings.{changeAnswer}
+use Rattle.calls.specs.Wall.{exportFile}
+use Rattle.calls.specs.WhatIf.{whatIfAnswer, whatIfLeft, SaysWhatIf}
+use Rattle.calls.specs.Laws.WhatIf.{says-what-if-one}
+use Rattle.calls.specs.Write.{writtenAnswer}
+use Rattle.calls.specs.Laws.WhatIf.{list-unchanged, what-if-never}
+use Rattle.calls.specs.Says.{Says, Shows}
+use Rattle.calls.specs.Laws.Says.{says-one}
+use Rattle.calls.specs.Laws.Second.{second-never}
 use Rattle.demands.specs.Rules.{Early, Refusing, Passed, UnitsOr, unitsIn, EndsIn, WholeUnits, NoRoom, Looping, OthersStay, groupsIn, singlesIn, entryAt, saysInstallable, saysMissing, linesIn, AllReadOff}
 use Rattle.demands.specs.Rules as Rules
 use Rattle.demands.specs.Laws.Calls.{check-passed, passed-check, passed-drawn}

@@ -28,7 +28,7 @@ use Rattle.texts.specs.Wrote.{over}
 use Rattle.drawing.specs.Graphviz.{unitOf}
 use Rattle.entries.specs.declared.NodeEntry.{NodeEntry}
 use Rattle.explanation.specs.Explain.{refusal}
-use Rattle.urzulempa.specs.declared.Answer.{Answer}
+use Rattle.calls.specs.declared.Answer.{Answer}
 
 -- "1 to 9 and 12"
 abbrev pub Early : ℕ → Type 0

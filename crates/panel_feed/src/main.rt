@@ -1,6 +1,6 @@
 // What a small panel of 40 columns shows of each record file that the arguments name: the explanation with option 0 in a room of 320
 // bytes, the whole lines that fit, each cut to the panel's width, and below them whether there is more.
-use urzulempa::Answer;
+use calls::Answer;
 use urzulempa::urzulempa_explain;
 ghost use mathlib.Core.Path.{_≡_};
 ghost use Prim.Native.Nat.{_-_, _≤_, min};

@@ -8,8 +8,8 @@ use native.Mathlib.Decide.{decLe}
 use lib.Dec.{leb}
 use borrow.Author.Tests.{le-leb, lt-leb}
 use Rattle.basis.specs.Members.{clash}
-use Rattle.urzulempa.specs.Plain.{plainOption}
-use Rattle.replay.specs.declared.calls.Seen.{Seen}
+use Rattle.calls.specs.Plain.{plainOption}
+use Rattle.replay.specs.declared.early.Seen.{Seen}
 use Rattle.replay.specs.Head.{callIn, optionIn, firstIn, secondIn, roomIn, recordedIn}
 use Rattle.replay.specs.Seen.{Told, told-one, Aired, aired-one, noCall, blank, blankNumbers, checkedIn, drawnIn, listedIn, edgedIn, mendedIn, replacedIn}
 use Rattle.replay.specs.Later.{FromTen, from-ten-one}

@@ -9,11 +9,11 @@ use borrow.Author.Tests.{le-leb, lt-leb}
 use Rattle.nodelist.specs.declared.Counted.{Counted}
 use Rattle.nodelist.specs.Listed.{Listed}
 use Rattle.asking.specs.Nodes.{askedNodes}
-use Rattle.urzulempa.specs.declared.Answer.{Answer}
-use Rattle.urzulempa.specs.Nodes.{answerOf}
-use Rattle.urzulempa.specs.WhatIf.{whatIfAnswer, whatIfLeft, SaysWhatIf}
-use Rattle.urzulempa.specs.Laws.WhatIf.{says-what-if-one}
-use Rattle.replay.specs.declared.calls.Seen.{Seen}
+use Rattle.calls.specs.declared.Answer.{Answer}
+use Rattle.calls.specs.Nodes.{answerOf}
+use Rattle.calls.specs.WhatIf.{whatIfAnswer, whatIfLeft, SaysWhatIf}
+use Rattle.calls.specs.Laws.WhatIf.{says-what-if-one}
+use Rattle.replay.specs.declared.early.Seen.{Seen}
 use Rattle.replay.specs.Sum.{sumOf, sumEntries, entriesAt}
 use Rattle.replay.specs.Seen.{seenOf, answerIn, noCall, blank, blankList, blankWords, take-blank, both-one, shown-in}
 

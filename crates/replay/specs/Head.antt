@@ -4,7 +4,7 @@ use Prim.Native.Nat.{ℕ, _+_, _*_, _≤_}
 use mathlib.Core.List.{List}
 use lib.ListN.{length, getD, take}
 use lib.Seq.{length-take-le}
-use Rattle.replay.specs.declared.calls.Seen.{Seen}
+use Rattle.replay.specs.declared.early.Seen.{Seen}
 
 abbrev pub pairAt : List ℕ → ℕ → ℕ
 pairAt xs at = getD xs at 0 + 256 * getD xs (at + 1) 0

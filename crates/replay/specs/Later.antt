@@ -11,11 +11,11 @@ use Rattle.texts.specs.Wrote.{over, Wrote}
 use Rattle.settings.specs.declared.Settings.{Settings}
 use Rattle.settings.specs.Settings.{readOf}
 use Rattle.settings.specs.Change.{changeOf, roomOf}
-use Rattle.urzulempa.specs.declared.Answer.{Answer}
-use Rattle.urzulempa.specs.Settings.{changeAnswer}
-use Rattle.urzulempa.specs.Write.{writtenAnswer}
+use Rattle.calls.specs.declared.Answer.{Answer}
+use Rattle.calls.specs.Settings.{changeAnswer}
+use Rattle.calls.specs.Write.{writtenAnswer}
 use Rattle.writing.specs.Write.{writeAnswer, writeRoom}
-use Rattle.replay.specs.declared.calls.Seen.{Seen}
+use Rattle.replay.specs.declared.early.Seen.{Seen}
 use Rattle.replay.specs.Sum.{sumFrom, sumOf}
 use Rattle.replay.specs.Seen.{seenOf, noCall, blank, take-blank, prefix-blank}
 

@@ -2,7 +2,7 @@
 use mathlib.Core.Path.{_≡_, refl, sym, _∙_}
 use mathlib.Core.List.{List}
 use Prim.Native.Nat.{ℕ, zero, suc}
-use Rattle.replay.specs.declared.calls.Seen.{Seen}
+use Rattle.replay.specs.declared.early.Seen.{Seen}
 use Rattle.replay.specs.Seen.{noCall, blank}
 use Rattle.replay.specs.Asked.{asksIn, ToldIf, told-if-one}
 use Rattle.replay.specs.Walls.{blankWide, hungIn, spotsIn, endsIn}

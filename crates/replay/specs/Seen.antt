@@ -14,17 +14,17 @@ use Rattle.entries.specs.declared.NodeEntry.{NodeEntry}
 use Rattle.nodelist.specs.Nodes.{Nodes, nodesOf, listedBy}
 use Rattle.nodelist.specs.declared.Counted.{Counted}
 use Rattle.nodelist.specs.Listed.{Listed, wordsOver, as-many, in-room}
-use Rattle.urzulempa.specs.declared.Answer.{Answer}
-use Rattle.urzulempa.specs.Answers.{checkOf}
-use Rattle.urzulempa.specs.Says.{Says}
-use Rattle.urzulempa.specs.Laws.Says.{says-one}
-use Rattle.urzulempa.specs.Air.{SaysAir}
-use Rattle.urzulempa.specs.Laws.Air.{says-air-one}
-use Rattle.urzulempa.specs.Draws.{resultAnswer, drawFile}
-use Rattle.urzulempa.specs.Nodes.{nodesBy, nodesAnswer, listOver, nodesLeft, answerOf}
-use Rattle.urzulempa.specs.Laws.Nodes.{answer-counted}
-use Rattle.urzulempa.specs.Edges.{edgesAnswer, edgesLeft}
-use Rattle.replay.specs.declared.calls.Seen.{Seen}
+use Rattle.calls.specs.declared.Answer.{Answer}
+use Rattle.calls.specs.Answers.{checkOf}
+use Rattle.calls.specs.Says.{Says}
+use Rattle.calls.specs.Laws.Says.{says-one}
+use Rattle.calls.specs.Air.{SaysAir}
+use Rattle.calls.specs.Laws.Air.{says-air-one}
+use Rattle.calls.specs.Draws.{resultAnswer, drawFile}
+use Rattle.calls.specs.Nodes.{nodesBy, nodesAnswer, listOver, nodesLeft, answerOf}
+use Rattle.calls.specs.Laws.Nodes.{answer-counted}
+use Rattle.calls.specs.Edges.{edgesAnswer, edgesLeft}
+use Rattle.replay.specs.declared.early.Seen.{Seen}
 use Rattle.replay.specs.Sum.{sumFrom, sumOf, sumEntries, entriesAt}
 
 abbrev pub seenOf : Answer → ℕ → Seen

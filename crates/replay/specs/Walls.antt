@@ -7,10 +7,10 @@ use Rattle.texts.specs.Wrote.{over}
 use Rattle.wall.specs.declared.Counts.{Counts}
 use Rattle.wall.specs.Read.{readText}
 use Rattle.wall.specs.Lent.{tgfCounts, tgfNodes, tgfEdges}
-use Rattle.urzulempa.specs.declared.Answer.{Answer}
-use Rattle.urzulempa.specs.Draws.{resultAnswer}
-use Rattle.urzulempa.specs.Wall.{exportFile}
-use Rattle.replay.specs.declared.calls.Seen.{Seen}
+use Rattle.calls.specs.declared.Answer.{Answer}
+use Rattle.calls.specs.Draws.{resultAnswer}
+use Rattle.calls.specs.Wall.{exportFile}
+use Rattle.replay.specs.declared.early.Seen.{Seen}
 use Rattle.replay.specs.Sum.{sumOf}
 use Rattle.replay.specs.Seen.{seenOf, blank, take-blank}
 

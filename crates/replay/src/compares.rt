@@ -1,8 +1,8 @@
 // What a call shows now, against what is recorded of it.
 ghost use Prim.Native.Nat.{_≤_};
 ghost use Rattle.replay.specs.Again.{Replayed, Same, Agrees};
-use crate::calls::Seen;
-use crate::calls::to_nine;
+use crate::early::Seen;
+use crate::early::to_nine;
 use crate::heads::recorded;
 use crate::heads::word;
 use crate::later::from_ten;

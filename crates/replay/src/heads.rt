@@ -2,7 +2,7 @@
 ghost use mathlib.Core.Path.{_≡_};
 ghost use Prim.Native.Nat.{_<_};
 ghost use Rattle.replay.specs.Head.{pairAt, quadAt, wordAt, recordedIn};
-use crate::calls::Seen;
+use crate::early::Seen;
 use crate::sums::wide;
 use basis::byte;
 

@@ -2,8 +2,8 @@
 // and the checksum of the whole room are compared with what is recorded (host/oracle/src/record.rs makes the list and tells its form).
 // One line for each file: the shape, the seed and the recorded numbers; below it what differs.
 mod asked;
-mod calls;
 mod compares;
+mod early;
 mod heads;
 mod later;
 mod latest;
@@ -13,9 +13,9 @@ mod walls;
 ghost use mathlib.Core.Path.{_≡_};
 ghost use Prim.Native.Nat.{_+_, _%_, _^_};
 ghost use Rattle.replay.specs.Tally.{stoppedAt, oneMore, endedBy};
-use calls::Seen;
 use compares::agrees;
 use compares::replayed;
+use early::Seen;
 use heads::recorded;
 use heads::word;
 

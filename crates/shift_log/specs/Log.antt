@@ -4,9 +4,9 @@ use mathlib.Core.List.{List}
 use Prim.Native.Nat.{ℕ, zero, suc, _+_, _%_, _^_, _≤_}
 use lib.ListN.{length, replicate, take}
 use lib.Seq.{length-take-le}
-use Rattle.urzulempa.specs.declared.Answer.{Answer}
-use Rattle.urzulempa.specs.Says.{Says}
-use Rattle.urzulempa.specs.Laws.Says.{says-one}
+use Rattle.calls.specs.declared.Answer.{Answer}
+use Rattle.calls.specs.Says.{Says}
+use Rattle.calls.specs.Laws.Says.{says-one}
 use Rattle.shift_log.specs.declared.Shift.{Shift}
 
 -- one file more that was answered with the number

@@ -1,5 +1,5 @@
 // The log of a shift: for each record file that the arguments name, what the explanation with option 0 answers, in words, and its text.
-use urzulempa::Answer;
+use calls::Answer;
 use urzulempa::urzulempa_explain;
 ghost use mathlib.Core.Path.{_≡_};
 ghost use Prim.Native.Nat.{_≤_, min};
@@ -161,6 +161,13 @@ fn read_and_tell(fd: i32) -> u64 {
     tell(&file[..n])
 }
 
+// A folder opens as a file does, but not even no byte of it can be read.
+fn readable(fd: i32) -> bool {
+    let mut none = [0u8; 1];
+    let n = libc::read(fd, &mut none[..0]);
+    0 <= n
+}
+
 // The file that an argument names.
 fn log(i: usize, s: Shift) -> Shift {
     let mut path = io::buffer();
@@ -169,6 +176,11 @@ fn log(i: usize, s: Shift) -> Shift {
     say(b": ");
     let fd = os::open_read(&path[..n]);
     if fd < 0 {
+        say(b"cannot be read\n\n");
+        return not_read(s);
+    }
+    if !readable(fd) {
+        libc::close(fd);
         say(b"cannot be read\n\n");
         return not_read(s);
     }

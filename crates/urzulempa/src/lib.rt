@@ -1,26 +1,9 @@
 // The public calls (include/urzulempa.h). Each owns its working arrays, takes any bytes, any room and any option, and has no
 // `requires`.
-mod airs;
-mod asks;
-mod checks;
-mod edges;
-mod explains;
-mod graphs;
 mod nodes;
-mod seasons;
-mod walls;
 mod whatifs;
 
-// "An answer holds number, place, bytes, units, depth" (document 01, "Refusal numbers").
-#[repr(C)]
-pub struct Answer {
-    pub number: u64,
-    pub place: u64,
-    pub bytes: u64,
-    pub units: u64,
-    pub depth: u64,
-}
-
+use calls::Answer;
 use salvage::Salvaged;
 use settings::Settings;
 use wall::Counts;
@@ -33,29 +16,25 @@ ghost use Rattle.settings.specs.Settings.{readOf};
 ghost use Rattle.texts.specs.Wrote.{over};
 ghost use Rattle.wall.specs.Lent.{tgfCounts, tgfNodes, tgfEdges};
 ghost use Rattle.wall.specs.Read.{readText};
-ghost use Rattle.urzulempa.specs.Air.{SaysAir};
-ghost use Rattle.urzulempa.specs.Answers.{checkOf};
-ghost use Rattle.urzulempa.specs.Draws.{resultAnswer, drawFile};
-ghost use Rattle.urzulempa.specs.Edges.{edgesAnswer, edgesLeft};
-ghost use Rattle.urzulempa.specs.Plain.{plainOption};
-ghost use Rattle.urzulempa.specs.Says.{Says};
-ghost use Rattle.urzulempa.specs.Season.{Adds, joinAnswer};
-ghost use Rattle.urzulempa.specs.Settings.{changeAnswer};
-ghost use Rattle.urzulempa.specs.Write.{writtenAnswer};
+ghost use Rattle.calls.specs.Air.{SaysAir};
+ghost use Rattle.calls.specs.Answers.{checkOf};
+ghost use Rattle.calls.specs.Draws.{resultAnswer, drawFile};
+ghost use Rattle.calls.specs.Edges.{edgesAnswer, edgesLeft};
+ghost use Rattle.calls.specs.Plain.{plainOption};
+ghost use Rattle.calls.specs.Says.{Says};
+ghost use Rattle.calls.specs.Season.{Adds, joinAnswer};
+ghost use Rattle.calls.specs.Settings.{changeAnswer};
+ghost use Rattle.calls.specs.Write.{writtenAnswer};
 ghost use Rattle.writing.specs.Write.{writeAnswer, writeRoom};
-ghost use Rattle.urzulempa.specs.WhatIf.{SaysWhatIf};
-ghost use Rattle.urzulempa.specs.Wall.{exportFile};
+ghost use Rattle.calls.specs.WhatIf.{SaysWhatIf};
+ghost use Rattle.calls.specs.Wall.{exportFile};
 
 // Refusals 1 to 9, and no text.
 #[no_mangle]
 pub extern "C" fn urzulempa_check(file: &[u8]) -> Answer
     ensures { λ r. ⌜ r ≡ checkOf (now (file .entry)) ⌝ }
 {
-    let mut ix = [0u16; 10432];
-    let mut g = [0u64; 1152];
-    let mut tr = [0u64; 1280];
-    let mut ls = [0u16; 3456];
-    checks::check_in(file, &mut ix, &mut g, &mut tr, &mut ls)
+    calls::check(file)
 }
 
 // The graph in the DOT language; option 1 simplifies.
@@ -64,14 +43,7 @@ pub extern "C" fn urzulempa_graphviz(file: &[u8], option: u64, room: &mut [u8]) 
     ensures { λ r. ⌜ r ≡ resultAnswer (drawFile (now (file .entry)) option (length (now (room .entry)))) ⌝ }
     ensures { λ _. ⌜ now (room .exit) ≡ over (drawFile (now (file .entry)) option (length (now (room .entry))) .text) (now (room .entry)) ⌝ }
 {
-    if 1 < option {
-        return checks::refusal(12, 0);
-    }
-    let mut ix = [0u16; 10432];
-    let mut g = [0u64; 1152];
-    let mut tr = [0u64; 1280];
-    let mut ls = [0u16; 3456];
-    graphs::draw_in(file, option == 1, &mut ix, &mut g, &mut tr, &mut ls, room)
+    calls::draw(file, option, room)
 }
 
 // The explanation by the reading rules of an edition (order 11): 1 is the Rust's, in 2 every package is reported when first shown.
@@ -85,29 +57,7 @@ pub extern "C" fn urzulempa_explain_edition(
 ) -> Answer
     ensures { λ r. ⌜ Says edition (now (file .entry)) option (now (room .entry)) (now (room .exit)) r ⌝ }
 {
-    if edition == 0 {
-        return checks::refusal(12, 0);
-    }
-    if 2 < edition {
-        return checks::refusal(12, 0);
-    }
-    if 1 < option {
-        return checks::refusal(12, 0);
-    }
-    let mut ix = [0u16; 10432];
-    let mut g = [0u64; 1152];
-    let mut tr = [0u64; 1280];
-    let mut ls = [0u16; 3456];
-    explains::explain_in(
-        file,
-        option == 1,
-        edition == 2,
-        &mut ix,
-        &mut g,
-        &mut tr,
-        &mut ls,
-        room,
-    )
+    calls::explain(file, edition, option, room)
 }
 
 // The explanation by edition 1; option 1 indents the top level.
@@ -132,14 +82,7 @@ pub extern "C" fn urzulempa_explain_plain(file: &[u8], room: &mut [u8]) -> Answe
 pub extern "C" fn urzulempa_explain_air(file: &[u8], option: u64, room: &mut [u8]) -> Answer
     ensures { λ r. ⌜ SaysAir (now (file .entry)) option (now (room .entry)) (now (room .exit)) r ⌝ }
 {
-    if 1 < option {
-        return checks::refusal(12, 0);
-    }
-    let mut ix = [0u16; 10432];
-    let mut g = [0u64; 1152];
-    let mut tr = [0u64; 1280];
-    let mut ls = [0u16; 3456];
-    airs::air_in(file, option == 1, &mut ix, &mut g, &mut tr, &mut ls, room)
+    calls::explain_air(file, option, room)
 }
 
 // The explanation by edition 1 of the graph with one more exclusion (order 10): 4 for a solvable or reason that can't be asked about, 8 where
@@ -154,24 +97,7 @@ pub extern "C" fn urzulempa_what_if_explain(
 ) -> Answer
     ensures { λ r. ⌜ SaysWhatIf (now (file .entry)) solvable reason option (now (room .entry)) (now (room .exit)) r ⌝ }
 {
-    if 1 < option {
-        return checks::refusal(12, 0);
-    }
-    let mut ix = [0u16; 10432];
-    let mut g = [0u64; 1152];
-    let mut tr = [0u64; 1280];
-    let mut ls = [0u16; 3456];
-    asks::ask_in(
-        file,
-        solvable,
-        reason,
-        option == 1,
-        &mut ix,
-        &mut g,
-        &mut tr,
-        &mut ls,
-        room,
-    )
+    calls::explain_what_if(file, solvable, reason, option, room)
 }
 
 // Five numbers an edge, oldest first: source, target, kind, the number that it names, clause. Refusals 1 to 9, 10 where the list is
@@ -181,11 +107,7 @@ pub extern "C" fn urzulempa_edges(file: &[u8], list: &mut [u16]) -> Answer
     ensures { λ r. ⌜ r ≡ edgesAnswer (now (file .entry)) (length (now (list .entry))) ⌝ }
     ensures { λ _. ⌜ now (list .exit) ≡ edgesLeft (now (file .entry)) (now (list .entry)) ⌝ }
 {
-    let mut ix = [0u16; 10432];
-    let mut g = [0u64; 1152];
-    let mut tr = [0u64; 1280];
-    let mut ls = [0u16; 3456];
-    edges::edges_in(file, &mut ix, &mut g, &mut tr, &mut ls, list)
+    calls::list_edges(file, list)
 }
 
 // Repairs a damaged file into the room and lists the numbers of the replaced records (order 7). 1 for above 65,536 bytes, a record's
@@ -257,11 +179,7 @@ pub extern "C" fn urzulempa_tgf(file: &[u8], room: &mut [u8]) -> Answer
     ensures { λ r. ⌜ r ≡ resultAnswer (exportFile (now (file .entry)) (length (now (room .entry)))) ⌝ }
     ensures { λ _. ⌜ now (room .exit) ≡ over (exportFile (now (file .entry)) (length (now (room .entry))) .text) (now (room .entry)) ⌝ }
 {
-    let mut ix = [0u16; 10432];
-    let mut g = [0u64; 1152];
-    let mut tr = [0u64; 1280];
-    let mut ls = [0u16; 3456];
-    walls::export_in(file, &mut ix, &mut g, &mut tr, &mut ls, room)
+    calls::export(file, room)
 }
 
 // Reads such a text back (order 14): two numbers a node, where its label begins and how long it is, and four an edge, its ends and the
@@ -288,24 +206,7 @@ pub extern "C" fn urzulempa_season(
 ) -> Answer
     ensures { λ r. ⌜ Adds edition (now (file .entry)) option (now (report .entry)) (now (report .exit)) (now (room .entry)) (now (room .exit)) r ⌝ }
 {
-    if report.len() != 27 {
-        return checks::refusal(10, 0);
-    }
-    let mut ix = [0u16; 10432];
-    let mut g = [0u64; 1152];
-    let mut tr = [0u64; 1280];
-    let mut ls = [0u16; 3456];
-    seasons::season_of(
-        report,
-        file,
-        edition,
-        option,
-        &mut ix,
-        &mut g,
-        &mut tr,
-        &mut ls,
-        room,
-    )
+    calls::add_file(report, file, edition, option, room)
 }
 
 // Puts a second report behind the first (order 8): its file numbers follow the first's. 10 for a report that is not 27 numbers, 14 where
@@ -315,6 +216,5 @@ pub extern "C" fn urzulempa_join(report: &mut [u64], second: &[u64]) -> Answer
     ensures { λ r. ⌜ r ≡ joinAnswer (now (report .entry)) (now (second .entry)) ⌝ }
     ensures { λ _. ⌜ now (report .exit) ≡ joinWords (now (report .entry)) (now (second .entry)) ⌝ }
 {
-    let n = season::join(report, second);
-    checks::refusal(n, 0)
+    calls::join_reports(report, second)
 }

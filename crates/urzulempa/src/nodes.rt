@@ -2,8 +2,8 @@
 // `entries::fill` hands them out. A slice of structs is proved by hand: no branch here, so that the walk of the code is straight.
 ghost use mathlib.Core.Path.{_≡_};
 ghost use lib.ListN.{length};
-ghost use Rattle.urzulempa.specs.Nodes.{nodesAnswer, nodesLeft};
-use crate::Answer;
+ghost use Rattle.calls.specs.Nodes.{nodesAnswer, nodesLeft};
+use calls::Answer;
 use entries::NodeEntry;
 use entries::fill;
 use nodelist::node_words;

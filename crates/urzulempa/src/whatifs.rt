@@ -2,9 +2,9 @@
 // A slice of structs is proved by hand: no branch here, so that the walk of the code is straight.
 ghost use mathlib.Core.Path.{_≡_};
 ghost use lib.ListN.{length};
-ghost use Rattle.urzulempa.specs.WhatIf.{whatIfAnswer, whatIfLeft};
-use crate::Answer;
+ghost use Rattle.calls.specs.WhatIf.{whatIfAnswer, whatIfLeft};
 use asking::ask_words;
+use calls::Answer;
 use entries::NodeEntry;
 use entries::fill;
 

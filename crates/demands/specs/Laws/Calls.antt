@@ -19,8 +19,8 @@ use Rattle.texts.specs.Wrote.{over}
 use Rattle.explanation.specs.Explain.{refusal, isEdition, explainEdition, explainTables}
 use Rattle.explanation.specs.Contract.{Drawn}
 use Rattle.explanation.specs.Laws.Numbers.{bad-low, refused-low}
-use Rattle.urzulempa.specs.declared.Answer.{Answer}
-use Rattle.urzulempa.specs.Answers.{refusalOf, checkOf}
+use Rattle.calls.specs.declared.Answer.{Answer}
+use Rattle.calls.specs.Answers.{refusalOf, checkOf}
 use Rattle.demands.specs.Rules.{Early, Passed}
 use Rattle.demands.specs.Laws.Numbers.{bad-some, refused-high}
 

@@ -11,14 +11,14 @@ use borrow.Author.Tests.{le-leb, lt-leb}
 use Rattle.records.specs.Read.{bad, readOf}
 use Rattle.graph.specs.Files.{outcomeOf}
 use Rattle.explanation.specs.Explain.{refusal, isEdition, explainEdition}
-use Rattle.urzulempa.specs.declared.Answer.{Answer}
-use Rattle.urzulempa.specs.Answers.{refusalOf, checkOf}
-use Rattle.urzulempa.specs.Draws.{drawBytes, drawFile}
-use Rattle.urzulempa.specs.Edges.{edgesAnswer}
-use Rattle.urzulempa.specs.Nodes.{nodesAnswer}
-use Rattle.urzulempa.specs.Laws.Nodes.{nodes-check}
-use Rattle.urzulempa.specs.Says.{Says}
-use Rattle.urzulempa.specs.Wall.{exportFile}
+use Rattle.calls.specs.declared.Answer.{Answer}
+use Rattle.calls.specs.Answers.{refusalOf, checkOf}
+use Rattle.calls.specs.Draws.{drawBytes, drawFile}
+use Rattle.calls.specs.Edges.{edgesAnswer}
+use Rattle.calls.specs.Nodes.{nodesAnswer}
+use Rattle.calls.specs.Laws.Nodes.{nodes-check}
+use Rattle.calls.specs.Says.{Says}
+use Rattle.calls.specs.Wall.{exportFile}
 use Rattle.demands.specs.Laws.Told.{refused-answer, option-twelve, early-room}
 
 -- "length no multiple of 32"

@@ -23,7 +23,7 @@ use Rattle.plan.specs.Plan.{Shown, shownOf, Kind, excluded, bare, conflicting, 
 use Rattle.plan.specs.Display.{packageText}
 use Rattle.texts.specs.Indent.{deepest, older, unlessTop, above, indent, atTop}
 use Rattle.lines.specs.Lines.{topOf, runLine, setLine, setLines, packageLines, linesOf}
-use Rattle.urzulempa.specs.declared.Answer.{Answer}
+use Rattle.calls.specs.declared.Answer.{Answer}
 use Rattle.demands.specs.Rules.{WholeUnits, planIn, startIn, unitsIn, cutLines, linesIn}
 use Rattle.demands.specs.Laws.Texts.{inText, Clean, all-both, all-weaker, run-clean, set-clean, package-clean, reason-clean}
 use Rattle.demands.specs.Laws.ReadOff.{all-first}

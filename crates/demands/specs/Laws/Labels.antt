@@ -27,7 +27,7 @@ use Rattle.settled.specs.Settled.{sound, drawn-installable, drawn-missing}
 use Rattle.plan.specs.Mates.{map-upto}
 use Rattle.entries.specs.declared.NodeEntry.{NodeEntry}
 use Rattle.nodelist.specs.Nodes.{flag, nodeEntry, nodeEntries, nodesOf}
-use Rattle.urzulempa.specs.Nodes.{nodesAnswer, nodesLeft}
+use Rattle.calls.specs.Nodes.{nodesAnswer, nodesLeft}
 use Rattle.demands.specs.Rules.{Passed, entryAt, saysInstallable, saysMissing}
 
 -- ---- small laws

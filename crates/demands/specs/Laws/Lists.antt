@@ -29,10 +29,10 @@ use Rattle.salvage.specs.Lent as Lent
 use Rattle.writing.specs.Write as Write
 use Rattle.wall.specs.Read as Wall
 use Rattle.wall.specs.Lent.{tgfBy, tgfCounts, tgfNodes, tgfEdges}
-use Rattle.urzulempa.specs.Draws.{resultAnswer, drawBytes, drawFile}
-use Rattle.urzulempa.specs.Edges.{edgesBy, leavesBy, edgesAnswer, edgesLeft}
-use Rattle.urzulempa.specs.Nodes.{nodesBy, nodesAnswer, nodesLeft, listOver}
-use Rattle.urzulempa.specs.Wall.{exportFile}
+use Rattle.calls.specs.Draws.{resultAnswer, drawBytes, drawFile}
+use Rattle.calls.specs.Edges.{edgesBy, leavesBy, edgesAnswer, edgesLeft}
+use Rattle.calls.specs.Nodes.{nodesBy, nodesAnswer, nodesLeft, listOver}
+use Rattle.calls.specs.Wall.{exportFile}
 use Rattle.demands.specs.Rules.{Early, FirstOf, UnitsOr}
 use Rattle.demands.specs.Laws.Calls.{by-reading, by-outcome, bad-early, refused-early}
 

@@ -20,7 +20,7 @@ use Rattle.plan.specs.Plan.{Shown, shownOf, popped, Kind, excluded, bare, confl
 use Rattle.plan.specs.Display.{packageText}
 use Rattle.texts.specs.Indent.{indent}
 use Rattle.lines.specs.Lines.{topOf, linesOf}
-use Rattle.urzulempa.specs.declared.Answer.{Answer}
+use Rattle.calls.specs.declared.Answer.{Answer}
 use Rattle.demands.specs.Rules.{WholeUnits, planIn, startIn, unitsIn, ReadOff, OpenedBy, AllReadOff}
 use Rattle.demands.specs.Laws.Levels.{Levelled, start-levelled, shows-levelled}
 use Rattle.demands.specs.Laws.Branches.{Opened, Branching, branching}

@@ -20,12 +20,12 @@ use Rattle.air.specs.declared.Profile.the-variants.{Passed, Refused}
 use Rattle.machine.specs.Units.{Result}
 use Rattle.texts.specs.Wrote.{over}
 use Rattle.explanation.specs.Explain.{refusal}
-use Rattle.urzulempa.specs.declared.Answer.{Answer}
-use Rattle.urzulempa.specs.Answers.{refusalOf}
-use Rattle.urzulempa.specs.Draws.{resultAnswer}
-use Rattle.urzulempa.specs.Says.{Says, Shows, resultBy}
-use Rattle.urzulempa.specs.Air.{airOf, SaysBy, SaysAir}
-use Rattle.urzulempa.specs.WhatIf.{explainOutcome, explainRead, explainWhatIf, SaysWhatIf}
+use Rattle.calls.specs.declared.Answer.{Answer}
+use Rattle.calls.specs.Answers.{refusalOf}
+use Rattle.calls.specs.Draws.{resultAnswer}
+use Rattle.calls.specs.Says.{Says, Shows, resultBy}
+use Rattle.calls.specs.Air.{airOf, SaysBy, SaysAir}
+use Rattle.calls.specs.WhatIf.{explainOutcome, explainRead, explainWhatIf, SaysWhatIf}
 use Rattle.demands.specs.Rules.{Refusing}
 use Rattle.demands.specs.Laws.Shown.{shown-some, shown-number}
 use Rattle.demands.specs.Laws.Told.{says-some, early-room, every-number}

@@ -27,8 +27,8 @@ use Rattle.plan.specs.Laws.Leads.{shown-counted, shown-most}
 use Rattle.lines.specs.Lines.{linesOf}
 use Rattle.texts.specs.Wrote.{over}
 use Rattle.explanation.specs.Laws.Solvables.{solvables-most}
-use Rattle.urzulempa.specs.declared.Answer.{Answer}
-use Rattle.urzulempa.specs.Says.{Shows, resultBy}
+use Rattle.calls.specs.declared.Answer.{Answer}
+use Rattle.calls.specs.Says.{Shows, resultBy}
 use Rattle.demands.specs.Rules.{planIn, startIn, unitsIn, EndsIn, WholeUnits, NoRoom, Looping, OthersStay, boundIn, onceIn}
 use Rattle.demands.specs.Laws.Calls.{over-long, over-behind}
 use Rattle.demands.specs.Laws.Counts.{bound-is, once-is}

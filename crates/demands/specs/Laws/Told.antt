@@ -19,10 +19,10 @@ use Rattle.texts.specs.Wrote.{over}
 use Rattle.explanation.specs.Explain.{refusal, isEdition, explainEdition, explainTables}
 use Rattle.explanation.specs.Contract.{Drawn}
 use Rattle.explanation.specs.Laws.Contract.{file-answers, file-drawn}
-use Rattle.urzulempa.specs.declared.Answer.{Answer}
-use Rattle.urzulempa.specs.Answers.{refusalOf, checkOf}
-use Rattle.urzulempa.specs.Draws.{resultAnswer}
-use Rattle.urzulempa.specs.Says.{Says, Shows, resultBy}
+use Rattle.calls.specs.declared.Answer.{Answer}
+use Rattle.calls.specs.Answers.{refusalOf, checkOf}
+use Rattle.calls.specs.Draws.{resultAnswer}
+use Rattle.calls.specs.Says.{Says, Shows, resultBy}
 use Rattle.demands.specs.Rules.{Early, Passed, WholeUnits, NoRoom, Looping, OthersStay}
 use Rattle.demands.specs.Laws.Calls.{by-reading, by-outcome, by-call, drawn-passed}
 use Rattle.demands.specs.Laws.Shown.{shown-units, shown-others, shown-number, ten-full, eleven-loops}

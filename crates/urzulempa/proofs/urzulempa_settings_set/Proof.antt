@@ -1,5 +1,5 @@
 use borrow.Author.Needs.{needs}
-use Rattle.urzulempa.specs.Laws.Settings.{change-via}
+use Rattle.calls.specs.Laws.Settings.{change-via}
 use Rattle.urzulempa.proofs.urzulempa_settings_set.Statement.{statement}
 use Rattle.urzulempa.proofs.urzulempa_settings_set.Tie as tie
 

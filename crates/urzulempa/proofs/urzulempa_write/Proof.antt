@@ -1,5 +1,5 @@
 use borrow.Author.Needs.{needs}
-use Rattle.urzulempa.specs.Laws.Write.{written-is}
+use Rattle.calls.specs.Laws.Write.{written-is}
 use Rattle.urzulempa.proofs.urzulempa_write.Statement.{statement}
 use Rattle.urzulempa.proofs.urzulempa_write.Tie as tie
 

@@ -46,16 +46,16 @@ use denote.Triple.Walked.{says, Stays, stay-none-slice, gave-slice, walkOf, goes
 use denote.Exit.{yes}
 use Rattle.entries.specs.Entry.{fillTo}
 use Rattle.entries.specs.declared.NodeEntry.{NodeEntry}
-use Rattle.urzulempa.specs.Nodes.{noWords, answerOf}
-use Rattle.urzulempa.specs.Laws.Nodes.{count-fits, exported}
+use Rattle.calls.specs.Nodes.{noWords, answerOf}
+use Rattle.calls.specs.Laws.Nodes.{count-fits, exported}
 use Rattle.nodelist.specs.Nodes.{nodesOf}
 use Rattle.nodelist.specs.Listed.{Listed}
 use Rattle.nodelist.specs.declared.Counted.{Counted}
 use Rattle.entries.proofs.NodeEntry as T
 use Rattle.nodelist.proofs.Counted as S
 use Rattle.nodelist.proofs.Counted.Laws as S′
-use Rattle.urzulempa.proofs.Answer as R
-use Rattle.urzulempa.proofs.Answer.Laws as R′
+use Rattle.calls.proofs.Answer as R
+use Rattle.calls.proofs.Answer.Laws as R′
 use Rattle.nodelist.proofs.node_words as node-words
 use Rattle.nodelist.proofs.node_words.Symbol as node-words-def
 use Rattle.nodelist.proofs.node_words.Symbol.{name as #nodelist·node-words}

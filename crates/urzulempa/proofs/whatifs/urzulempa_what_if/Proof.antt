@@ -46,16 +46,16 @@ use denote.Triple.Walked.{says, Stays, stay-none-slice, stay-none, gave-slice, w
 use denote.Exit.{yes}
 use Rattle.entries.specs.Entry.{fillTo}
 use Rattle.entries.specs.declared.NodeEntry.{NodeEntry}
-use Rattle.urzulempa.specs.Nodes.{noWords, answerOf}
-use Rattle.urzulempa.specs.Laws.WhatIfWays.{asked-fits, what-if-said}
+use Rattle.calls.specs.Nodes.{noWords, answerOf}
+use Rattle.calls.specs.Laws.WhatIfWays.{asked-fits, what-if-said}
 use Rattle.asking.specs.Nodes.{askedNodes}
 use Rattle.nodelist.specs.Listed.{Listed}
 use Rattle.nodelist.specs.declared.Counted.{Counted}
 use Rattle.entries.proofs.NodeEntry as T
 use Rattle.nodelist.proofs.Counted as S
 use Rattle.nodelist.proofs.Counted.Laws as S′
-use Rattle.urzulempa.proofs.Answer as R
-use Rattle.urzulempa.proofs.Answer.Laws as R′
+use Rattle.calls.proofs.Answer as R
+use Rattle.calls.proofs.Answer.Laws as R′
 use Rattle.asking.proofs.ask_words as ask-words
 use Rattle.asking.proofs.ask_words.Symbol as ask-words-def
 use Rattle.asking.proofs.ask_words.Symbol.{name as #asking·ask-words}

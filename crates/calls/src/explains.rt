@@ -1,0 +1,168 @@
+// The explanation of a file, over lent working arrays.
+ghost use mathlib.Core.Path.{_≡_};
+ghost use mathlib.Core.List.{[]};
+ghost use lib.ListN.{length, replicate};
+ghost use Rattle.records.specs.Read.{tablesOf};
+ghost use Rattle.index.specs.Index.{Loaded, Blank};
+ghost use Rattle.store.specs.Table.{graphIn};
+ghost use Rattle.links.specs.Build.{Chains};
+ghost use Rattle.labels.specs.Marks.{marksOf};
+ghost use Rattle.shape.specs.Graphed.{Graphed};
+ghost use Rattle.graph.specs.Graphs.{graphOf, drawn};
+ghost use Rattle.plan.specs.Plan.{shownOf};
+ghost use Rattle.plan.specs.Planned.{Planned};
+ghost use Rattle.planning.specs.Building.{FreshPlan};
+ghost use Rattle.explanation.specs.Walk.{Ready};
+ghost use Rattle.drawing.specs.Same.{optionOf};
+ghost use Rattle.calls.specs.Says.{Says, Shows, PlannedAs, Walked, editionOf, toldAs};
+use crate::Answer;
+use crate::checks::refusal;
+use crate::checks::wide;
+use explanation::walk::Told;
+use graph::Made;
+use store::Size;
+
+// Groups, then the plan, where the labels are known.
+pub fn plan_of(
+    file: &[u8],
+    ix: &[u16; 10432],
+    g: &[u64; 1152],
+    s: Size,
+    ls: &[u16; 3456],
+    marks: &[u16; 128],
+    p: &mut [u64; 1280],
+    k: &mut [u16; 1024],
+)
+    requires { ⌜ Loaded (now file) (now ix) ⌝ }
+    requires { ⌜ Chains (now g) s (now ls) ⌝ }
+    requires { ⌜ now marks ≡ marksOf (graphIn (now g) s) ⌝ }
+    requires { ⌜ FreshPlan (now p) (now k) ⌝ }
+    ensures { λ _. ⌜ Planned (shownOf (tablesOf (now (file .entry))) (graphIn (now (g .entry)) s)) (now (p .exit)) (now (k .exit)) ⌝ }
+    ensures { λ _. ⌜ length (now (p .exit)) ≡ 1280 ⌝ }
+{
+    let mut leads = [0u16; 128];
+    naming::group_named(file, ix, g, s, ls, &mut leads);
+    let mut gr = [0u16; 128];
+    measuring::build_plan(file, ix, g, s, ls, marks, &leads, &mut gr, p, k);
+}
+
+// The plan as the edition reads it (order 11).
+fn plan_as(
+    file: &[u8],
+    ix: &[u16; 10432],
+    g: &[u64; 1152],
+    s: Size,
+    ls: &[u16; 3456],
+    marks: &[u16; 128],
+    p: &mut [u64; 1280],
+    k: &mut [u16; 1024],
+    every: bool,
+)
+    requires { ⌜ Loaded (now file) (now ix) ⌝ }
+    requires { ⌜ Chains (now g) s (now ls) ⌝ }
+    requires { ⌜ now marks ≡ marksOf (graphIn (now g) s) ⌝ }
+    requires { ⌜ FreshPlan (now p) (now k) ⌝ }
+    ensures { λ _. ⌜ PlannedAs every (shownOf (tablesOf (now (file .entry))) (graphIn (now (g .entry)) s)) (now (p .exit)) (now (k .exit)) ⌝ }
+{
+    plan_of(file, ix, g, s, ls, marks, p, k);
+    plan::reading::read_as(p, every);
+}
+
+fn told(t: Told) -> Answer
+    ensures { λ r. ⌜ r ≡ toldAs t ⌝ }
+{
+    Answer {
+        number: t.number,
+        place: wide(t.place),
+        bytes: wide(t.bytes),
+        units: wide(t.units),
+        depth: wide(t.depth),
+    }
+}
+
+// The walk over a plan, as an answer.
+pub fn walk_plan(
+    file: &[u8],
+    ix: &[u16; 10432],
+    p: &[u64; 1280],
+    k: &[u16; 1024],
+    top: bool,
+    room: &mut [u8],
+) -> Answer
+    requires { ⌜ Loaded (now file) (now ix) ⌝ }
+    requires { ⌜ Ready (tablesOf (now file)) (now p) (now k) ⌝ }
+    ensures { λ r. ⌜ Walked (tablesOf (now (file .entry))) (now (p .entry)) (now (k .entry)) top (now (room .entry)) (now (room .exit)) r ⌝ }
+{
+    let t = explanation::walk::explain_plan(file, ix, p, k, room, top);
+    told(t)
+}
+
+// What is shown of a graph whose labels are known. The table that held the triples is cleared and holds the plan.
+pub fn explain_marked(
+    file: &[u8],
+    ix: &[u16; 10432],
+    g: &[u64; 1152],
+    s: Size,
+    ls: &[u16; 3456],
+    marks: &[u16; 128],
+    p: &mut [u64; 1280],
+    top: bool,
+    every: bool,
+    room: &mut [u8],
+) -> Answer
+    requires { ⌜ Loaded (now file) (now ix) ⌝ }
+    requires { ⌜ Chains (now g) s (now ls) ⌝ }
+    requires { ⌜ now marks ≡ marksOf (graphIn (now g) s) ⌝ }
+    requires { ⌜ Graphed (tablesOf (now file)) (graphIn (now g) s) ⌝ }
+    ensures { λ r. ⌜ Shows (editionOf every) (tablesOf (now (file .entry))) (graphIn (now (g .entry)) s) (optionOf top) (now (room .entry)) (now (room .exit)) r ⌝ }
+{
+    *p = [0u64; 1280];
+    let mut k = [0u16; 1024];
+    plan_as(file, ix, g, s, ls, marks, p, &mut k, every);
+    walk_plan(file, ix, p, &k, top, room)
+}
+
+// A graph that is drawn whole: its labels, then what is shown of it.
+pub fn explain_whole(
+    file: &[u8],
+    ix: &[u16; 10432],
+    g: &[u64; 1152],
+    s: Size,
+    ls: &[u16; 3456],
+    p: &mut [u64; 1280],
+    top: bool,
+    every: bool,
+    room: &mut [u8],
+) -> Answer
+    requires { ⌜ Loaded (now file) (now ix) ⌝ }
+    requires { ⌜ Chains (now g) s (now ls) ⌝ }
+    requires { ⌜ graphOf (tablesOf (now file)) ≡ drawn (graphIn (now g) s) ⌝ }
+    ensures { λ r. ⌜ Says (editionOf every) (now (file .entry)) (optionOf top) (now (room .entry)) (now (room .exit)) r ⌝ }
+{
+    let mut marks = [0u16; 128];
+    labels::label(g, s, ls, &mut marks);
+    explain_marked(file, ix, g, s, ls, &marks, p, top, every, room)
+}
+
+pub fn explain_in(
+    file: &[u8],
+    top: bool,
+    every: bool,
+    ix: &mut [u16; 10432],
+    g: &mut [u64; 1152],
+    tr: &mut [u64; 1280],
+    ls: &mut [u16; 3456],
+    room: &mut [u8],
+) -> Answer
+    requires { ⌜ Blank (now ix) ⌝ }
+    requires { ⌜ now g ≡ replicate 1152 0 ⌝ }
+    requires { ⌜ length (now tr) ≡ 1280 ⌝ }
+    requires { ⌜ now ls ≡ replicate 3456 0 ⌝ }
+    ensures { λ r. ⌜ Says (editionOf every) (now (file .entry)) (optionOf top) (now (room .entry)) (now (room .exit)) r ⌝ }
+{
+    let m = graph::of_file(file, ix, g, tr, ls);
+    match m {
+        Made::Refused(k, p) => refusal(k, p),
+        Made::Whole(s) => explain_whole(file, ix, g, s, ls, tr, top, every, room),
+    }
+}

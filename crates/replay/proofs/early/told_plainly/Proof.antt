@@ -1,0 +1,14 @@
+use borrow.Author.Needs.{needs}
+use Rattle.replay.specs.Seen.{told-in}
+use Rattle.replay.proofs.early.told_plainly.Statement.{statement}
+use Rattle.replay.proofs.early.told_plainly.Tie as tie
+
+pub told-plainly-spec : {M : Type 1} → statement M
+told-plainly-spec =
+    tie.close
+    (tie.spec
+    (λ c κs. search needs)
+    (λ c κs. search needs)
+    (λ c κs. search needs)
+    (λ c. search needs)
+    (λ c. search told-in))
