@@ -43,6 +43,7 @@ fn from_dist(root: &Path) -> PathBuf {
     }
     let made_from = sums.lines().find_map(|line| line.strip_prefix("# sources: ")).unwrap_or("unknown");
     let here = sum_of(root, &["rt"], "");
+    println!("cargo:rustc-env=URZULEMPA_SOURCES={made_from}");
     if root.join("crates").is_dir() && made_from != here {
         stop(&format!("the library in dist/ was made from other sources than those in crates/ (their sum is {here}, in SHA256SUMS it is {made_from}): {ways}"));
     }
@@ -60,6 +61,7 @@ fn from_source(root: &Path) -> PathBuf {
     if let Some(rt) = env::split_paths(&path).find_map(|folder| fs::canonicalize(folder.join("rt")).ok()) {
         println!("cargo:rerun-if-changed={}", rt.display());
     }
+    println!("cargo:rustc-env=URZULEMPA_SOURCES={}", sum_of(root, &["rt"], ""));
     let version = rt(root, &["version"]);
     let version = String::from_utf8_lossy(&version.stdout).into_owned();
     let crates = fs::read_to_string(root.join("crates.txt")).unwrap_or_default();

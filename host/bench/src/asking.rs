@@ -37,7 +37,8 @@ pub fn table() {
         let changed = urzulempa::what_changes(&file, solvable, reason).map_or(0, |changes| changes.len());
         let sizes = oracle::Problem::read(&longer).ok().and_then(|p| p.model().ok().map(|m| (m.nodes().len(), m.edge_count())));
         let (nodes, edges) = sizes.unwrap_or_default();
-        let (rust, rebuild) = both(|| keep(black_box(oracle::nodes(black_box(&longer), &mut theirs))), || keep(black_box(urzulempa::nodes(black_box(&longer), &mut list))));
+        let (rust, rebuild) =
+            both(|| keep(black_box(oracle::nodes(black_box(&longer), &mut theirs))), || keep(black_box(urzulempa::nodes(black_box(&longer), &mut list))));
         let (plain, question) = both(
             || keep(black_box(urzulempa::nodes(black_box(&file), &mut list))),
             || keep(black_box(urzulempa::what_if(black_box(&file), solvable, reason, &mut again))),

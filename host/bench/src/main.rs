@@ -100,7 +100,11 @@ fn graphs() {
         ("hundreds of 23 and 24 on one auxiliary", largest("auxiliary-hundreds")),
     ];
     for (name, file) in &loads {
-        row(&format!("file to graph, {name}"), file.len(), both(|| keep(black_box(oracle::check(black_box(file)))), || keep(black_box(urzulempa::check(black_box(file))))));
+        row(
+            &format!("file to graph, {name}"),
+            file.len(),
+            both(|| keep(black_box(oracle::check(black_box(file)))), || keep(black_box(urzulempa::check(black_box(file))))),
+        );
     }
     for (name, file) in &loads {
         let mut theirs = vec![oracle::Node::default(); 128];
@@ -114,7 +118,8 @@ fn graphs() {
 fn edge_lists() {
     for (name, file) in [("P7", p7()), ("largest load", largest("nodes-and-edges"))] {
         let (mut theirs, mut ours) = (vec![0; 5 * 1024], vec![0; 5 * 1024]);
-        let times = both(|| keep(black_box(oracle::edges(black_box(&file), &mut theirs))), || keep(black_box(urzulempa::edge_numbers(black_box(&file), &mut ours))));
+        let times =
+            both(|| keep(black_box(oracle::edges(black_box(&file), &mut theirs))), || keep(black_box(urzulempa::edge_numbers(black_box(&file), &mut ours))));
         row(&format!("file to edge list, {name}"), file.len(), times);
     }
 }
@@ -123,23 +128,44 @@ fn edge_lists() {
 fn texts() {
     let file = p7();
     let (mut a, mut b) = (vec![0; 4096], vec![0; 4096]);
-    row("explanation of P7, a call", file.len(), both(|| keep(black_box(oracle::explain(black_box(&file), 0, &mut a))), || keep(black_box(urzulempa::explain(black_box(&file), 0, &mut b)))));
+    row(
+        "explanation of P7, a call",
+        file.len(),
+        both(|| keep(black_box(oracle::explain(black_box(&file), 0, &mut a))), || keep(black_box(urzulempa::explain(black_box(&file), 0, &mut b)))),
+    );
     let mut arrays = vec![0u8; OWNED + TWICE];
     let clearing = (0..ROUNDS).map(|_| once(&mut || black_box(&mut arrays[..]).fill(0))).fold(f64::MAX, f64::min);
     println!("| of that, clearing the {OWNED} bytes of arrays that a call owns, {TWICE} of them twice | | | {} | |", time(clearing));
-    row("graph text of P7, a call", file.len(), both(|| keep(black_box(oracle::graphviz(black_box(&file), 1, &mut a))), || keep(black_box(urzulempa::graphviz(black_box(&file), 1, &mut b)))));
-    for (name, file, size) in [("exploding DAG, room of 64 MiB", largest("dag-exploding-limit"), 64 << 20), ("depth 2,079, in full", made("depth-largest", 1), 32 << 20)] {
+    row(
+        "graph text of P7, a call",
+        file.len(),
+        both(|| keep(black_box(oracle::graphviz(black_box(&file), 1, &mut a))), || keep(black_box(urzulempa::graphviz(black_box(&file), 1, &mut b)))),
+    );
+    for (name, file, size) in
+        [("exploding DAG, room of 64 MiB", largest("dag-exploding-limit"), 64 << 20), ("depth 2,079, in full", made("depth-largest", 1), 32 << 20)]
+    {
         let (mut a, mut b) = (vec![0; size], vec![0; size]);
         let times = both(|| keep(black_box(oracle::explain(black_box(&file), 0, &mut a))), || keep(black_box(urzulempa::explain(black_box(&file), 0, &mut b))));
         let answer = urzulempa::explain(&file, 0, &mut b);
         let same = oracle::explain(&file, 0, &mut a).bytes == answer.bytes && a == b;
         let bytes = answer.bytes as f64;
-        let said = format!("{name}: answer {}, depth {}, {:.0} and {:.0} MB/s, rooms {}", answer.number, answer.depth, bytes / times.0 / 1e6, bytes / times.1 / 1e6, if same { "equal" } else { "DIFFER" });
+        let said = format!(
+            "{name}: answer {}, depth {}, {:.0} and {:.0} MB/s, rooms {}",
+            answer.number,
+            answer.depth,
+            bytes / times.0 / 1e6,
+            bytes / times.1 / 1e6,
+            if same { "equal" } else { "DIFFER" }
+        );
         row(&said, file.len(), times);
     }
     let file = largest("nodes-and-edges");
     let (mut a, mut b) = (vec![0; 1 << 20], vec![0; 1 << 20]);
-    row("graph text, largest load", file.len(), both(|| keep(black_box(oracle::graphviz(black_box(&file), 1, &mut a))), || keep(black_box(urzulempa::graphviz(black_box(&file), 1, &mut b)))));
+    row(
+        "graph text, largest load",
+        file.len(),
+        both(|| keep(black_box(oracle::graphviz(black_box(&file), 1, &mut a))), || keep(black_box(urzulempa::graphviz(black_box(&file), 1, &mut b)))),
+    );
 }
 
 /// The same file by the rules of both editions. Edition 2 of conflict.rs is the oracle's: every shown package among the reported.
@@ -166,7 +192,13 @@ fn editions() {
             let same = oracle::explain_edition(file, edition, 0, &mut a).bytes == answer.bytes && a == b;
             let (lines, bytes, depth) = (answer.units, answer.bytes, answer.depth);
             let said = if same { "" } else { ", rooms DIFFER" };
-            println!("| {name} | {edition} | {}{said} | {lines} | {bytes} | {depth} | {} | {} | {:.2} |", answer.number, time(times.0), time(times.1), times.0 / times.1);
+            println!(
+                "| {name} | {edition} | {}{said} | {lines} | {bytes} | {depth} | {} | {} | {:.2} |",
+                answer.number,
+                time(times.0),
+                time(times.1),
+                times.0 / times.1
+            );
         }
     }
 }
@@ -183,7 +215,8 @@ fn air() {
     };
     let times = both(|| keep(black_box(oracle::explain(black_box(&file), 0, &mut a))), || keep(black_box(urzulempa::explain(black_box(&file), 0, &mut b))));
     show("explain", urzulempa::explain(&file, 0, &mut b), times);
-    let times = both(|| keep(black_box(oracle::explain_air(black_box(&file), 0, &mut a))), || keep(black_box(urzulempa::explain_air(black_box(&file), 0, &mut b))));
+    let times =
+        both(|| keep(black_box(oracle::explain_air(black_box(&file), 0, &mut a))), || keep(black_box(urzulempa::explain_air(black_box(&file), 0, &mut b))));
     show("explain_air", urzulempa::explain_air(&file, 0, &mut b), times);
 }
 

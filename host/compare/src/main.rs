@@ -1,6 +1,7 @@
 //! The port against the oracle: every call, on generated files, with rooms of every kind. Answers, whole rooms and whole lists of
 //! nodes, edges, replaced records, labels and counts have to be equal, untouched bytes among them.
 
+mod adapter;
 mod calls;
 mod salvage;
 mod season;
@@ -37,6 +38,8 @@ const USAGE: &str = "usage: compare files N SEED   the hand-made files, then N g
        compare season N SEED  a season's report alone: every count around its width, lists of every length, then N seasons of up to
                               eight generated files by both editions, in rooms of every kind; each added file by file and as a
                               whole, cut and joined, and joined with reports that hold anything
+       compare adapter N SEED the files of host/adapter: of N generated graphs that conflict.rs draws, what the port says of the
+                              adapter's file against what conflict.rs says of the first, nodes and edges by number
        compare bytes          a small file with every kind of record, each byte set to each value
 Status: 0 no difference, 1 a difference, 64 wrong usage, 77 without conflict.rs.";
 
@@ -44,10 +47,12 @@ fn main() -> ExitCode {
     let words: Vec<String> = std::env::args().skip(1).collect();
     let words: Vec<&str> = words.iter().map(String::as_str).collect();
     let job = match words[..] {
-        ["files" | "check" | "nodes" | "edges" | "editions" | "air" | "salvage" | "settings" | "write" | "what-if" | "wall" | "season", n, seed] => match (n.parse(), seed.parse()) {
-            (Ok(n), Ok(seed)) => Some((n, seed)),
-            _ => None,
-        },
+        ["files" | "check" | "nodes" | "edges" | "editions" | "air" | "salvage" | "settings" | "write" | "what-if" | "wall" | "season" | "adapter", n, seed] => {
+            match (n.parse(), seed.parse()) {
+                (Ok(n), Ok(seed)) => Some((n, seed)),
+                _ => None,
+            }
+        }
         ["bytes"] => Some((0, 0)),
         _ => None,
     };
@@ -68,9 +73,14 @@ fn main() -> ExitCode {
         "what-if" => questions(n, seed),
         "wall" => wall::walls(n, seed),
         "season" => season::differ(n, seed),
+        "adapter" => adapter::adapts(n, seed),
         only => files(n, seed, only),
     };
-    if found { ExitCode::from(1) } else { ExitCode::SUCCESS }
+    if found {
+        ExitCode::from(1)
+    } else {
+        ExitCode::SUCCESS
+    }
 }
 
 /// So many calls a question gets from `compare what-if`, chosen at random.
@@ -110,7 +120,12 @@ fn files(n: u64, seed: u64, only: &str) -> bool {
             return true;
         }
     }
-    println!("compare: {n} generated files and {} made by hand, {} answers compared, 0 differences; answers by number: {}", hand_made().len(), tally.answers, tally.seen());
+    println!(
+        "compare: {n} generated files and {} made by hand, {} answers compared, 0 differences; answers by number: {}",
+        hand_made().len(),
+        tally.answers,
+        tally.seen()
+    );
     false
 }
 

@@ -142,7 +142,9 @@ impl Tally {
                 Ok(()) => at += 1,
             }
         }
-        let hex = |file: &[u8]| file.chunks(32).map(|record| format!("\n  {}", record.iter().map(|b| format!("{b:02x}")).collect::<Vec<_>>().join(" "))).collect::<String>();
+        let hex = |file: &[u8]| {
+            file.chunks(32).map(|record| format!("\n  {}", record.iter().map(|b| format!("{b:02x}")).collect::<Vec<_>>().join(" "))).collect::<String>()
+        };
         let files: Vec<String> = entries.iter().map(|entry| format!("{}{}", entry.shown(), hex(&entry.file))).collect();
         Some(format!("season {index}: {said}\n{} files:\n{}", files.len(), files.join("\n")))
     }

@@ -220,7 +220,9 @@ fn exhaustive(rng: &mut Rng) -> Vec<(String, Vec<u8>)> {
     }
     let full = full().file();
     all.push(("every table full".into(), mixed(&full, rng)));
-    for row in [record(kind::NAME, 0, [0; 3], "one more"), record(kind::ASSIGNED_BY, 0, [9, 9, 0], ""), record(99, 0, [0; 3], ""), record(kind::LOCK, 1, [0; 3], "")] {
+    for row in
+        [record(kind::NAME, 0, [0; 3], "one more"), record(kind::ASSIGNED_BY, 0, [9, 9, 0], ""), record(99, 0, [0; 3], ""), record(kind::LOCK, 1, [0; 3], "")]
+    {
         all.push((format!("every table full and a row of kind {}", row[0]), [&row[..], &full].concat()));
     }
     for unknown in (0..=255).filter(|k| !(1..=8).contains(k) && !(16..=25).contains(k)) {
@@ -231,7 +233,14 @@ fn exhaustive(rng: &mut Rng) -> Vec<(String, Vec<u8>)> {
     }
     let names = [record(kind::NAME, 0, [0; 3], "deck"), record(kind::VARIABLE, 0, [0; 3], "")].concat();
     for count in [2_048, 2_049, 5_057, 65_535, 65_536, 65_537, 131_072, 200_000] {
-        for row in [install, record(kind::NAME, 0, [0; 3], "x"), record(kind::CANDIDATE, 0, [0; 3], ""), record(kind::ASSIGNED_BY, 0, [0; 3], ""), record(200, 0, [0; 3], ""), [0; RECORD]] {
+        for row in [
+            install,
+            record(kind::NAME, 0, [0; 3], "x"),
+            record(kind::CANDIDATE, 0, [0; 3], ""),
+            record(kind::ASSIGNED_BY, 0, [0; 3], ""),
+            record(200, 0, [0; 3], ""),
+            [0; RECORD],
+        ] {
             all.push((format!("{count} rows of kind {} and two others", row[0]), [&row.repeat(count - 2), &names[..]].concat()));
         }
         let noise = (0..count * RECORD).map(|at| if at % RECORD == 0 { *rng.pick(&[1, 2, 3, 4, 5, 6, 7, 8, 16, 19, 25]) } else { 0 }).collect();

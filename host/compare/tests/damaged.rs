@@ -16,7 +16,18 @@ fn run(words: &[&str], file: &[u8]) -> Output {
 /// Damaged files of every shape: an answer, a status of 0 or 2, a sentence where it is refused, and no panic.
 #[test]
 fn ten_thousand_damaged_files_get_an_answer() {
-    let shapes = ["double-faults", "wrong-origins", "bits-flipped", "fields-changed", "cut", "records-swapped", "unused-bytes", "random-records", "random-bytes", "bytes-65568"];
+    let shapes = [
+        "double-faults",
+        "wrong-origins",
+        "bits-flipped",
+        "fields-changed",
+        "cut",
+        "records-swapped",
+        "unused-bytes",
+        "random-records",
+        "random-bytes",
+        "bytes-65568",
+    ];
     let out = format!("{}/mended-{}.rec", env!("CARGO_TARGET_TMPDIR"), std::process::id());
     let calls = [
         &["check", "-"][..],
@@ -38,7 +49,7 @@ fn ten_thousand_damaged_files_get_an_answer() {
         let ran = run(words, &file);
         let err = String::from_utf8_lossy(&ran.stderr).into_owned();
         match ran.status.code() {
-            Some(0) => assert!(err.is_empty(), "{shape} {index} {words:?}: {err}"),
+            Some(0) => assert!(err.lines().all(|line| noted(words[0], line)), "{shape} {index} {words:?}: {err}"),
             Some(2) => assert!(err.starts_with("refused ") && !err.contains("panicked"), "{shape} {index} {words:?}: {err}"),
             other => panic!("{shape} {index} {words:?}: status {other:?}, {err}"),
         }
@@ -49,6 +60,16 @@ fn ten_thousand_damaged_files_get_an_answer() {
     }
     assert!(refused > 5_000, "{refused} were refused");
     assert!(mended > 100, "{mended} were mended");
+}
+
+/// Whether a line may be said of a file that is not refused: that there is nothing to tell, or what a drawn group stands for.
+fn noted(command: &str, line: &str) -> bool {
+    match command {
+        "explain" => line.starts_with("nothing to explain: "),
+        "edges" => line == "nothing to list: the graph has no edges",
+        "graph" => line.ends_with(" packages that are alike"),
+        _ => false,
+    }
 }
 
 /// Whether a file was mended: then OUT is what the model gives, and each replaced record is told with the refusal that it would get.

@@ -38,7 +38,11 @@ fn lists_of_all_shapes_give_the_same_tables() {
     for shape in generate::shapes() {
         for seed in 0..25 {
             let file = generate::file(shape, seed).expect("a shape");
-            if round(&format!("shape {shape} seed {seed}"), &file) { accepted += 1 } else { refused += 1 }
+            if round(&format!("shape {shape} seed {seed}"), &file) {
+                accepted += 1
+            } else {
+                refused += 1
+            }
         }
     }
     for (name, file) in oracle::samples::all() {
@@ -49,13 +53,42 @@ fn lists_of_all_shapes_give_the_same_tables() {
 
 /// Texts that would be read as something else, or as each other.
 const NASTY: [&str; 24] = [
-    "deck", "deck 1", "1", "1 1", " ", "  ", " deck", "deck ", "root", "gate", "forbid", "forbid deck", "other", "\"", "\\", "\\\"", "\"deck\"", "#1", "# x", "@name0", "@x:", ",", "a, b", "core requires root, \"x\"",
+    "deck",
+    "deck 1",
+    "1",
+    "1 1",
+    " ",
+    "  ",
+    " deck",
+    "deck ",
+    "root",
+    "gate",
+    "forbid",
+    "forbid deck",
+    "other",
+    "\"",
+    "\\",
+    "\\\"",
+    "\"deck\"",
+    "#1",
+    "# x",
+    "@name0",
+    "@x:",
+    ",",
+    "a, b",
+    "core requires root, \"x\"",
 ];
 
 /// A load of such texts, few of each, so that many are equal; all origins and kinds.
 fn nasty(rng: &mut Rng) -> Vec<u8> {
     let mut d = Draft::new();
-    let text = |rng: &mut Rng| -> String { if rng.chance(80) { (*rng.pick(&NASTY)).into() } else { (0..rng.between(1, 24)).map(|_| char::from(rng.between(32, 126) as u8)).collect() } };
+    let text = |rng: &mut Rng| -> String {
+        if rng.chance(80) {
+            (*rng.pick(&NASTY)).into()
+        } else {
+            (0..rng.between(1, 24)).map(|_| char::from(rng.between(32, 126) as u8)).collect()
+        }
+    };
     let (names, solvables, others) = (rng.between(1, 6), rng.between(1, 12), rng.between(1, 6));
     (0..names).for_each(|_| d.names.push(text(rng)));
     (0..solvables).for_each(|_| d.solvables.push((rng.below(names) as u16, text(rng))));
@@ -97,7 +130,11 @@ fn nasty(rng: &mut Rng) -> Vec<u8> {
     rng.shuffle(&mut variables);
     variables.truncate(rng.below(count + 1));
     d.assigned = variables.into_iter().map(|v| (v, rng.below(clauses) as u16)).collect();
-    if rng.chance(50) { d.woven(rng) } else { d.file() }
+    if rng.chance(50) {
+        d.woven(rng)
+    } else {
+        d.file()
+    }
 }
 
 #[test]
@@ -129,7 +166,11 @@ fn changed_lists_get_an_answer() {
                 _ => {
                     let mut lines: Vec<&[u8]> = list.split(|&byte| byte == b'\n').collect();
                     let (one, other) = (rng.below(lines.len()), rng.below(lines.len()));
-                    if rng.chance(50) { lines[one] = lines[other] } else { lines.swap(one, other) }
+                    if rng.chance(50) {
+                        lines[one] = lines[other]
+                    } else {
+                        lines.swap(one, other)
+                    }
                     list = lines.join(&b'\n');
                 }
             }

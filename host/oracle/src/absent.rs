@@ -43,6 +43,10 @@ impl<'a> Problem<'a> {
         absent()
     }
 
+    pub fn adapted(&self) -> Result<Result<Vec<u8>, urzulempa_adapter::Error>, Refusal> {
+        absent()
+    }
+
     pub fn chart(&self) -> Result<Chart, Refusal> {
         absent()
     }
@@ -154,14 +158,10 @@ pub fn edges(_: &[u8], _: &mut [u16]) -> Answer {
     absent()
 }
 
+pub fn adapted(_: &[u8]) -> Result<Result<Vec<u8>, urzulempa_adapter::Error>, Refusal> {
+    absent()
+}
+
 pub fn rules(_: &[u8], _: bool, _: &mut [u8], _: u64) -> Result<Rules, Refusal> {
-    absent()
-}
-
-pub fn written() -> Vec<u8> {
-    absent()
-}
-
-pub fn rewritten(_: &[u8]) -> Option<Vec<u8>> {
     absent()
 }

@@ -59,6 +59,15 @@ impl<'a> Problem<'a> {
         Ok(view::drawn(&self.solver, &self.core)?.edges())
     }
 
+    /// Refusals 7 to 9, or what the adapter makes of the graph.
+    pub fn adapted(&self) -> Result<Result<Vec<u8>, urzulempa_adapter::Error>, Refusal> {
+        let drawn = view::drawn(&self.solver, &self.core)?;
+        Ok(crate::public_graph::file(
+            drawn.graph(),
+            self.solver.provider(),
+        ))
+    }
+
     /// Refusals 7 to 9, or the graph as the wall shows it.
     pub fn chart(&self) -> Result<Chart, Refusal> {
         Ok(view::drawn(&self.solver, &self.core)?.chart(self.solver.provider()))
@@ -281,17 +290,12 @@ pub fn edges(file: &[u8], list: &mut [u16]) -> Answer {
     })
 }
 
+/// Refusals 1 to 9, or what the adapter makes of the graph that conflict.rs draws of the file.
+pub fn adapted(file: &[u8]) -> Result<Result<Vec<u8>, urzulempa_adapter::Error>, Refusal> {
+    Problem::read(file)?.adapted()
+}
+
 /// The rules of `fmt_graph` without refusal 11, for at most `lines` lines of `room`.
 pub fn rules(file: &[u8], indent: bool, room: &mut [u8], lines: u64) -> Result<Rules, Refusal> {
     Ok(Problem::read(file)?.model()?.rules(indent, room, lines))
-}
-
-/// samples/replay.rec, as a solver would write it.
-pub fn written() -> Vec<u8> {
-    crate::writer::replay()
-}
-
-/// A file read and written again, table by table.
-pub fn rewritten(file: &[u8]) -> Option<Vec<u8>> {
-    crate::writer::again(file)
 }

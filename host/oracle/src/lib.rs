@@ -4,8 +4,14 @@
 //! [`explain`], [`explain_plain`], [`explain_edition`], [`explain_air`], [`graphviz`], [`check`],
 //! [`nodes`], [`edges`], [`what_if`], [`what_if_explain`], [`tgf`] and [`season::season`] take any bytes. [`Problem`] and its [`Model`] are the same in steps, for many calls on one file. Where
 //! conflict.rs could not be had at build time, [`AVAILABLE`] is false and these must not be called;
-//! the reader, the generator, the samples, [`salvage`], [`settings`], [`write`] and [`tgf_read`], which the Rust does not have,
+//! the reader, the generator, the samples, the [`writer`], [`salvage`], [`settings`], [`write`] and [`tgf_read`], which the Rust does not have,
 //! are there all the same.
+
+// Without conflict.rs the stand-ins are there for the writer alone.
+#![cfg_attr(not(has_conflict_rs), allow(dead_code))]
+
+#[cfg(has_conflict_rs)]
+extern crate self as resolvo;
 
 mod answer;
 pub mod asked;
@@ -13,6 +19,8 @@ pub mod asking;
 pub mod cases;
 pub mod draft;
 pub mod generate;
+mod limits;
+mod provider;
 pub mod reader;
 pub mod record;
 pub mod rng;
@@ -20,28 +28,25 @@ pub mod salvage;
 pub mod samples;
 pub mod season;
 pub mod settings;
+mod standins;
 pub mod survey;
 pub mod wall;
+mod watch;
+pub mod writer;
 pub mod writing;
 
 #[cfg(has_conflict_rs)]
 mod calls;
 #[cfg(has_conflict_rs)]
 mod conflict;
+/// The adapter's way from resolvo's types to its own, as users copy it: it says `resolvo`, and sees what is public there and no more.
 #[cfg(has_conflict_rs)]
-mod limits;
-#[cfg(has_conflict_rs)]
-mod provider;
+#[path = "../../adapter/resolvo/graph.rs"]
+mod public_graph;
 #[cfg(has_conflict_rs)]
 mod quoted;
 #[cfg(has_conflict_rs)]
 mod rooms;
-#[cfg(has_conflict_rs)]
-mod standins;
-#[cfg(has_conflict_rs)]
-mod watch;
-#[cfg(has_conflict_rs)]
-mod writer;
 
 #[cfg(not(has_conflict_rs))]
 #[path = "absent.rs"]
@@ -49,14 +54,18 @@ mod calls;
 
 pub use answer::{Answer, Edge, Edition, Node, Refusal, Rules, Salvaged};
 pub use calls::{
-    check, edges, explain, explain_air, explain_edition, explain_plain, graphviz, nodes, rewritten,
-    rules, what_if, what_if_explain, written, Model, Problem,
+    adapted, check, edges, explain, explain_air, explain_edition, explain_plain, graphviz, nodes,
+    rules, what_if, what_if_explain, Model, Problem,
 };
 
 pub use salvage::salvage;
-pub use wall::{tgf, tgf_read};
 pub use settings::Settings;
+pub use wall::{tgf, tgf_read};
 pub use writing::write;
+
+// What lib.rs of resolvo has at its root, for `public_graph`.
+#[cfg(has_conflict_rs)]
+use standins::{Interner, Requirement, StringId, VersionSetId};
 
 /// Whether conflict.rs was there when this crate was built.
 pub const AVAILABLE: bool = cfg!(has_conflict_rs);

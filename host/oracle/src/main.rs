@@ -39,6 +39,10 @@ fn main() -> ExitCode {
         }
         ["samples", dir] => write_samples(dir),
         ["loads", n, dir] => write_loads(n, dir),
+        ["written", out] => match oracle::writer::replay() {
+            Ok(file) => put(out, &file),
+            Err(error) => Err(error.to_string()),
+        },
         _ => run(&args),
     };
     match result {
@@ -98,7 +102,7 @@ fn usage() -> Result<u8, String> {
 fn run(args: &[&str]) -> Result<u8, String> {
     match *args {
         ["cases" | "explain" | "edition" | "air" | "graph" | "nodes" | "edges" | "check"
-        | "survey" | "what-if" | "asked" | "season" | "record" | "written", ..]
+        | "survey" | "what-if" | "asked" | "season" | "record", ..]
             if !oracle::AVAILABLE =>
         {
             let step = args[0];
@@ -137,7 +141,6 @@ fn run(args: &[&str]) -> Result<u8, String> {
         }
         ["survey", n, seed] => oracle::survey::run(number(n)?, number(seed)?),
         ["record", out] => put(out, &oracle::record::list()?),
-        ["written", out] => put(out, &oracle::written()),
         _ => usage(),
     }
 }

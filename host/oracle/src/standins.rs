@@ -119,6 +119,7 @@ pub mod internal {
     }
 }
 
+#[cfg(has_conflict_rs)]
 pub mod tracing {
     macro_rules! trace {
         ($($text:tt)*) => {};

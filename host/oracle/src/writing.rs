@@ -26,7 +26,10 @@ pub fn arranged(rows: &[u8]) -> Option<Vec<[u8; RECORD]>> {
     }
     let listed = kind::NAME..=kind::ASSIGNED_BY;
     file.extend(all.iter().filter(|row| !listed.contains(&row[0])));
-    let mut assigned: Vec<[u8; RECORD]> = all.into_iter().filter(|row| row[0] == kind::ASSIGNED_BY).collect();
+    let mut assigned: Vec<[u8; RECORD]> = all
+        .into_iter()
+        .filter(|row| row[0] == kind::ASSIGNED_BY)
+        .collect();
     // Stable: "equal variables in their order".
     assigned.sort_by_key(|row| u16::from_le_bytes([row[2], row[3]]));
     file.extend(assigned);

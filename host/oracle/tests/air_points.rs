@@ -382,7 +382,7 @@ fn labels(nodes: &[Node], edges: &[Edge]) -> Vec<(bool, bool)> {
         let excluded = edges
             .iter()
             .any(|e| usize::from(e.target) == at && e.kind == 4);
-        let conflict = out.iter().any(|e| is_conflict(e));
+        let conflict = out.iter().any(is_conflict);
         let mut runs: Vec<(u16, Vec<(bool, bool)>)> = Vec::new();
         for edge in out.into_iter().filter(|e| !is_conflict(e)) {
             let label = of(usize::from(edge.target), nodes, edges, known);

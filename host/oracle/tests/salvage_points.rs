@@ -10,6 +10,9 @@ use oracle::reader::{kind, RECORD};
 use oracle::salvage::REPLACEMENT;
 use oracle::{samples, Salvaged};
 
+/// What is done to a record.
+type Damage<'d> = &'d dyn Fn(&mut [u8; RECORD]);
+
 /// A draft with one of everything; variable 0 is the root, 1 the solvable, 2 the forbid variable, 3 a gate, 4 an auxiliary, 5 another;
 /// clause 0 an InstallRoot.
 fn ground() -> Draft {
@@ -88,7 +91,7 @@ fn a_clause_of_any_kind_that_would_get_3_4_or_5_is_replaced() {
     for clause in clauses() {
         let (file, _) = behind(&[clause]);
         assert_eq!(mended(&file), Ok((file.clone(), vec![], 0)));
-        let damage: [&dyn Fn(&mut [u8; RECORD]); 9] = [
+        let damage: [Damage<'_>; 9] = [
             &|r| r[1] = 2,
             &|r| r[31] = 1,
             &|r| r[8] = b'a',
@@ -124,7 +127,10 @@ fn the_1024th_clause_is_mended_and_the_next_is_6_even_where_3_would_come_first()
     assert_eq!(mended(&full), Ok((full.clone(), vec![], 0)));
     let mut last = full.clone();
     last[1_023 * RECORD + 1] = 9;
-    assert_eq!(mended(&last), Ok((replaced(&last, &[1_023]), vec![1_023], 0)));
+    assert_eq!(
+        mended(&last),
+        Ok((replaced(&last, &[1_023]), vec![1_023], 0))
+    );
     // Sound, 3, 4, 5 and 7 behind 1,024.
     for (kind, flag, fields) in [
         (kind::INSTALL_ROOT, 0, [0; 3]),
@@ -135,14 +141,21 @@ fn the_1024th_clause_is_mended_and_the_next_is_6_even_where_3_would_come_first()
     ] {
         let file = [&full[..], &record(kind, flag, fields, "")].concat();
         assert_eq!(mended(&file), Err((6, 1_024)));
-        let read = if flag == 9 || fields == [1, 0, 0] { 3 } else { 6 };
+        let read = if flag == 9 || fields == [1, 0, 0] {
+            3
+        } else {
+            6
+        };
         assert_eq!(checked(&file), (read, 1_024));
     }
     // Replaced clauses fill the table as well.
     let bad = [record(kind::INSTALL_ROOT, 9, [0; 3], ""); 1_025].concat();
     assert_eq!(mended(&bad), Err((6, 1_024)));
     let (file, list, _) = mended(&bad[..1_024 * RECORD]).expect("1,024 of them are mended");
-    assert_eq!((file, list), (REPLACEMENT.repeat(1_024), (0..1_024).collect()));
+    assert_eq!(
+        (file, list),
+        (REPLACEMENT.repeat(1_024), (0..1_024).collect())
+    );
     // Kind 2 comes before 6: what is no clause is not counted as one.
     let file = [&full[..], &record(26, 9, [0; 3], "")].concat();
     assert_eq!(mended(&file), Err((2, 1_024)));
@@ -166,7 +179,7 @@ fn kinds_1_to_8_are_refused_with_their_number_and_record() {
         let (file, at) = behind(&[mended_before, good, mended_before]);
         let wanted = replaced(&file, &[at, at + 2]);
         assert_eq!(mended(&file), Ok((wanted, vec![at, at + 2], 0)));
-        let damage: [(u64, &dyn Fn(&mut [u8; RECORD])); 3] = [
+        let damage: [(u64, Damage<'_>); 3] = [
             (3, &|r| r[31] = 200),
             (3, &|r| r[1] = 25),
             (4, &|r| r[2] = 77),
@@ -175,7 +188,12 @@ fn kinds_1_to_8_are_refused_with_their_number_and_record() {
             let mut bad = good;
             change(&mut bad);
             let (file, at) = behind(&[mended_before, bad, mended_before]);
-            assert_eq!(mended(&file), Err((number, u64::from(at) + 1)), "kind {}", good[0]);
+            assert_eq!(
+                mended(&file),
+                Err((number, u64::from(at) + 1)),
+                "kind {}",
+                good[0]
+            );
         }
     }
     for table in limits::Table::ALL {
@@ -225,7 +243,10 @@ fn clause_numbers_hold() {
     let file = samples::rack();
     let edges = edge_list(&file);
     // A clause outside the core is added in front of all, damaged: as if it had been an InstallRoot.
-    let first = file.chunks(RECORD).position(|r| r[0] >= 16).expect("a clause");
+    let first = file
+        .chunks(RECORD)
+        .position(|r| r[0] >= 16)
+        .expect("a clause");
     let put = |clause: [u8; RECORD]| {
         let at = first * RECORD;
         [&file[..at], &clause, &file[at..]].concat()
@@ -235,7 +256,10 @@ fn clause_numbers_hold() {
     assert_eq!((&wanted, list), (&put(REPLACEMENT), vec![first as u16]));
     let after = edge_list(&wanted);
     assert_eq!(after.len(), edges.len());
-    assert!(after.iter().zip(&edges).all(|(a, b)| a.clause == b.clause + 1));
+    assert!(after
+        .iter()
+        .zip(&edges)
+        .all(|(a, b)| a.clause == b.clause + 1));
     assert_eq!(lines(&wanted), lines(&file));
 }
 
@@ -259,9 +283,19 @@ fn a_sound_file_comes_back_unchanged() {
 fn a_repaired_file_never_gets_1_to_7_and_repairing_it_again_changes_nothing() {
     let (mut repaired, mut later) = (0, [0; 10]);
     for seed in 0..150 {
-        for shape in ["double-faults", "wrong-origins", "fields-changed", "cut", "records-swapped", "unused-bytes", "learnt-small"] {
+        for shape in [
+            "double-faults",
+            "wrong-origins",
+            "fields-changed",
+            "cut",
+            "records-swapped",
+            "unused-bytes",
+            "learnt-small",
+        ] {
             let file = generate::file(shape, seed).expect("a shape");
-            let Ok((good, list, dropped)) = mended(&file) else { continue };
+            let Ok((good, list, dropped)) = mended(&file) else {
+                continue;
+            };
             let (number, _) = checked(&good);
             assert!(!(1..=7).contains(&number), "{shape} {seed}: {number}");
             later[number as usize] += 1;
@@ -271,7 +305,10 @@ fn a_repaired_file_never_gets_1_to_7_and_repairing_it_again_changes_nothing() {
             repaired += usize::from(!list.is_empty() || dropped > 0);
         }
     }
-    assert!(repaired > 100 && later[9] > 0, "{repaired} repaired, {later:?}");
+    assert!(
+        repaired > 100 && later[9] > 0,
+        "{repaired} repaired, {later:?}"
+    );
 }
 
 #[test]
@@ -300,7 +337,10 @@ fn what_is_dropped_is_not_judged() {
     let file = samples::replay();
     for cut in 1..32 {
         let (kept, list, dropped) = mended(&file[..file.len() - cut]).expect("it can be repaired");
-        assert_eq!((&kept[..], list, dropped), (&file[..file.len() - 32], vec![], 32 - cut as u64));
+        assert_eq!(
+            (&kept[..], list, dropped),
+            (&file[..file.len() - 32], vec![], 32 - cut as u64)
+        );
         let noise = [&file[..], &vec![255; cut]].concat();
         assert_eq!(mended(&noise), Ok((file.clone(), vec![], cut as u64)));
     }
@@ -313,24 +353,64 @@ fn if_either_place_is_short_it_is_10_and_both_stay() {
     let file = &file[..file.len() - 27];
     let length = file.len() - 5;
     let wanted = replaced(&file[..length], &[at, at + 2]);
-    for (room_len, list_len) in [(length - 1, 2), (length, 1), (length - 1, 1), (0, 2), (length, 0), (0, 0), (length + 9, 1), (length - 1, 9)] {
+    for (room_len, list_len) in [
+        (length - 1, 2),
+        (length, 1),
+        (length - 1, 1),
+        (0, 2),
+        (length, 0),
+        (0, 0),
+        (length + 9, 1),
+        (length - 1, 9),
+    ] {
         let (mut room, mut list) = (vec![7; room_len], vec![7; list_len]);
         let answer = salvage(file, &mut room, &mut list);
-        assert_eq!(answer, Salvaged { number: 10, ..Salvaged::default() });
+        assert_eq!(
+            answer,
+            Salvaged {
+                number: 10,
+                ..Salvaged::default()
+            }
+        );
         assert!(room.iter().all(|&byte| byte == 7) && list.iter().all(|&n| n == 7));
     }
     for (more, further) in [(0, 0), (1, 0), (0, 1), (40, 3)] {
         let (mut room, mut list) = (vec![7; length + more], vec![7; 2 + further]);
         let answer = salvage(file, &mut room, &mut list);
-        assert_eq!(answer, Salvaged { number: 0, place: 0, bytes: length as u64, replaced: 2, dropped: 5 });
-        assert_eq!((&room[..length], &list[..2]), (&wanted[..], &[at, at + 2][..]));
+        assert_eq!(
+            answer,
+            Salvaged {
+                number: 0,
+                place: 0,
+                bytes: length as u64,
+                replaced: 2,
+                dropped: 5
+            }
+        );
+        assert_eq!(
+            (&room[..length], &list[..2]),
+            (&wanted[..], &[at, at + 2][..])
+        );
         assert!(room[length..].iter().all(|&byte| byte == 7) && list[2..].iter().all(|&n| n == 7));
     }
     // A refusal of a record, the last one, comes before 10.
     let (file, at) = behind(&[bad, record(kind::NAME, 0, [9, 0, 0], "cue")]);
-    assert_eq!(salvage(&file, &mut [], &mut []), Salvaged { number: 4, place: u64::from(at) + 1, ..Salvaged::default() });
+    assert_eq!(
+        salvage(&file, &mut [], &mut []),
+        Salvaged {
+            number: 4,
+            place: u64::from(at) + 1,
+            ..Salvaged::default()
+        }
+    );
     // Nothing is needed for nothing.
-    assert_eq!(salvage(&[255; 31], &mut [], &mut []), Salvaged { dropped: 31, ..Salvaged::default() });
+    assert_eq!(
+        salvage(&[255; 31], &mut [], &mut []),
+        Salvaged {
+            dropped: 31,
+            ..Salvaged::default()
+        }
+    );
 }
 
 #[test]
@@ -343,7 +423,10 @@ fn a_repaired_file_may_get_9() {
     d.excludes(deck, late);
     let mut file = d.file();
     assert_eq!(checked(&file), ACCEPTED);
-    let first = file.chunks(RECORD).position(|r| r[0] == kind::REQUIRES).expect("a Requires");
+    let first = file
+        .chunks(RECORD)
+        .position(|r| r[0] == kind::REQUIRES)
+        .expect("a Requires");
     file[first * RECORD + 9] = 1;
     let (good, list, _) = mended(&file).expect("it can be repaired");
     assert_eq!(list, [first as u16]);

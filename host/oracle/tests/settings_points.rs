@@ -79,8 +79,21 @@ fn where_nothing_is_set_the_defaults_hold() {
 
 #[test]
 fn the_last_record_for_a_setting_counts() {
-    let file = [record(1, 1, 0), record(2, 3, 2), record(2, 1, 1), record(2, 3, 1), record(1, 1, 0)];
-    let wanted = [[1, 1, 1], [0, 1, 1], [0, 1, 2], [1, 1, 2], [1, 1, 1], [0, 1, 1]];
+    let file = [
+        record(1, 1, 0),
+        record(2, 3, 2),
+        record(2, 1, 1),
+        record(2, 3, 1),
+        record(1, 1, 0),
+    ];
+    let wanted = [
+        [1, 1, 1],
+        [0, 1, 1],
+        [0, 1, 2],
+        [1, 1, 2],
+        [1, 1, 1],
+        [0, 1, 1],
+    ];
     for (count, wanted) in wanted.into_iter().enumerate() {
         assert_eq!(found(&file[..count].concat(), 2), wanted);
     }
@@ -103,9 +116,15 @@ fn a_version_2_record_holds_any_setting_and_a_version_1_record_no_edition() {
     for (setting, contents) in [(1, [0, 1]), (2, [0, 1]), (3, [1, 2])] {
         for content in 0..=3 {
             let good = contents.contains(&content);
-            assert_eq!(read(&record(2, setting, content), 2).number, if good { 0 } else { 3 });
+            assert_eq!(
+                read(&record(2, setting, content), 2).number,
+                if good { 0 } else { 3 }
+            );
             let known = good && setting < 3;
-            assert_eq!(read(&record(1, setting, content), 2).number, if known { 0 } else { 3 });
+            assert_eq!(
+                read(&record(1, setting, content), 2).number,
+                if known { 0 } else { 3 }
+            );
         }
     }
     for setting in [0, 4, 5, 255] {
@@ -155,8 +174,21 @@ fn the_length_is_tested_before_the_records_and_the_version_before_the_length() {
     for length in (0..=64).chain(LARGEST_SETTINGS - 16..=LARGEST_SETTINGS + 16) {
         let answer = read(&longer[..length], 2);
         let good = length % RECORD == 0 && length <= LARGEST_SETTINGS;
-        assert_eq!((answer.number, answer.place), (u64::from(!good), 0), "{length}");
-        assert_eq!(read(&vec![9; length], 2).number, if length == 0 { 0 } else if good { 18 } else { 1 });
+        assert_eq!(
+            (answer.number, answer.place),
+            (u64::from(!good), 0),
+            "{length}"
+        );
+        assert_eq!(
+            read(&vec![9; length], 2).number,
+            if length == 0 {
+                0
+            } else if good {
+                18
+            } else {
+                1
+            }
+        );
     }
     for version in [0, 3, 255, 256, 257, (1 << 32) | 1, u64::MAX] {
         assert_eq!(refused(&[9; 17], version), (12, 0));
@@ -167,7 +199,11 @@ fn the_length_is_tested_before_the_records_and_the_version_before_the_length() {
 #[test]
 fn a_change_appends_one_record_of_the_lowest_version_that_knows_it() {
     for version in [1, 2] {
-        for (setting, content, wanted) in [(1, 0, record(1, 1, 0)), (2, 1, record(1, 2, 1)), (3, 2, record(2, 3, 2))] {
+        for (setting, content, wanted) in [
+            (1, 0, record(1, 1, 0)),
+            (2, 1, record(1, 2, 1)),
+            (3, 2, record(2, 3, 2)),
+        ] {
             if setting == 3 && version == 1 {
                 continue;
             }
@@ -175,7 +211,14 @@ fn a_change_appends_one_record_of_the_lowest_version_that_knows_it() {
                 let file = record(1, 2, 0).repeat(count);
                 let mut room = [&file, &[7; 100][..]].concat();
                 let answer = set(&mut room, file.len() as u64, version, setting, content);
-                assert_eq!(answer, Answer { bytes: 16, units: 1, ..Answer::default() });
+                assert_eq!(
+                    answer,
+                    Answer {
+                        bytes: 16,
+                        units: 1,
+                        ..Answer::default()
+                    }
+                );
                 assert_eq!(room, [&file, &wanted[..], &[7; 84]].concat());
             }
         }
@@ -184,8 +227,17 @@ fn a_change_appends_one_record_of_the_lowest_version_that_knows_it() {
 
 #[test]
 fn what_was_set_is_read_back_and_all_else_is_as_it_was() {
-    let records = [record(1, 1, 0), record(2, 1, 1), record(1, 2, 0), record(2, 3, 2), record(2, 3, 1)];
-    for (a, b) in records.iter().flat_map(|a| records.iter().map(move |b| (a, b))) {
+    let records = [
+        record(1, 1, 0),
+        record(2, 1, 1),
+        record(1, 2, 0),
+        record(2, 3, 2),
+        record(2, 3, 1),
+    ];
+    for (a, b) in records
+        .iter()
+        .flat_map(|a| records.iter().map(move |b| (a, b)))
+    {
         let file = [*a, *b].concat();
         for (setting, content) in [(1, 0), (1, 1), (2, 0), (2, 1), (3, 1), (3, 2)] {
             let mut wanted = found(&file, 2);
@@ -204,26 +256,70 @@ fn what_was_set_is_read_back_and_all_else_is_as_it_was() {
 fn a_change_is_refused_for_the_file_first_then_for_what_is_asked_then_for_room() {
     // 1, whatever else
     let mut room = [9; 40];
-    for used in [41, 48, 17, 33, 4_112, 1 << 32, (1 << 32) | 16, u64::MAX, u64::MAX - 15] {
-        assert_eq!(set(&mut room, used, 2, 9, 9), Answer { number: 1, ..Answer::default() });
+    for used in [
+        41,
+        48,
+        17,
+        33,
+        4_112,
+        1 << 32,
+        (1 << 32) | 16,
+        u64::MAX,
+        u64::MAX - 15,
+    ] {
+        assert_eq!(
+            set(&mut room, used, 2, 9, 9),
+            Answer {
+                number: 1,
+                ..Answer::default()
+            }
+        );
     }
     let mut room = record(1, 1, 0).repeat(257);
     assert_eq!(set(&mut room, 4_112, 2, 9, 9).number, 1);
     // the file's own 18 and 3
-    assert_eq!(asked(&[record(1, 1, 0), record(3, 1, 0)].concat(), 2, 9, 9), (18, 1));
-    assert_eq!(asked(&[record(1, 1, 0), record(1, 3, 1)].concat(), 2, 9, 9), (3, 1));
+    assert_eq!(
+        asked(&[record(1, 1, 0), record(3, 1, 0)].concat(), 2, 9, 9),
+        (18, 1)
+    );
+    assert_eq!(
+        asked(&[record(1, 1, 0), record(1, 3, 1)].concat(), 2, 9, 9),
+        (3, 1)
+    );
     assert_eq!(asked(&record(2, 1, 0), 1, 1, 1), (18, 0));
     // what is asked, before room: none is left in this one
     let file = record(1, 1, 0).repeat(3);
-    for (version, setting, content) in [(2, 0, 1), (2, 4, 1), (2, 1, 2), (2, 2, u64::MAX), (2, 3, 0), (2, 3, 3), (1, 3, 2), (2, 257, 1), (2, 1, 256), (2, 1, 65_536), (2, (1 << 32) | 1, 1), (1, 1, 1 << 32)] {
+    for (version, setting, content) in [
+        (2, 0, 1),
+        (2, 4, 1),
+        (2, 1, 2),
+        (2, 2, u64::MAX),
+        (2, 3, 0),
+        (2, 3, 3),
+        (1, 3, 2),
+        (2, 257, 1),
+        (2, 1, 256),
+        (2, 1, 65_536),
+        (2, (1 << 32) | 1, 1),
+        (1, 1, 1 << 32),
+    ] {
         let mut room = file.clone();
-        assert_eq!(set(&mut room, 48, version, setting, content), Answer { number: 3, ..Answer::default() });
+        assert_eq!(
+            set(&mut room, 48, version, setting, content),
+            Answer {
+                number: 3,
+                ..Answer::default()
+            }
+        );
         assert_eq!(asked(&file, version, setting, content), (3, 0));
     }
     // 10
     for spare in 0..=17 {
         let mut room = [&file, &vec![7; spare][..]].concat();
-        assert_eq!(set(&mut room, 48, 2, 1, 1).number, if spare < RECORD { 10 } else { 0 });
+        assert_eq!(
+            set(&mut room, 48, 2, 1, 1).number,
+            if spare < RECORD { 10 } else { 0 }
+        );
     }
 }
 
@@ -232,35 +328,77 @@ fn a_full_file_takes_no_more_whatever_the_room() {
     let mut room = [&record(1, 2, 0).repeat(255), &[7; 100][..]].concat();
     assert_eq!(set(&mut room, 4_080, 2, 3, 2).number, 0);
     assert_eq!(found(&room[..4_096], 2), [1, 0, 2]);
-    assert_eq!(set(&mut room, 4_096, 2, 1, 0), Answer { number: 10, ..Answer::default() });
+    assert_eq!(
+        set(&mut room, 4_096, 2, 1, 0),
+        Answer {
+            number: 10,
+            ..Answer::default()
+        }
+    );
     assert_eq!(set(&mut room, 4_096, 2, 1, 5).number, 3);
     // What stands behind the used bytes does not count, not even where it looks like records.
     let mut room = [record(1, 1, 0), record(9, 9, 9), record(9, 9, 9)].concat();
     assert_eq!(set(&mut room, 16, 1, 2, 0).number, 0);
-    assert_eq!(room, [record(1, 1, 0), record(1, 2, 0), record(9, 9, 9)].concat());
+    assert_eq!(
+        room,
+        [record(1, 1, 0), record(1, 2, 0), record(9, 9, 9)].concat()
+    );
 }
 
 #[test]
 fn a_library_user_gets_the_same_by_type() {
     use urzulempa::{appended, choices, Choices, Edition, Setting, SettingsRefusal};
-    assert_eq!(choices(&[]), Ok(Choices { indent: true, simplify: true, edition: Edition::One }));
+    assert_eq!(
+        choices(&[]),
+        Ok(Choices {
+            indent: true,
+            simplify: true,
+            edition: Edition::One
+        })
+    );
     let mut file = Vec::new();
-    for setting in [Setting::Simplify(false), Setting::Edition(Edition::Two), Setting::Indent(false)] {
+    for setting in [
+        Setting::Simplify(false),
+        Setting::Edition(Edition::Two),
+        Setting::Indent(false),
+    ] {
         file.extend(setting.record(&file).expect("it can be appended"));
     }
-    assert_eq!(file, [record(1, 2, 0), record(2, 3, 2), record(1, 1, 0)].concat());
-    assert_eq!(choices(&file), Ok(Choices { indent: false, simplify: false, edition: Edition::Two }));
+    assert_eq!(
+        file,
+        [record(1, 2, 0), record(2, 3, 2), record(1, 1, 0)].concat()
+    );
+    assert_eq!(
+        choices(&file),
+        Ok(Choices {
+            indent: false,
+            simplify: false,
+            edition: Edition::Two
+        })
+    );
     for (file, wanted) in [
         (vec![0; 15], SettingsRefusal::Length),
-        ([record(1, 1, 0), record(1, 3, 1)].concat(), SettingsRefusal::Shape(1)),
+        (
+            [record(1, 1, 0), record(1, 3, 1)].concat(),
+            SettingsRefusal::Shape(1),
+        ),
         (record(3, 1, 0).to_vec(), SettingsRefusal::Version(0)),
     ] {
         assert_eq!(choices(&file), Err(wanted));
         assert_eq!(appended(&file, 1, 0), Err(wanted));
         assert_eq!(urzulempa::settings_read(&file, 2).number, wanted.number());
     }
-    assert_eq!(appended(&record(1, 1, 0).repeat(256), 1, 0), Err(SettingsRefusal::Full));
+    assert_eq!(
+        appended(&record(1, 1, 0).repeat(256), 1, 0),
+        Err(SettingsRefusal::Full)
+    );
     assert_eq!(appended(&[], 1, 2), Err(SettingsRefusal::Shape(0)));
-    assert_eq!(urzulempa::settings_read(&[], 3).refusal(), Some(SettingsRefusal::Release));
-    assert_eq!(urzulempa::settings_set(&mut record(3, 1, 0), 16, 2, 1, 0).refusal(), Some(urzulempa::Refusal::Version(0)));
+    assert_eq!(
+        urzulempa::settings_read(&[], 3).refusal(),
+        Some(SettingsRefusal::Release)
+    );
+    assert_eq!(
+        urzulempa::settings_set(&mut record(3, 1, 0), 16, 2, 1, 0).refusal(),
+        Some(urzulempa::Refusal::Version(0))
+    );
 }

@@ -213,9 +213,17 @@ fn a_plain_call_means_option_1() {
         for size in [0, 66, 67, 155, 167, 168, 169, 400, 1 << 16] {
             let (mut plain, mut named) = (vec![7; size], vec![7; size]);
             let answer = common::explain_plain(&file, &mut plain);
-            assert_eq!(answer, common::explain(&file, 1, &mut named), "{name} {size}");
+            assert_eq!(
+                answer,
+                common::explain(&file, 1, &mut named),
+                "{name} {size}"
+            );
             assert!(plain == named, "{name} {size}");
-            assert!(answer.bytes == 0 || plain.starts_with("├─ ".as_bytes()) || plain.starts_with("└─ ".as_bytes()));
+            assert!(
+                answer.bytes == 0
+                    || plain.starts_with("├─ ".as_bytes())
+                    || plain.starts_with("└─ ".as_bytes())
+            );
         }
     }
 }

@@ -76,7 +76,6 @@ fn a_reason_that_has_a_node_uses_it() {
     );
     assert_eq!(then[1].clause, 1);
     // The other reason, of another number, is another node, though its text were the same.
-    let mut d = d;
     d.reason("recalled");
     let then = asked(&d.file(), 1, 2).expect("it can be asked");
     assert_eq!(then.iter().filter(|node| node.kind == 3).count(), 2);

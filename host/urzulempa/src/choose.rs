@@ -1,57 +1,56 @@
 //! The settings of a truck: shown, changed, and taken as defaults.
 
-use crate::{print, say, usage};
+use crate::keep;
+use crate::say::{print, say, usage, DONE, REFUSED};
+use crate::words::Given;
+use std::ffi::OsStr;
 use std::fs::{File, OpenOptions};
 use std::io::{self, ErrorKind, Read, Write};
-use std::os::fd::{AsFd, AsRawFd};
+use std::os::fd::AsRawFd;
 use std::path::{Path, PathBuf};
-use std::process::ExitCode;
 use urzulempa::{appended, choices, Choices, SettingsRefusal, MOST_SETTINGS, SETTINGS_RECORD, SETTINGS_VERSION};
 
 /// The settings by their names, with the numbers that records have for them.
 const NAMES: [(&str, u64); 3] = [("indent", 1), ("simplify", 2), ("edition", 3)];
 
-/// `settings FILE` and `settings FILE NAME CONTENT`.
-pub fn run(words: &[String]) -> Result<ExitCode, String> {
-    let words: Vec<&str> = words.iter().map(String::as_str).collect();
-    if let Some(flag) = words.iter().find(|w| w.starts_with('-') && **w != "-") {
-        return Ok(usage(&format!("{flag} is no option of settings")));
-    }
-    match words[..] {
-        [] => Ok(usage("FILE is missing")),
-        [name] => show(name),
-        ["-", ..] => Ok(usage("standard input can't be changed: name a file")),
-        [name, setting, content] => {
-            let Some(&(_, number)) = NAMES.iter().find(|(known, _)| *known == setting) else {
+/// `settings SET` and `settings SET NAME CONTENT`.
+pub fn run(given: &Given) -> Result<u8, String> {
+    let name = given.name(0).unwrap_or_default();
+    match (given.text(1), given.text(2)) {
+        (None, _) => show(name),
+        (Some(_), None) => Ok(usage("settings wants SET, or SET, NAME and CONTENT")),
+        (Some(_), Some(_)) if name == "-" => Ok(usage("standard input can't be changed: name a file")),
+        (Some(setting), Some(content)) => {
+            let Some(&(known, number)) = NAMES.iter().find(|(known, _)| *known == setting) else {
                 return Ok(usage(&format!("{setting} is no setting: there are indent, simplify and edition")));
             };
             match content.parse() {
-                Ok(content) => change(name, setting, number, content),
+                Ok(content) => change(name, known, number, content),
                 Err(_) => Ok(usage(&format!("{content} is no number: indent and simplify are 0 or 1, edition is 1 or 2"))),
             }
         }
-        _ => Ok(usage("settings wants FILE, or FILE, a setting and its content")),
     }
 }
 
-/// What holds for a load where no flag says otherwise: the settings of a file, if one is named. Where it is refused, that is said and
+/// What holds for loads where no flag says otherwise: the settings of a file, if one is named. Where it is refused, that is said and
 /// the exit status comes back.
-pub fn defaults(name: Option<&str>, load: &str) -> Result<Result<Choices, ExitCode>, String> {
-    let Some(name) = name else { return Ok(Ok(Choices::default())) };
-    if (name, load) == ("-", "-") {
+pub fn defaults(given: &Given) -> Result<Result<Choices, u8>, String> {
+    let Some(name) = given.value("--settings") else { return Ok(Ok(Choices::default())) };
+    if name == "-" && given.names(0).iter().any(|load| load == "-") {
         return Ok(Err(usage("FILE and the settings can't both be standard input")));
     }
     let file = read(name)?;
     Ok(choices(&file).map_err(|refusal| refused(name, &file, refusal)))
 }
 
-fn show(name: &str) -> Result<ExitCode, String> {
-    let file = read(name).map_err(|said| if Path::new(name).exists() { said } else { format!("{said}; `urzulempa settings {name} indent 1` makes it") })?;
+fn show(name: &OsStr) -> Result<u8, String> {
+    let make = |said| format!("{said}; `urzulempa settings {} indent 1` makes it", name.to_string_lossy());
+    let file = read(name).map_err(|said| if Path::new(name).exists() { said } else { make(said) })?;
     match choices(&file) {
         Ok(found) => {
             let contents = [u64::from(found.indent), u64::from(found.simplify), found.edition.number()];
             let lines = NAMES.iter().zip(contents).map(|(&(known, number), content)| line(known, content, last_of(&file, number)));
-            print(lines.collect::<String>().as_bytes()).map(|()| ExitCode::SUCCESS)
+            print(lines.collect::<String>().as_bytes()).map(|()| DONE)
         }
         Err(refusal) => Ok(refused(name, &file, refusal)),
     }
@@ -68,22 +67,23 @@ fn last_of(file: &[u8], setting: u64) -> Option<usize> {
 }
 
 /// Appends the record that changes a setting, in one write, and flushes it. Two changes at once are made one behind the other.
-fn change(name: &str, setting: &str, number: u64, content: u64) -> Result<ExitCode, String> {
+fn change(path: &OsStr, setting: &str, number: u64, content: u64) -> Result<u8, String> {
+    let name = keep::shown(path);
     // A file is not made for a change that is refused.
     if let Err(refusal) = appended(&[], number, content) {
-        if !Path::new(name).exists() {
+        if !Path::new(path).exists() {
             return Ok(not_asked(setting, content, refusal));
         }
     }
     let trouble = |e: io::Error| format!("{name}: {e}; nothing is changed");
-    let mut to = open(name).map_err(trouble)?;
+    let mut to = open(path).map_err(trouble)?;
     if !to.metadata().map_err(trouble)?.is_file() {
         return Err(format!("{name}: it is no file that settings could be appended to"));
     }
     lock(&to).map_err(trouble)?;
     let file = limited(&to).map_err(trouble)?;
     if let Err(refusal) = choices(&file) {
-        let code = refused(name, &file, refusal);
+        let code = refused(path, &file, refusal);
         say(&format!("{name} is not changed"));
         return Ok(code);
     }
@@ -98,13 +98,13 @@ fn change(name: &str, setting: &str, number: u64, content: u64) -> Result<ExitCo
         return Err(format!("{name}: {e}; {left}"));
     }
     // The name of a file in which nothing stood may be as new as the record.
-    let flushed = to.sync_all().and_then(|()| if file.is_empty() { folder_of(name).and_then(|folder| folder.sync_all()) } else { Ok(()) });
+    let flushed = to.sync_all().and_then(|()| if file.is_empty() { folder_of(path).and_then(|folder| folder.sync_all()) } else { Ok(()) });
     flushed.map_err(|e| format!("{name}: it is changed, but could not be flushed ({e}): if power goes now, the change may be lost"))?;
-    print(line(setting, content, Some(file.len() / SETTINGS_RECORD)).as_bytes()).map(|()| ExitCode::SUCCESS)
+    print(line(setting, content, Some(file.len() / SETTINGS_RECORD)).as_bytes()).map(|()| DONE)
 }
 
 /// A file to append to, made where there is none.
-fn open(name: &str) -> io::Result<File> {
+fn open(name: &OsStr) -> io::Result<File> {
     let mut options = OpenOptions::new();
     options.read(true).append(true);
     match options.open(name) {
@@ -136,14 +136,13 @@ fn lock(file: &File) -> io::Result<()> {
     }
 }
 
-fn folder_of(name: &str) -> io::Result<File> {
+fn folder_of(name: &OsStr) -> io::Result<File> {
     let path = PathBuf::from(name);
     File::open(path.parent().filter(|folder| *folder != Path::new("")).unwrap_or(Path::new(".")))
 }
 
-fn read(name: &str) -> Result<Vec<u8>, String> {
-    let opened = if name == "-" { io::stdin().as_fd().try_clone_to_owned().map(File::from) } else { File::open(name) };
-    opened.and_then(|file| limited(&file)).map_err(|e| format!("{name}: {e}"))
+fn read(name: &OsStr) -> Result<Vec<u8>, String> {
+    keep::read(name, MOST_SETTINGS).map(|(bytes, _)| bytes)
 }
 
 /// The bytes of a file, or one more than it may have.
@@ -154,29 +153,33 @@ fn limited(mut file: &File) -> io::Result<Vec<u8>> {
 }
 
 /// Says why a file is refused, with what is wrong in the record.
-fn refused(name: &str, file: &[u8], refusal: SettingsRefusal) -> ExitCode {
+fn refused(name: &OsStr, file: &[u8], refusal: SettingsRefusal) -> u8 {
     let at = |record: u64| format!("record {record}, byte {}", record * SETTINGS_RECORD as u64);
     let (place, more) = match refusal {
         SettingsRefusal::Shape(r) | SettingsRefusal::Version(r) => (at(r), usize::try_from(r).ok().and_then(|r| fault(file, r))),
         _ => ("the whole file".into(), length(file)),
     };
-    say(&format!("{name}: refused {} at {place}: {refusal}", refusal.number()));
+    say(&format!("{}: refused {} at {place}: {refusal}", keep::shown(name), refusal.number()));
     more.iter().for_each(|said| say(said));
-    ExitCode::from(2)
+    REFUSED
 }
 
 /// Says why a change is refused that was asked for on a good file.
-fn not_asked(setting: &str, content: u64, refusal: SettingsRefusal) -> ExitCode {
+fn not_asked(setting: &str, content: u64, refusal: SettingsRefusal) -> u8 {
     let why = match refusal {
         SettingsRefusal::Shape(_) => format!("{setting} {content}: {setting} is {}", contents(setting)),
         other => other.to_string(),
     };
     say(&format!("refused {}: {why}; nothing is changed", refusal.number()));
-    ExitCode::from(2)
+    REFUSED
 }
 
 fn contents(setting: &str) -> &'static str {
-    if setting == "edition" { "1 or 2" } else { "0 or 1" }
+    if setting == "edition" {
+        "1 or 2"
+    } else {
+        "0 or 1"
+    }
 }
 
 fn length(file: &[u8]) -> Option<String> {

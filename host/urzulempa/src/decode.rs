@@ -1,4 +1,20 @@
 //! What a record says, for a person, and what is wrong with it: used where a refusal points at one.
+//!
+//! Every function takes any bytes; where they don't hold what is asked for, the answer is none. Words may change with a release.
+//!
+//! ```
+//! use urzulempa::{check, decode};
+//!
+//! // A candidate of a solvable that the file does not have.
+//! let mut file = include_bytes!("../../../samples/replay.rec").to_vec();
+//! file[32 * 5 + 4] = 9;
+//! let refusal = check(&file).refusal().expect("refused");
+//! let record = refusal.record().expect("4 points at a record");
+//! assert_eq!(decode::describe(&file, record).as_deref(), Some("candidate: requirement 0, solvable 9"));
+//! let fault = decode::fault(&file, refusal.number(), record);
+//! assert_eq!(fault.as_deref(), Some("solvable 9 is not defined yet; 2 solvables are"));
+//! assert_eq!(decode::solvable(&file, 1).as_deref(), Some("replay 1"));
+//! ```
 
 const ORIGINS: [&str; 6] = ["the root", "a solvable", "a forbid-multiple", "a requires gate", "a constrains auxiliary", "other"];
 
@@ -43,6 +59,7 @@ fn named(file: &[u8], kind: u8, own: u16) -> Option<Record<'_>> {
 }
 
 /// A solvable as the texts show it: name, space, version.
+#[must_use]
 pub fn solvable(file: &[u8], number: u16) -> Option<String> {
     let solvable = named(file, 2, number)?;
     let name = named(file, 1, solvable.fields()[1])?;
@@ -50,26 +67,31 @@ pub fn solvable(file: &[u8], number: u16) -> Option<String> {
 }
 
 /// The text of a reason.
+#[must_use]
 pub fn reason(file: &[u8], number: u16) -> Option<String> {
     named(file, 6, number).map(|r| r.text())
 }
 
 /// The name of a solvable's package.
+#[must_use]
 pub fn package(file: &[u8], number: u16) -> Option<String> {
     named(file, 1, named(file, 2, number)?.fields()[1]).map(|r| r.text())
 }
 
 /// How many solvables there are.
+#[must_use]
 pub fn solvables(file: &[u8]) -> u16 {
     u16::try_from(of_kind(file, 2).count()).unwrap_or(u16::MAX)
 }
 
 /// The text of a requirement.
+#[must_use]
 pub fn requirement(file: &[u8], number: u16) -> Option<String> {
     named(file, 4, number).map(|r| r.text())
 }
 
 /// A version set as the texts show it: name, space, text.
+#[must_use]
 pub fn version_set(file: &[u8], number: u16) -> Option<String> {
     let set = named(file, 3, number)?;
     let name = named(file, 1, set.fields()[1])?;
@@ -87,6 +109,7 @@ fn origin(file: &[u8], variable: u16) -> Option<String> {
 }
 
 /// A record in words.
+#[must_use]
 pub fn describe(file: &[u8], record: u64) -> Option<String> {
     let r = Record::at(file, record)?;
     let [a, b, c] = r.fields();
@@ -137,6 +160,7 @@ const CLAUSES: [(&str, [&str; 3]); 10] = [
 ];
 
 /// A clause of an accepted file, to be read out: its record with the byte place, and each field with what it names.
+#[must_use]
 pub fn clause(file: &[u8], clause: u64) -> Option<String> {
     let record = clause_record(file, clause)?;
     let r = Record::at(file, record)?;
@@ -166,6 +190,7 @@ fn stands_for(file: &[u8], variable: u16) -> Option<String> {
 }
 
 /// What a Lock names: the locked solvable and the one that it forbids.
+#[must_use]
 pub fn lock(file: &[u8], clause: u64) -> Option<(String, String)> {
     let [locked, forbidden, _] = Record::at(file, clause_record(file, clause)?)?.fields();
     Some((stands_for(file, locked)?, stands_for(file, forbidden)?))
@@ -198,9 +223,15 @@ fn counts(file: &[u8], record: u64) -> [usize; 9] {
 }
 
 /// What a reference could name at a record.
+#[must_use]
 pub fn defined(file: &[u8], record: u64) -> String {
-    let said: Vec<String> = counts(file, record).iter().zip(TABLES).filter(|(n, _)| **n > 0).map(|(n, (one, many))| format!("{n} {}", if *n == 1 { one } else { many })).collect();
-    if said.is_empty() { "nothing is defined before it".into() } else { format!("defined before it: {}", said.join(", ")) }
+    let said: Vec<String> =
+        counts(file, record).iter().zip(TABLES).filter(|(n, _)| **n > 0).map(|(n, (one, many))| format!("{n} {}", if *n == 1 { one } else { many })).collect();
+    if said.is_empty() {
+        "nothing is defined before it".into()
+    } else {
+        format!("defined before it: {}", said.join(", "))
+    }
 }
 
 /// What a field of a kind is: its own number, a number of a table, a variable of some origins, or something that is not counted.
@@ -236,6 +267,7 @@ fn meaning(r: &Record<'_>) -> [Field; 3] {
 }
 
 /// The byte or field that refusals 3, 4 and 5 mean, as far as it can be told from the record and those before it.
+#[must_use]
 pub fn fault(file: &[u8], number: u64, record: u64) -> Option<String> {
     let r = Record::at(file, record)?;
     match number {
@@ -311,16 +343,19 @@ fn origin_fault(file: &[u8], r: &Record<'_>) -> Option<String> {
 }
 
 /// Whether a kind is a clause's.
+#[must_use]
 pub fn is_clause(kind: u8) -> bool {
     (16..=25).contains(&kind)
 }
 
 /// How many clauses stand before a record: its own number, if it is one.
+#[must_use]
 pub fn clauses_before(file: &[u8], record: u64) -> usize {
     counts(file, record)[8]
 }
 
 /// The number of the record that holds a clause, counted among all clauses.
+#[must_use]
 pub fn clause_record(file: &[u8], clause: u64) -> Option<u64> {
     let n = usize::try_from(clause).ok()?;
     let place = file.chunks_exact(32).enumerate().filter(|(_, r)| (16..=25).contains(&r[0])).map(|(i, _)| i).nth(n)?;
@@ -328,6 +363,7 @@ pub fn clause_record(file: &[u8], clause: u64) -> Option<u64> {
 }
 
 /// The number of the record that defines a solvable.
+#[must_use]
 pub fn solvable_record(file: &[u8], solvable: u64) -> Option<u64> {
     let n = usize::try_from(solvable).ok()?;
     let place = file.chunks_exact(32).enumerate().filter(|(_, r)| r[0] == 2).map(|(i, _)| i).nth(n)?;

@@ -22,6 +22,7 @@ impl Edition {
     /// assert_eq!(Edition::of(2), Some(Edition::Two));
     /// assert_eq!(Edition::of(3), None);
     /// ```
+    #[must_use]
     pub fn of(number: u64) -> Option<Self> {
         match number {
             1 => Some(Self::One),
@@ -31,6 +32,7 @@ impl Edition {
     }
 
     /// The number that [`explain_edition`] takes.
+    #[must_use]
     pub fn number(self) -> u64 {
         match self {
             Self::One => 1,

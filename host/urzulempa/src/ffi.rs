@@ -1,7 +1,8 @@
 //! The exported functions of the library (include/urzulempa.h). None of them has a precondition: a slice is all they ask.
 
 use crate::{Answer, Node, Salvaged, Settings, TgfCounts};
-use std::mem::{align_of, size_of};
+use std::mem::{align_of, size_of, MaybeUninit};
+use std::ptr::addr_of;
 
 extern "C" {
     fn urzulempa_explain(file: *const u8, file_len: usize, option: u64, room: *mut u8, room_len: usize) -> Answer;
@@ -20,16 +21,37 @@ extern "C" {
     fn urzulempa_write(rows: *const u8, rows_len: usize, room: *mut u8, room_len: usize) -> Answer;
     fn urzulempa_tgf(file: *const u8, file_len: usize, room: *mut u8, room_len: usize) -> Answer;
     fn urzulempa_tgf_read(text: *const u8, text_len: usize, nodes: *mut u32, nodes_len: usize, edges: *mut u32, edges_len: usize) -> TgfCounts;
-    fn urzulempa_season(report: *mut u64, report_len: usize, file: *const u8, file_len: usize, edition: u64, option: u64, room: *mut u8, room_len: usize) -> Answer;
+    fn urzulempa_season(
+        report: *mut u64,
+        report_len: usize,
+        file: *const u8,
+        file_len: usize,
+        edition: u64,
+        option: u64,
+        room: *mut u8,
+        room_len: usize,
+    ) -> Answer;
     fn urzulempa_join(report: *mut u64, report_len: usize, second: *const u64, second_len: usize) -> Answer;
 }
 
-// What the library reads and writes lies as the header lays it out: no field has a gap before it.
-const _: () = assert!(size_of::<Answer>() == 40 && align_of::<Answer>() == 8);
-const _: () = assert!(size_of::<Node>() == 10 && align_of::<Node>() == 2);
-const _: () = assert!(size_of::<Salvaged>() == 40 && align_of::<Salvaged>() == 8);
-const _: () = assert!(size_of::<Settings>() == 40 && align_of::<Settings>() == 8);
-const _: () = assert!(size_of::<TgfCounts>() == 32 && align_of::<TgfCounts>() == 8);
+/// Holds a struct to the header's layout: its size, its alignment, and where each field begins.
+macro_rules! lies {
+    ($what:ty, $size:literal, $align:literal: $($field:ident $at:literal),*) => {
+        const _: () = {
+            assert!(size_of::<$what>() == $size && align_of::<$what>() == $align);
+            let one = MaybeUninit::<$what>::uninit();
+            let base = one.as_ptr();
+            // SAFETY: places inside `one`, none of which is read.
+            $(assert!(unsafe { addr_of!((*base).$field).cast::<u8>().offset_from(base.cast::<u8>()) } == $at);)*
+        };
+    };
+}
+
+lies!(Answer, 40, 8: number 0, place 8, bytes 16, units 24, depth 32);
+lies!(Node, 10, 2: kind 0, number 2, group 4, installable 6, missing 7, clause 8);
+lies!(Salvaged, 40, 8: number 0, place 8, bytes 16, replaced 24, dropped 32);
+lies!(Settings, 40, 8: number 0, place 8, indent 16, simplify 24, edition 32);
+lies!(TgfCounts, 32, 8: number 0, place 8, nodes 16, edges 24);
 
 // SAFETY, for all of them: pointer and length are those of one slice, and the library reads and writes inside it only (proved).
 

@@ -1,6 +1,7 @@
 //! Files: one is read with what tells it apart, and one is put in its place whole, so that at any moment, whatever stops the program
 //! or the machine, the old one is there or the new one.
 
+use std::ffi::OsStr;
 use std::fs::{self, File, Metadata, OpenOptions};
 use std::io::{self, ErrorKind, Read, Write};
 use std::os::fd::AsFd;
@@ -8,15 +9,31 @@ use std::os::unix::fs::{fchown, MetadataExt, OpenOptionsExt};
 use std::path::{Path, PathBuf};
 use std::process;
 
-/// The bytes of a file, or of standard input, and what tells it apart.
-pub fn read(name: &str) -> Result<(Vec<u8>, Metadata), String> {
+/// The most bytes of a list that `make` takes: five hundred for each record that a file can have.
+pub const MOST_LIST: usize = 1 << 20;
+
+/// The most bytes of a text that the wall display's reader takes: 128 nodes and 1,024 edges, numbers and labels as long as can be.
+pub const MOST_TEXT: usize = 10 * (1 + 51) + 90 * (2 + 51) + 28 * (3 + 51) + 2 + 1_024 * (2 * (3 + 1) + 50);
+
+/// The bytes of a file, or of standard input, and what tells it apart. Of one that has more than the most bytes, one more than those is
+/// read: whoever takes it refuses that.
+pub fn read(name: &OsStr, most: usize) -> Result<(Vec<u8>, Metadata), String> {
     let opened = if name == "-" { io::stdin().as_fd().try_clone_to_owned().map(File::from) } else { File::open(name) };
-    let read = opened.and_then(|mut file| {
+    let read = opened.and_then(|file| {
         let mut bytes = Vec::new();
-        file.read_to_end(&mut bytes)?;
+        (&file).take(most as u64 + 1).read_to_end(&mut bytes)?;
         Ok((bytes, file.metadata()?))
     });
-    read.map_err(|e| format!("{name}: {e}"))
+    read.map_err(|e| format!("{}: {e}", shown(name)))
+}
+
+/// A file's name for a person.
+pub fn shown(name: &OsStr) -> String {
+    if name == "-" {
+        "standard input".into()
+    } else {
+        name.to_string_lossy().into_owned()
+    }
 }
 
 /// Where a file is to be put.
@@ -29,24 +46,33 @@ pub struct Place {
 
 impl Place {
     /// A name that is a link means the file that it leads to.
-    pub fn of(name: &str) -> Result<Self, String> {
+    pub fn of(given: &OsStr) -> Result<Self, String> {
+        let name = given.to_string_lossy().into_owned();
         let trouble = |e: io::Error| format!("{name}: {e}");
-        let (path, old) = match fs::symlink_metadata(name) {
+        let (path, old) = match fs::symlink_metadata(given) {
             Ok(_) => {
-                let path = fs::canonicalize(name).map_err(trouble)?;
+                let path = fs::canonicalize(given).map_err(trouble)?;
                 let old = fs::metadata(&path).map_err(trouble)?;
                 if !old.is_file() {
                     return Err(format!("{name}: it is no file that could be replaced"));
                 }
                 (path, Some(old))
             }
-            Err(e) if e.kind() == ErrorKind::NotFound => (PathBuf::from(name), None),
+            Err(e) if e.kind() == ErrorKind::NotFound => (PathBuf::from(given), None),
             Err(e) => return Err(trouble(e)),
         };
-        Ok(Place { name: name.to_owned(), path, old })
+        Ok(Place { name, path, old })
     }
 
-    /// Whether the file that is there is this one, by whatever name.
+    /// Trouble if the file that is there is the one that was read, by whatever name, and may not be written over.
+    pub fn free(&self, read: &OsStr, source: &Metadata, force: bool) -> Result<(), String> {
+        if force || !self.is(source) {
+            return Ok(());
+        }
+        Err(format!("{} is {} itself, which would be gone: name another file behind -o, or say --force", self.name, shown(read)))
+    }
+
+    /// Whether the file that is there is this one.
     pub fn is(&self, other: &Metadata) -> bool {
         self.old.as_ref().is_some_and(|old| (old.dev(), old.ino()) == (other.dev(), other.ino()))
     }

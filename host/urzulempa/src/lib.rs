@@ -1,9 +1,10 @@
 //! Why a load of packages has no solution: safe functions over the proved library.
 //!
 //! Every call takes any bytes and any room and gives an [`Answer`], [`salvage`] its [`Salvaged`], [`settings_read`] its [`Settings`],
-//! [`tgf_read`] its [`TgfCounts`]; none of them panics or keeps anything, and none allocates but [`edges`], [`repaired`], [`what_changes`],
-//! [`appended`], [`written`] and [`wall::read`], which make what they fill. [`grown`] makes the room for one. [`Tables`] and [`list`] make
-//! files: from a program, and from a text that a person writes.
+//! [`tgf_read`] its [`TgfCounts`]; none of them panics or keeps anything, and none allocates but [`edges`], [`node_list`], [`edge_list`],
+//! [`counts`], [`repaired`], [`what_changes`], [`appended`], [`written`] and [`wall::read`], which make what they fill. [`grown`] makes the
+//! room for one. [`Tables`] and [`list`] make files: from a program, and from a text that a person writes; [`decode`] says what a record
+//! of one means.
 //!
 //! ```
 //! use urzulempa::{explain, Refusal};
@@ -30,35 +31,40 @@
 //! ```
 
 mod asked;
+pub mod decode;
 mod edge;
 mod edition;
 mod ffi;
 pub mod list;
+mod listed;
+mod options;
 mod refusal;
 mod report;
 mod salvaged;
 mod settings;
 pub mod tables;
-mod written;
 pub mod wall;
+mod written;
 
 pub use asked::{what_changes, what_if, what_if_explain, Change, Label};
 pub use edge::{Edge, EdgeKind};
 pub use edition::Edition;
+pub use listed::{counts, edge_list, node_list, Counts};
+pub use options::{explain_air_as, explain_as, graphviz_as, what_if_explain_as, Groups, Indent};
 pub use refusal::Refusal;
 pub use report::{join, join_numbers, season, season_numbers, Deepest, Report, REPORT_NUMBERS};
 pub use salvaged::{repaired, salvage, Repaired, Salvaged, MOST_REPLACED};
 pub use settings::{
-    appended, choices, settings_read, settings_set, Choices, Setting, Settings, SettingsRefusal, MOST_SETTINGS, SETTINGS_RECORD,
-    SETTINGS_VERSION,
+    appended, choices, settings_read, settings_set, Choices, Setting, Settings, SettingsRefusal, MOST_SETTINGS, SETTINGS_RECORD, SETTINGS_VERSION,
 };
 pub use tables::Tables;
-pub use written::{write, written, MOST_BYTES};
 pub use wall::{tgf, tgf_read, TgfCounts};
+pub use written::{write, written, MOST_BYTES};
 
 /// What a call says: the text is whole, or a numbered refusal with its place; and what was written.
 #[repr(C)]
 #[derive(Clone, Copy, Debug, PartialEq, Eq)]
+#[must_use = "it may be a refusal"]
 pub struct Answer {
     /// 0 when done, else the refusal's number.
     pub number: u64,
@@ -74,11 +80,13 @@ pub struct Answer {
 
 impl Answer {
     /// The text is whole.
+    #[must_use]
     pub fn is_done(&self) -> bool {
         self.number == 0
     }
 
     /// The refusal, unless the answer is done.
+    #[must_use]
     pub fn refusal(&self) -> Option<Refusal> {
         Refusal::of(self.number, self.place)
     }
@@ -256,22 +264,31 @@ pub fn edge_numbers(file: &[u8], list: &mut [u16]) -> Answer {
 }
 
 /// A call that writes into a room, such as [`explain`] with its file and option filled in, with a room that grows until the
-/// text fits or has `most` bytes.
+/// text fits or has `most` bytes. Memory that can't be had is room that is not there: the answer is that of the last room, 10.
 ///
 /// ```
 /// let (answer, text) = urzulempa::grown(1 << 20, |room| urzulempa::explain(&[], 0, room));
 /// assert!(answer.is_done());
 /// assert!(text.is_empty());
+///
+/// // No more is taken than the text needs.
+/// let file = include_bytes!("../../../samples/replay.rec");
+/// let (answer, text) = urzulempa::grown(usize::MAX, |room| urzulempa::explain(file, 0, room));
+/// assert_eq!((answer.number, text.len()), (0, 155));
 /// ```
 pub fn grown(most: usize, call: impl Fn(&mut [u8]) -> Answer) -> (Answer, Vec<u8>) {
+    let mut room: Vec<u8> = Vec::new();
     let mut size = most.min(4096);
     loop {
-        let mut room = vec![0; size];
+        let given = room.try_reserve_exact(size - room.len()).is_ok();
+        if given {
+            room.resize(size, 0);
+        }
         let answer = call(&mut room);
-        if answer.number != 10 || size == most {
+        if !given || answer.number != 10 || size == most {
             room.truncate(usize::try_from(answer.bytes).unwrap_or(size));
             return (answer, room);
         }
-        size = most.min(size * 4);
+        size = most.min(size.saturating_mul(4));
     }
 }

@@ -1,7 +1,8 @@
 //! What a repair did, in words.
 
-use crate::decode;
-use urzulempa::{check, Refusal, Repaired};
+use crate::json::Json;
+use crate::refused;
+use urzulempa::{check, decode, Refusal, Repaired};
 
 /// One line a replaced record: where it is, what it said and what was wrong with it; one for the bytes that were dropped; one for the
 /// whole; and one for what the repaired file still gets.
@@ -25,6 +26,25 @@ pub fn told(file: &[u8], mended: &Repaired, name: &str) -> String {
         out += &format!("it still gets {}: {refusal}\n", refusal.number());
     }
     out
+}
+
+/// The same for a program.
+pub fn json(file: &[u8], mended: &Repaired) -> Vec<(&'static str, Json)> {
+    let one = |record: &u16| {
+        Json::Object(vec![
+            ("record", (*record).into()),
+            ("byte", (usize::from(*record) * 32).into()),
+            ("clause", decode::clauses_before(file, (*record).into()).into()),
+            ("said", decode::describe(file, (*record).into()).into()),
+            ("why", wrong(file, &mended.file, *record).into()),
+        ])
+    };
+    vec![
+        ("records", (mended.file.len() / 32).into()),
+        ("replaced", Json::List(mended.replaced.iter().map(one).collect())),
+        ("dropped", mended.dropped.into()),
+        ("still", check(&mended.file).refusal().map(|refusal| refused::json(&mended.file, refusal, &[])).into()),
+    ]
 }
 
 /// What a record would have got behind the repaired ones before it.

@@ -3,7 +3,18 @@
 use std::fmt;
 
 /// Why there is no whole text (document 01, "Refusal numbers", and document 02), with its place.
+///
+/// Orders to come add refusals: a `match` outside this crate needs an arm for those that it does not know.
+///
+/// ```
+/// // It is an error like others: `?` takes it.
+/// fn mended(file: &[u8]) -> Result<Vec<u8>, Box<dyn std::error::Error>> {
+///     Ok(urzulempa::repaired(file)?.file)
+/// }
+/// assert!(mended(&[0; 32]).unwrap_err().to_string().starts_with("record 0 has a kind that does not exist"));
+/// ```
 #[derive(Clone, Copy, Debug, PartialEq, Eq)]
+#[non_exhaustive]
 pub enum Refusal {
     /// 1
     Length,
@@ -72,6 +83,7 @@ impl Refusal {
     }
 
     /// Its number.
+    #[must_use]
     pub fn number(&self) -> u64 {
         match *self {
             Self::Length => 1,
@@ -96,6 +108,7 @@ impl Refusal {
     }
 
     /// The record that the refusal points at, if it points at one.
+    #[must_use]
     pub fn record(&self) -> Option<u64> {
         match *self {
             Self::Kind(r) | Self::Shape(r) | Self::Number(r) | Self::Origin(r) | Self::TableFull(r) => Some(r),
@@ -103,6 +116,8 @@ impl Refusal {
         }
     }
 }
+
+impl std::error::Error for Refusal {}
 
 impl fmt::Display for Refusal {
     fn fmt(&self, f: &mut fmt::Formatter<'_>) -> fmt::Result {

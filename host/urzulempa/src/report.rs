@@ -46,11 +46,13 @@ impl Report {
     /// assert_eq!(Report { done: 2, nodes: 9, ..Report::default() }.files(), Some(2));
     /// assert_eq!(Report { done: u64::MAX, refused: [1; 18], ..Report::default() }.files(), None);
     /// ```
+    #[must_use]
     pub fn files(&self) -> Option<u64> {
         self.refused.iter().try_fold(self.done, |sum, &more| sum.checked_add(more))
     }
 
     /// The numbers of the C interface.
+    #[must_use]
     pub fn numbers(&self) -> [u64; REPORT_NUMBERS] {
         let mut numbers = [0; REPORT_NUMBERS];
         numbers[0] = self.done;
@@ -124,8 +126,8 @@ pub fn season(report: &mut Report, file: &[u8], edition: u64, option: u64, room:
 /// use urzulempa::{join, season, Deepest, Report};
 ///
 /// let (mut first, mut second, mut room) = (Report::default(), Report::default(), [0; 1024]);
-/// season(&mut first, include_bytes!("../../../samples/lone.rec"), 1, 1, &mut room);
-/// season(&mut second, include_bytes!("../../../samples/replay.rec"), 1, 1, &mut room);
+/// assert!(season(&mut first, include_bytes!("../../../samples/lone.rec"), 1, 1, &mut room).is_done());
+/// assert!(season(&mut second, include_bytes!("../../../samples/replay.rec"), 1, 1, &mut room).is_done());
 /// assert!(join(&mut first, &second).is_done());
 /// assert_eq!((first.done, first.deepest), (2, Some(Deepest { depth: 1, file: 1 })));
 ///

@@ -5,6 +5,7 @@ use crate::{ffi, Refusal};
 /// What a repair says: done, or a numbered refusal with its place; and what was done.
 #[repr(C)]
 #[derive(Clone, Copy, Debug, PartialEq, Eq)]
+#[must_use = "it may be a refusal"]
 pub struct Salvaged {
     /// 0 when repaired, else the refusal's number.
     pub number: u64,
@@ -20,11 +21,13 @@ pub struct Salvaged {
 
 impl Salvaged {
     /// The file is repaired.
+    #[must_use]
     pub fn is_done(&self) -> bool {
         self.number == 0
     }
 
     /// The refusal, unless the file is repaired.
+    #[must_use]
     pub fn refusal(&self) -> Option<Refusal> {
         Refusal::of(self.number, self.place)
     }

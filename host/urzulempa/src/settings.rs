@@ -6,6 +6,7 @@ use std::fmt;
 /// What a reader finds in a settings file, or a numbered refusal with its place; then the three settings are 0.
 #[repr(C)]
 #[derive(Clone, Copy, Debug, PartialEq, Eq)]
+#[must_use = "it may be a refusal"]
 pub struct Settings {
     /// 0 when the file is read, else the refusal's number.
     pub number: u64,
@@ -21,11 +22,13 @@ pub struct Settings {
 
 impl Settings {
     /// The file is read.
+    #[must_use]
     pub fn is_done(&self) -> bool {
         self.number == 0
     }
 
     /// The refusal, unless the file is read.
+    #[must_use]
     pub fn refusal(&self) -> Option<SettingsRefusal> {
         SettingsRefusal::of(self.number, self.place)
     }
@@ -119,6 +122,7 @@ pub fn choices(file: &[u8]) -> Result<Choices, SettingsRefusal> {
 
 /// One setting with its content.
 #[derive(Clone, Copy, Debug, PartialEq, Eq)]
+#[non_exhaustive]
 pub enum Setting {
     Indent(bool),
     Simplify(bool),
@@ -127,6 +131,7 @@ pub enum Setting {
 
 impl Setting {
     /// Its number in a record, and its content there.
+    #[must_use]
     pub fn numbers(self) -> (u64, u64) {
         match self {
             Self::Indent(on) => (1, on.into()),
@@ -174,6 +179,7 @@ pub fn appended(file: &[u8], setting: u64, content: u64) -> Result<[u8; SETTINGS
 
 /// Why a settings file is not read or not changed (document 02, order 12), with its place.
 #[derive(Clone, Copy, Debug, PartialEq, Eq)]
+#[non_exhaustive]
 pub enum SettingsRefusal {
     /// 1
     Length,
@@ -203,6 +209,7 @@ impl SettingsRefusal {
     }
 
     /// Its number.
+    #[must_use]
     pub fn number(&self) -> u64 {
         match *self {
             Self::Length => 1,
@@ -215,11 +222,16 @@ impl SettingsRefusal {
     }
 }
 
+impl std::error::Error for SettingsRefusal {}
+
 impl fmt::Display for SettingsRefusal {
     fn fmt(&self, f: &mut fmt::Formatter<'_>) -> fmt::Result {
         match *self {
             Self::Length => write!(f, "the file's length is no multiple of 16 or above 4,096 bytes: it was cut, or is no settings file"),
-            Self::Shape(r) => write!(f, "record {r} has a setting or a content that its version does not know, or a byte that must be 0 is not: it is damaged, or is no settings file"),
+            Self::Shape(r) => write!(
+                f,
+                "record {r} has a setting or a content that its version does not know, or a byte that must be 0 is not: it is damaged, or is no settings file"
+            ),
             Self::Full => write!(f, "the file has 4,096 bytes, the most: put it aside and set anew what is not the default"),
             Self::Release => write!(f, "the reader's version is neither 1 nor 2: pass one of them"),
             Self::Version(r) => write!(f, "record {r} is of a version that this reader does not know: a newer release wrote it, or it is damaged"),

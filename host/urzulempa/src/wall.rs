@@ -39,6 +39,7 @@ pub fn tgf(file: &[u8], room: &mut [u8]) -> Answer {
 /// What reading a text says: done, or a numbered refusal with its place; and how many nodes and edges there are.
 #[repr(C)]
 #[derive(Clone, Copy, Debug, PartialEq, Eq)]
+#[must_use = "it may be a refusal"]
 pub struct TgfCounts {
     /// 0 when read, 3 for a text that is not as the line rules write it, 10 for a list that is too short.
     pub number: u64,
@@ -52,6 +53,7 @@ pub struct TgfCounts {
 
 impl TgfCounts {
     /// The text is read.
+    #[must_use]
     pub fn is_done(&self) -> bool {
         self.number == 0
     }

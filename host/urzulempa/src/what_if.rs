@@ -1,39 +1,11 @@
 //! `what-if FILE PACKAGE REASON`: which labels would change if one more package were excluded, and the explanation then.
 
-use crate::{cycle, decode, keep, lists, print, say, told, usage, DEFAULT_ROOM};
-use std::process::ExitCode;
-use urzulempa::{check, grown, what_changes, what_if_explain, Change, Refusal, PLAIN_OPTION};
-
-/// What the words behind the command ask for.
-struct Asked<'w> {
-    file: &'w str,
-    package: &'w str,
-    reason: &'w str,
-    option: u64,
-    room: usize,
-}
-
-impl<'w> Asked<'w> {
-    fn of(words: &'w [String]) -> Result<Self, String> {
-        let (mut option, mut room) = (PLAIN_OPTION, DEFAULT_ROOM);
-        let mut given = Vec::new();
-        let mut rest = words.iter();
-        while let Some(word) = rest.next() {
-            match word.as_str() {
-                "--indent" => option = 1,
-                "--no-indent" => option = 0,
-                "--room" => room = rest.next().and_then(|n| n.parse().ok()).ok_or("--room wants a number of bytes")?,
-                w if given.is_empty() && w != "-" && w.starts_with('-') => return Err(format!("{w} is no option of what-if")),
-                w => given.push(w),
-            }
-        }
-        let [file, package, reason] = given[..] else {
-            let few = "what-if wants FILE, PACKAGE and REASON";
-            return Err(if given.len() < 3 { few.into() } else { format!("{few}: put quotes around a text that has spaces") });
-        };
-        Ok(Asked { file, package, reason, option, room })
-    }
-}
+use crate::calls::{self, Load};
+use crate::json::Json;
+use crate::say::{print, say, DONE, REFUSED, USAGE};
+use crate::words::Given;
+use crate::{cycle, keep, lists, unreached};
+use urzulempa::{check, decode, grown, what_changes, what_if_explain_as, Change, Indent, Refusal, MOST_BYTES};
 
 /// A row of a table that can be asked for: its number and its texts, the one that is shown first.
 type Row = (u16, Vec<String>);
@@ -84,51 +56,96 @@ impl Table {
                     1 => format!("its only {one} is #0, {}", self.shown(0).unwrap_or_default()),
                     n => format!("its {many} are #0 to #{}", n - 1),
                 };
-                Err((vec![format!("refused 4: the file has no {one} {word}; {has}")], 2))
+                Err((vec![format!("refused 4: the file has no {one} {word}; {has}")], REFUSED))
             }
             ref several => {
                 let mut said = vec![format!("urzulempa: {word} means {} {many}; name one of them by its number:", several.len())];
                 said.extend(several.iter().map(|&n| format!("#{n} {}", self.shown(n).unwrap_or_default())));
-                Err((said, 64))
+                Err((said, USAGE))
             }
         }
     }
 }
 
-pub fn run(words: &[String]) -> Result<ExitCode, String> {
-    let asked = match Asked::of(words) {
-        Ok(asked) => asked,
-        Err(why) => return Ok(usage(&why)),
-    };
-    let (bytes, _) = keep::read(asked.file)?;
+pub fn run(given: &Given) -> Result<u8, String> {
+    let name = given.name(0).unwrap_or_default();
+    let load = Load { name: keep::shown(name), bytes: keep::read(name, MOST_BYTES)?.0 };
     // That file's refusals first.
-    let whole = check(&bytes);
-    if !whole.is_done() {
-        return Ok(told(&bytes, &whole));
+    if let Some(refusal) = check(&load.bytes).refusal() {
+        return load.tell(given, Some(refusal), Vec::new);
     }
-    let (packages, reasons) = (Table::packages(&bytes), Table::reasons(&bytes));
-    let (solvable, reason) = match (packages.find(asked.package), reasons.find(asked.reason)) {
-        (Ok(solvable), Ok(reason)) => (solvable, reason),
+    let (packages, reasons) = (Table::packages(&load.bytes), Table::reasons(&load.bytes));
+    let (package, reason) = (given.text(1).unwrap_or_default(), given.text(2).unwrap_or_default());
+    match (packages.find(&package), reasons.find(&reason)) {
+        (Ok(solvable), Ok(reason)) => {
+            let asked = Asked { solvable, reason, package: packages.shown(solvable).unwrap_or_default(), why: reasons.shown(reason).unwrap_or_default() };
+            asked.answer(given, &load)
+        }
+        (Err((said, REFUSED)), _) | (_, Err((said, REFUSED))) if given.has("--json") => load.refused(Refusal::Asked, &said),
         (Err((said, status)), _) | (_, Err((said, status))) => {
             said.iter().for_each(|line| say(line));
-            return Ok(ExitCode::from(status));
-        }
-    };
-    let package = format!("{} (#{solvable})", packages.shown(solvable).unwrap_or_default());
-    match what_changes(&bytes, solvable, reason) {
-        Err(refusal) => Ok(refused(&bytes, &package, refusal)),
-        Ok(changes) => {
-            let reason_text = reasons.shown(reason).unwrap_or_default();
-            let mut out = format!("if {package} were excluded because {reason_text} (#{reason}):\n");
-            out += &change_lines(&bytes, &changes);
-            let (answer, text) = grown(asked.room, |room| what_if_explain(&bytes, solvable, reason, asked.option, room));
-            if !text.is_empty() {
-                out.push('\n');
-            }
-            print(&[out.as_bytes(), &text].concat())?;
-            Ok(told(&bytes, &answer))
+            Ok(status)
         }
     }
+}
+
+/// A question: two numbers, and what they stand for.
+struct Asked<'t> {
+    solvable: u64,
+    reason: u64,
+    package: &'t str,
+    why: &'t str,
+}
+
+impl Asked<'_> {
+    fn answer(&self, given: &Given, load: &Load) -> Result<u8, String> {
+        let Asked { solvable, reason, package, why } = *self;
+        let file = &load.bytes;
+        let changes = match what_changes(file, solvable, reason) {
+            Ok(changes) => changes,
+            Err(refusal) => {
+                let lines = refused(file, &format!("{package} (#{solvable})"), refusal);
+                if given.has("--json") {
+                    return load.refused(refusal, &lines);
+                }
+                lines.iter().for_each(|line| say(line));
+                return Ok(REFUSED);
+            }
+        };
+        let indent = given.either("--indent", "--no-indent").map_or(Indent::default(), Indent::from);
+        let (answer, text) = grown(calls::room(given), |room| what_if_explain_as(file, solvable, reason, indent, room));
+        let mut lines = answer.refusal().map(|refusal| crate::refused::all(file, refusal)).unwrap_or_default();
+        lines.extend(calls::more_room(given, &answer));
+        if given.has("--json") {
+            let told = vec![
+                ("solvable", solvable.into()),
+                ("package", package.into()),
+                ("reason", why.into()),
+                ("changes", change_json(file, &changes)),
+                ("text", String::from_utf8_lossy(&text).into_owned().into()),
+            ];
+            print(&load.json(told, answer.refusal().map(|refusal| (refusal, &lines[..]))).line())?;
+        } else {
+            let head = format!("if {package} (#{solvable}) were excluded because {why} (#{reason}):\n{}", change_lines(file, &changes));
+            let between: &[u8] = if text.is_empty() { b"" } else { b"\n" };
+            print(&[head.as_bytes(), between, &text].concat())?;
+            lines.iter().for_each(|line| say(line));
+        }
+        Ok(if answer.is_done() { DONE } else { REFUSED })
+    }
+}
+
+/// The labels that change, for a program.
+fn change_json(file: &[u8], changes: &[Change]) -> Json {
+    let one = |c: &Change| {
+        Json::Object(vec![
+            ("solvable", (c.node.kind == 1).then_some(c.node.number).into()),
+            ("what", lists::shown(file, &c.node).into()),
+            ("before", c.before.to_string().into()),
+            ("then", c.then.to_string().into()),
+        ])
+    };
+    Json::List(changes.iter().map(one).collect())
 }
 
 /// One line for each label that changes.
@@ -143,16 +160,21 @@ fn change_lines(file: &[u8], changes: &[Change]) -> String {
     changes.iter().map(line).collect()
 }
 
-/// A refusal of the question, the file having none.
-fn refused(file: &[u8], package: &str, refusal: Refusal) -> ExitCode {
+/// What is said of a refusal of the question, the file having none.
+fn refused(file: &[u8], package: &str, refusal: Refusal) -> Vec<String> {
     match refusal {
-        Refusal::Asked => say(&format!("refused 4: {package} is not in the conflict, so excluding it changes nothing; `urzulempa nodes FILE` lists what is")),
-        Refusal::GraphFull(clause) => say(&format!("refused 8 at clause {clause}, which this exclusion would be: it would add node 129 or edge 1,025, unresolved counted; cut the core down")),
-        Refusal::Cycle(node) => {
-            say(&format!("refused 17 at node {node}: it leads back to itself, and the question can only be asked of a load without a cycle: break it first"));
-            cycle::lines(file, node).iter().for_each(|line| say(line));
+        Refusal::Asked => vec![format!("refused 4: {package} is not in the conflict, so excluding it changes nothing; `urzulempa nodes FILE` lists what is")],
+        Refusal::GraphFull(clause) => {
+            let first = format!(
+                "refused 8 at clause {clause}, which this exclusion would be: it would add node 129 or edge 1,025, unresolved counted; cut the core down"
+            );
+            [first].into_iter().chain(unreached::filled(file, clause)).collect()
         }
-        other => say(&format!("refused {}: {other}", other.number())),
+        Refusal::Cycle(node) => {
+            let first =
+                format!("refused 17 at node {node}: it leads back to itself, and the question can only be asked of a load without a cycle: break it first");
+            [first].into_iter().chain(cycle::lines(file, node)).collect()
+        }
+        other => vec![format!("refused {}: {other}", other.number())],
     }
-    ExitCode::from(2)
 }

@@ -3,10 +3,8 @@
 mod common;
 
 use common::{run, said};
-use std::ffi::OsStr;
 use std::fs;
 use std::io::Write;
-use std::os::unix::ffi::OsStrExt;
 use std::os::unix::fs::{symlink, PermissionsExt};
 use std::path::{Path, PathBuf};
 use std::process::{Command, Stdio};
@@ -312,7 +310,10 @@ fn salvage_says_what_it_replaced_and_dropped_and_writes_the_rest() {
     let (lines, written) = salvaged(REPLAY);
     assert_eq!((lines, written.as_slice()), (vec![format!("{name} is written: 13 records, nothing was to be repaired")], REPLAY));
     let (lines, written) = salvaged(&REPLAY[..12 * 32 + 5]);
-    assert_eq!(lines, ["from byte 384 on, 5 bytes of a record that was cut are dropped".into(), format!("{name} is written: 12 records, 0 replaced, 5 bytes dropped")]);
+    assert_eq!(
+        lines,
+        ["from byte 384 on, 5 bytes of a record that was cut are dropped".into(), format!("{name} is written: 12 records, 0 replaced, 5 bytes dropped")]
+    );
     assert_eq!(written, REPLAY[..12 * 32]);
     // What each refusal that is mended means, with its field where it has one.
     for (changes, wanted) in [
@@ -380,7 +381,15 @@ fn salvage_does_not_write_over_its_input_by_any_name_without_force() {
         symlink("in.rec", at("soft.rec")).expect("a link");
         symlink(at("soft.rec"), at("far.rec")).expect("a link");
     };
-    for (from, to) in [("in.rec", "in.rec"), ("in.rec", "hard.rec"), ("in.rec", "soft.rec"), ("in.rec", "far.rec"), ("soft.rec", "in.rec"), ("hard.rec", "far.rec"), ("in.rec", "../over/in.rec")] {
+    for (from, to) in [
+        ("in.rec", "in.rec"),
+        ("in.rec", "hard.rec"),
+        ("in.rec", "soft.rec"),
+        ("in.rec", "far.rec"),
+        ("soft.rec", "in.rec"),
+        ("hard.rec", "far.rec"),
+        ("in.rec", "../over/in.rec"),
+    ] {
         let to = to.replace("../over", &format!("../{}", folder.file_name().and_then(|n| n.to_str()).expect("a name")));
         lay();
         let ran = run(&["salvage", &at(from), "-o", &at(&to)], &[]);
@@ -512,12 +521,9 @@ fn row(back: u16) -> Vec<u8> {
 
 #[test]
 fn on_air_a_cycle_goes_by_any_edge_and_begins_where_the_root_meets_it() {
-    for (back, wanted) in [
-        (0, "cycle: a 1 → b 1 → c 1 → d 1 → e 1 → a 1"),
-        (1, "cycle: b 1 → c 1 → d 1 → e 1 → b 1"),
-        (3, "cycle: d 1 → e 1 → d 1"),
-        (4, "cycle: e 1 → e 1"),
-    ] {
+    for (back, wanted) in
+        [(0, "cycle: a 1 → b 1 → c 1 → d 1 → e 1 → a 1"), (1, "cycle: b 1 → c 1 → d 1 → e 1 → b 1"), (3, "cycle: d 1 → e 1 → d 1"), (4, "cycle: e 1 → e 1")]
+    {
         let lines = refused_on_air(&row(back));
         assert!(lines[0].starts_with("refused 17 at node 1: "), "{lines:?}");
         // Unresolved went, and the newest node has its number.
@@ -531,19 +537,47 @@ fn on_air_a_cycle_goes_by_any_edge_and_begins_where_the_root_meets_it() {
 
 #[test]
 fn wrong_usage_is_status_64_and_a_file_that_is_not_there_1() {
-    for words in [&[][..], &["explain"], &["draw", "-"], &["edges"], &["edges", "--all"], &["check", "-", "--indent"], &["graph", "-", "--no-indent"], &["explain", "-", "--room", "many"], &["check", "a", "b"]] {
+    for words in [
+        &[][..],
+        &["explain"],
+        &["draw", "-"],
+        &["edges"],
+        &["edges", "--all"],
+        &["check", "-", "--indent"],
+        &["graph", "-", "--no-indent"],
+        &["explain", "-", "--room", "many"],
+        &["graph", "a", "b"],
+    ] {
         assert_eq!(run(words, &[]).status.code(), Some(64), "{words:?}");
     }
-    for words in [&["explain", "-", "--edition"][..], &["explain", "-", "--edition", "0"], &["explain", "-", "--edition", "3"], &["explain", "-", "--edition", "two"], &["graph", "-", "--edition", "2"], &["check", "-", "--edition", "2"], &["explain", "-", "--air", "--edition", "2"], &["explain", "--edition", "2", "-", "--air"], &["graph", "-", "--air"], &["nodes", "-", "--air"]] {
+    for words in [
+        &["explain", "-", "--edition"][..],
+        &["explain", "-", "--edition", "0"],
+        &["explain", "-", "--edition", "3"],
+        &["explain", "-", "--edition", "two"],
+        &["graph", "-", "--edition", "2"],
+        &["check", "-", "--edition", "2"],
+        &["explain", "-", "--air", "--edition", "2"],
+        &["explain", "--edition", "2", "-", "--air"],
+        &["graph", "-", "--air"],
+        &["nodes", "-", "--air"],
+    ] {
         let out = run(words, REPLAY);
         assert_eq!((out.status.code(), out.stdout.len()), (Some(64), 0), "{words:?}");
     }
-    for words in [&["salvage", "-"][..], &["salvage", "-o", "x"], &["salvage", "-", "-o"], &["salvage", "-", "-o", "-"], &["salvage", "-", "-o", "x", "-o", "y"], &["salvage", "-", "--indent", "-o", "x"], &["check", "-", "--force"], &["check", "-", "-o", "x"]] {
+    for words in [
+        &["salvage", "-"][..],
+        &["salvage", "-o", "x"],
+        &["salvage", "-", "-o"],
+        &["salvage", "-", "-o", "-"],
+        &["salvage", "-", "-o", "x", "-o", "y"],
+        &["salvage", "-", "--indent", "-o", "x"],
+        &["check", "-", "--force"],
+        &["check", "-", "-o", "x"],
+    ] {
         let out = run(words, REPLAY);
         assert_eq!((out.status.code(), out.stdout.len()), (Some(64), 0), "{words:?}");
     }
-    let odd = OsStr::from_bytes(b"\xff.rec");
-    assert_eq!(Command::new(env!("CARGO_BIN_EXE_urzulempa")).args([OsStr::new("check"), odd]).output().expect("it runs").status.code(), Some(64));
     assert_eq!(run(&["check", "there/is/no/such.rec"], &[]).status.code(), Some(1));
     assert_eq!(run(&["salvage", "there/is/no/such.rec", "-o", "x"], &[]).status.code(), Some(1));
     assert_eq!(run(&["--help"], &[]).status.code(), Some(0));

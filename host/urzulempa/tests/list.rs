@@ -116,7 +116,28 @@ fn lines_stand_in_any_order_and_have_spaces_comments_and_other_line_ends() {
 
 #[test]
 fn texts_that_would_be_read_as_something_else_stand_in_quotes() {
-    for text in ["a b", " ", " a", "a ", "\"", "\\\"", "#", "#1", "@x", "@", "root", "gate", "auxiliary", "other", "forbid", "a,", ",", ",a", "4\" monitor", "!\"#$%&'()*+,-./:;<=>?@[\\"] {
+    for text in [
+        "a b",
+        " ",
+        " a",
+        "a ",
+        "\"",
+        "\\\"",
+        "#",
+        "#1",
+        "@x",
+        "@",
+        "root",
+        "gate",
+        "auxiliary",
+        "other",
+        "forbid",
+        "a,",
+        ",",
+        ",a",
+        "4\" monitor",
+        "!\"#$%&'()*+,-./:;<=>?@[\\",
+    ] {
         let mut load = Tables::new();
         let name = load.name(text).expect("a text");
         let solvable = load.solvable(name, text).expect("a text");
@@ -166,12 +187,18 @@ fn faults_are_told_by_their_lines() {
         ("name", "line 1: such a line is `name TEXT`"),
         ("candidate x", "line 1: such a line is `candidate REQUIREMENT, NAME VERSION`"),
         ("core install-root root", "line 1: such a line is `core install-root`"),
-        ("core requires root \"x\"", "line 1: such a line is `core requires VARIABLE, REQUIREMENT`, with a text that has spaces in quotes; a VARIABLE is root, NAME VERSION, "),
+        (
+            "core requires root \"x\"",
+            "line 1: such a line is `core requires VARIABLE, REQUIREMENT`, with a text that has spaces in quotes; a VARIABLE is root, NAME VERSION, ",
+        ),
         ("variable deck", "line 1: such a line is `variable VARIABLE`"),
         ("name deck\n\nsolvable dekc 1", "line 3: no line makes the name `dekc`"),
         ("name deck\nsolvable deck 1\ncore lock deck 1, deck 1", "line 3: no line makes the variable `deck 1`: write `variable deck 1`"),
         ("variable root\ncore requires root, \"deck *\"", "line 2: no line makes the requirement `\"deck *\"`"),
-        ("variable gate\nvariable gate\ncore any-of gate, gate", "line 3: lines 1, 2 make a variable `gate`: put a label in front of the one that is meant, @LABEL: .., and write @LABEL here"),
+        (
+            "variable gate\nvariable gate\ncore any-of gate, gate",
+            "line 3: lines 1, 2 make a variable `gate`: put a label in front of the one that is meant, @LABEL: .., and write @LABEL here",
+        ),
         ("@x: name deck\n@x: name panel", "line 2: @x is the label of line 1 already"),
         ("solvable @x 1", "line 1: no line has the label @x:"),
         ("@x: reason deck\nsolvable @x 1", "line 2: @x is line 1, which makes no name"),
@@ -220,7 +247,10 @@ fn what_the_writer_refuses_is_told_by_the_line_that_it_points_at() {
     let long = "variable other\n".repeat(1_024) + &"core install-root\n".repeat(1_024);
     assert_eq!(make(long.as_bytes()).map(|file| file.len()), Ok(65_536));
     let (said, refusal) = refused(&(long + "name deck"));
-    assert_eq!((said.as_str(), refusal), ("refused 1: the file would have 65568 bytes, in 2049 records, and 65,536 in 2,048 are the most", Some(Refusal::Length)));
+    assert_eq!(
+        (said.as_str(), refusal),
+        ("refused 1: the file would have 65568 bytes, in 2049 records, and 65,536 in 2,048 are the most", Some(Refusal::Length))
+    );
 }
 
 #[test]

@@ -35,7 +35,11 @@ fn dump_prints_the_list_and_make_writes_the_file_of_it() {
     // What `check` still says of it is told.
     let made = run(&["make", "-", "-o", name], b"core learnt");
     assert_eq!(made.status.code(), Some(0));
-    assert!(said(&made.stdout).starts_with(&format!("{name} is written: 1 record\nit gets 7: clause 0 is a learnt clause in the core")), "{}", said(&made.stdout));
+    assert!(
+        said(&made.stdout).starts_with(&format!("{name} is written: 1 record\nit gets 7: clause 0 is a learnt clause in the core")),
+        "{}",
+        said(&made.stdout)
+    );
     fs::remove_dir_all(folder).expect("the folder");
 }
 
@@ -66,7 +70,11 @@ fn a_list_with_a_fault_leaves_what_was_there() {
     let (from, name) = (list.to_str().expect("a name"), out.to_str().expect("a name"));
     for (text, status, wanted) in [
         (LIST.replace("replay 1,", "replay 3,"), 1, "line 20: no line makes the variable `replay 3`: write `variable replay 3`"),
-        (LIST.replace("core requires replay 1, \"codec 9\"", "core lock replay 1, root"), 2, "line 20: refused 5: its second variable is the root, and a solvable is wanted there"),
+        (
+            LIST.replace("core requires replay 1, \"codec 9\"", "core lock replay 1, root"),
+            2,
+            "line 20: refused 5: its second variable is the root, and a solvable is wanted there",
+        ),
         ("name deck\n".repeat(129), 2, "line 129: refused 6: it is one more than a file holds: 128 names at most"),
         ("core install-root\n".repeat(1_024) + &"variable other\n".repeat(1_024) + "name deck\n", 2, "refused 1: the file would have 65568 bytes"),
     ] {
@@ -127,12 +135,12 @@ fn a_file_that_is_refused_is_told_as_elsewhere() {
 #[test]
 fn wrong_usage_is_told() {
     for (words, wanted) in [
-        (&["dump"][..], "dump wants one FILE"),
-        (&["dump", "a", "b"], "dump wants one FILE"),
+        (&["dump"][..], "dump wants FILE"),
+        (&["dump", "a", "b"], "dump wants FILE, and no more words"),
         (&["dump", "--room", "a"], "--room is no option of dump"),
-        (&["make", "-o", "x"], "LIST is missing"),
+        (&["make", "-o", "x"], "make wants LIST"),
         (&["make", "a"], "make wants -o FILE"),
-        (&["make", "a", "b", "-o", "x"], "one LIST, please"),
+        (&["make", "a", "b", "-o", "x"], "make wants LIST, and no more words"),
         (&["make", "a", "-o", "x", "-o", "y"], "-o wants the name of one file"),
         (&["make", "a", "-o", "-"], "-o wants the name of one file"),
         (&["make", "a", "-o"], "-o wants the name of one file"),
@@ -142,8 +150,8 @@ fn wrong_usage_is_told() {
         assert_eq!((out.status.code(), out.stdout.len()), (Some(64), 0), "{words:?}");
         assert!(said(&out.stderr).contains(wanted), "{words:?}: {}", said(&out.stderr));
     }
-    let help = said(&run(&["make", "--help"], &[]).stdout);
-    assert!(help.contains("urzulempa dump FILE ") && help.contains("urzulempa make LIST -o FILE "));
+    let help = said(&run(&["--help"], &[]).stdout);
+    assert!(help.contains("urzulempa dump FILE\n") && help.contains("urzulempa make LIST -o FILE [--force]\n"));
 }
 
 /// On a thread with 128 KiB of stack and a guard page behind it, for few rows and for 200,000.

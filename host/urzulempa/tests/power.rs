@@ -92,6 +92,7 @@ fn start(words: &[&str], folder: &Path) -> Child {
 }
 
 /// Runs the command, asking at each stop what is to be done.
+#[allow(unknown_lints, clippy::zombie_processes)] // `wait` waits for it, by its number
 fn traced(words: &[&str], folder: &Path, mut at: impl FnMut(Stop) -> Then) -> End {
     let mut child = start(words, folder);
     let pid = i32::try_from(child.id()).expect("a process number");
@@ -196,7 +197,11 @@ fn killed_at_each_stop(ground: &Ground, words: &[&str], out: &str, old: Option<&
         let mut stops = 0;
         let end = traced(words, &ground.folder, |_| {
             stops += 1;
-            if stops > last { Then::Kill } else { Then::Go }
+            if stops > last {
+                Then::Kill
+            } else {
+                Then::Go
+            }
         });
         let found = ground.holds(out);
         if found.as_ref() == Some(&ground.mended) {
@@ -359,9 +364,17 @@ fn killed_at_each_system_call_a_setting_is_changed_or_not() {
             let mut stops = 0;
             let end = traced(&SET, &truck.folder, |_| {
                 stops += 1;
-                if stops > last { Then::Kill } else { Then::Go }
+                if stops > last {
+                    Then::Kill
+                } else {
+                    Then::Go
+                }
             });
-            if truck.changed() { after += 1 } else { before += 1 }
+            if truck.changed() {
+                after += 1
+            } else {
+                before += 1
+            }
             assert!(after == 0 || truck.changed(), "the old one is back after {last} stops");
             if let End::Exit(code, said) = end {
                 assert_eq!((code, said.as_str(), truck.changed()), (0, "", true));

@@ -1,7 +1,9 @@
 //! `season` and `join` as a person runs them: what the README shows.
 
+use std::ffi::OsStr;
 use std::fs::{self, File};
 use std::io::{Read, Write};
+use std::os::unix::ffi::OsStrExt;
 use std::os::unix::fs::{symlink, PermissionsExt};
 use std::path::{Path, PathBuf};
 use std::process::{Command, Output, Stdio};
@@ -77,7 +79,8 @@ fn shown(line: &str) -> String {
 fn the_readme_shows_what_is_printed() {
     let ground = Ground::new("readme");
     let samples = fs::canonicalize(Path::new(env!("CARGO_MANIFEST_DIR")).join("../../samples")).expect("the samples");
-    let mut names: Vec<String> = fs::read_dir(&samples).expect("a folder").map(|entry| format!("samples/{}", entry.expect("an entry").file_name().to_string_lossy())).collect();
+    let mut names: Vec<String> =
+        fs::read_dir(&samples).expect("a folder").map(|entry| format!("samples/{}", entry.expect("an entry").file_name().to_string_lossy())).collect();
     names.retain(|name| name.ends_with(".rec"));
     names.sort();
     symlink(samples, ground.0.join("samples")).expect("a link");
@@ -118,7 +121,11 @@ longest     15  first in friday/rack.rec
     fs::create_dir(ground.0.join("empty")).expect("a folder");
     let (code, printed, _) = ground.ran(&["season", "empty/"], &[]);
     assert_eq!(code, Some(0));
-    assert!(printed.starts_with("files       0\ndone        0\nrefused     0\nnodes") && printed.contains("deepest     -  no file has a text\nlongest     -  no file has a line\n"), "{printed}");
+    assert!(
+        printed.starts_with("files       0\ndone        0\nrefused     0\nnodes")
+            && printed.contains("deepest     -  no file has a text\nlongest     -  no file has a line\n"),
+        "{printed}"
+    );
     let (_, printed, _) = ground.ran(&["season", "friday/"], &[]);
     assert_eq!(printed, wanted);
     // A load from standard input among others.
@@ -195,14 +202,15 @@ fn a_report_is_that_of_the_library_and_seasons_that_are_cut_join_to_the_whole() 
     // The readable ones, in order.
     let mut names: Vec<PathBuf> = Vec::new();
     for folder in 0..7 {
-        let mut inside: Vec<PathBuf> = fs::read_dir(ground.0.join(format!("all/{folder:02}"))).expect("a folder").map(|entry| entry.expect("an entry").path()).collect();
+        let mut inside: Vec<PathBuf> =
+            fs::read_dir(ground.0.join(format!("all/{folder:02}"))).expect("a folder").map(|entry| entry.expect("an entry").path()).collect();
         inside.sort();
         names.extend(inside);
     }
     names.retain(|name| name.exists());
     let (mut report, mut room) = (Report::default(), vec![0; 1 << 20]);
     for name in &names {
-        season(&mut report, &fs::read(name).expect("a file"), 1, 1, &mut room);
+        assert_ne!(season(&mut report, &fs::read(name).expect("a file"), 1, 1, &mut room).number, 14);
     }
     assert_eq!(report.files(), Some(names.len() as u64));
     let (_, whole, _) = ground.ran(&["season", "all", "--save", "whole"], &[]);
@@ -260,7 +268,7 @@ deepest         3  first in c, file 5, of all file 1,008
     // From standard input, as another machine sends it.
     let (code, printed, _) = ground.ran(&["join", "a", "-"], ground.holds("c").expect("a file").as_bytes());
     assert_eq!(code, Some(0));
-    assert!(printed.ends_with("first in -, file 5, of all file 1,005\n"), "{printed}");
+    assert!(printed.ends_with("first in standard input, file 5, of all file 1,005\n"), "{printed}");
 }
 
 #[test]
@@ -331,7 +339,10 @@ fn what_cannot_be_read_is_told_and_counted_apart() {
         assert!(line.starts_with(name), "{said}");
     }
     // The rack is file 1 of three, though the fifth of the list.
-    assert!(printed.starts_with("files        3\n") && printed.contains("first in all/d.rec, file 1\n") && printed.ends_with("unreadable   4  not counted above\n"), "{printed}");
+    assert!(
+        printed.starts_with("files        3\n") && printed.contains("first in all/d.rec, file 1\n") && printed.ends_with("unreadable   4  not counted above\n"),
+        "{printed}"
+    );
     // Of many the first are told.
     for index in 0..30 {
         symlink("nowhere", ground.0.join(format!("all/x{index:02}"))).expect("a link");
@@ -473,7 +484,81 @@ fn wrong_usage_is_status_64() {
     assert_eq!((ground.holds("b"), ground.holds("c")), (None, None));
     assert_eq!(ground.ran(&["join", "none"], &[]).0, Some(1));
     let (_, help, _) = ground.ran(&["--help"], &[]);
-    assert!(help.contains("urzulempa season PATH..") && help.contains("urzulempa join REPORT.."));
+    for usage in ["season PATH... [--jobs J] [--save OUT] [--edition E] [--room N] [--json]", "join REPORT... [--save OUT] [--json]"] {
+        assert!(help.contains(&format!("\n  urzulempa {usage}\n")), "{help}");
+    }
+    let (_, help, _) = ground.ran(&["help", "season"], &[]);
+    assert!(help.contains("\n  --jobs J\n") && help.contains("\n  --save OUT\n") && help.contains("which is not printed: 67108864 by default\n"), "{help}");
+}
+
+#[test]
+fn words_are_read_as_those_of_other_commands_and_a_name_may_be_any_bytes() {
+    let ground = Ground::new("words");
+    let odd = OsStr::from_bytes;
+    for name in ["--jobs", "-h"] {
+        ground.lay(name, REPLAY);
+    }
+    fs::create_dir(ground.0.join(odd(b"\xff"))).expect("a folder");
+    fs::write(ground.0.join(odd(b"\xff/\xfe.rec")), RACK).expect("a file");
+    let (code, printed, said) = ground.ran(&["season", "--jobs=2", "--edition=2", "--save=report", "--", "--jobs", "-h"], &[]);
+    assert_eq!((code, said.as_str()), (Some(0), ""));
+    assert!(
+        printed.starts_with("files       2\ndone        2\n") && printed.contains("first in --jobs, file 0\n") && printed.ends_with("report is written\n"),
+        "{printed}"
+    );
+    for (words, why) in [
+        (&["season", "report", "--jobs=0"][..], "--jobs wants a number from 1"),
+        (&["season", "--jobs", "1", "--save=-", "--", "-h"], "--save wants the name of one file"),
+        (&["season", "--jobs=1"], "season wants PATH"),
+        (&["join", "--", "-", "-"], "standard input can be read once only"),
+        (&["join", "--jobs=1", "report"], "--jobs=1 is no option of join"),
+    ] {
+        assert_eq!(ground.ran(words, &[]), (Some(64), String::new(), format!("urzulempa: {why}; `urzulempa --help` shows the commands\n")), "{words:?}");
+    }
+    // Names that are no UTF-8: a file in a folder, a report that is saved and joined.
+    let run = |words: &[&OsStr]| {
+        let Output { status, stdout, stderr } = ground.command(&[]).args(words).output().expect("the command runs");
+        (status.code(), String::from_utf8_lossy(&stdout).into_owned(), String::from_utf8_lossy(&stderr).into_owned())
+    };
+    let (code, printed, said) = run(&[odd(b"season"), odd(b"\xff"), odd(b"--save"), odd(b"\xfd.report")]);
+    assert_eq!((code, said.as_str()), (Some(0), ""));
+    assert!(printed.contains("first in \u{fffd}/\u{fffd}.rec, file 0\n") && printed.ends_with("\u{fffd}.report is written\n"), "{printed}");
+    assert_eq!(run(&[odd(b"season"), odd(b"\xff/\xfe.rec"), odd(b"--save=\xfc")]).0, Some(0));
+    let bytes = |name: &[u8]| fs::read(ground.0.join(odd(name))).expect("saved");
+    assert_eq!(bytes(b"\xfd.report"), bytes(b"\xfc"));
+    let (code, printed, _) = run(&[odd(b"join"), odd(b"\xfd.report"), odd(b"\xfc")]);
+    assert!(code == Some(0) && printed.starts_with("files         2\n") && printed.ends_with("first in \u{fffd}.report, file 0, of all file 0\n"), "{printed}");
+    let (code, _, said) = run(&[odd(b"season"), odd(b"\xff"), odd(b"--save"), odd(b"\xff/\xfe.rec")]);
+    assert!(code == Some(1) && said.contains("is a file of the season"), "{said}");
+}
+
+/// Runs the command with so many KiB of memory, and no more.
+fn with_memory(ground: &Ground, kib: usize, words: &[&str]) -> (Option<i32>, String, String) {
+    let script = format!("ulimit -v {kib}; exec \"$0\" \"$@\"");
+    let out = Command::new("sh")
+        .args(["-c", &script, env!("CARGO_BIN_EXE_urzulempa")])
+        .args(words)
+        .current_dir(&ground.0)
+        .stdin(Stdio::null())
+        .output()
+        .expect("sh runs");
+    (out.status.code(), String::from_utf8_lossy(&out.stdout).into_owned(), String::from_utf8_lossy(&out.stderr).into_owned())
+}
+
+#[test]
+fn memory_has_a_bound() {
+    let ground = Ground::new("memory");
+    ground.lay("long.rec", &doubling(30));
+    // A room that can't be had is one that is too small.
+    let (code, printed, said) = with_memory(&ground, 96 << 10, &["season", "long.rec", "--jobs", "1", "--room", &usize::MAX.to_string()]);
+    assert_eq!((code, said.as_str()), (Some(0), ""));
+    assert!(printed.contains(" 1  the text does not fit into the room\n"), "{printed}");
+    // No more of a file or of a report is read than it may have.
+    let (code, printed, said) = with_memory(&ground, 64 << 10, &["season", "/dev/zero", "--jobs", "1"]);
+    assert_eq!((code, said.as_str()), (Some(0), ""));
+    assert!(printed.contains("\n   1        1  the length"), "{printed}");
+    let (code, _, said) = with_memory(&ground, 64 << 10, &["join", "/dev/zero"]);
+    assert!(code == Some(2) && said.starts_with("/dev/zero: refused at line 1: "), "{said}");
 }
 
 extern "C" {

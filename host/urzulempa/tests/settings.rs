@@ -124,7 +124,12 @@ fn what_is_refused_is_said_and_nothing_is_changed() {
         ([&good[..], &[1, 1, 0, 0, 0, 0, 0, 5, 0, 0, 0, 0, 0, 0, 0, 0]].concat(), "3 at record 1, byte 16", "byte 23 is 5 and must be 0"),
     ] {
         ground.lay("truck.set", &file);
-        for words in [&["settings", "truck.set"][..], &["settings", "truck.set", "indent", "0"], &["explain", "-", "--settings", "truck.set"], &["graph", "-", "--settings", "truck.set"]] {
+        for words in [
+            &["settings", "truck.set"][..],
+            &["settings", "truck.set", "indent", "0"],
+            &["explain", "-", "--settings", "truck.set"],
+            &["graph", "-", "--settings", "truck.set"],
+        ] {
             let (code, printed, said) = ground.ran(words, REPLAY);
             assert_eq!((code, printed.as_str()), (Some(2), ""), "{words:?}");
             assert!(said.starts_with(&format!("truck.set: refused {place}: ")) && said.contains(more), "{words:?}: {said}");
@@ -136,7 +141,12 @@ fn what_is_refused_is_said_and_nothing_is_changed() {
     for file in [Some(good.to_vec()), None] {
         let _ = fs::remove_file(ground.0.join("truck.set"));
         file.iter().for_each(|bytes| ground.lay("truck.set", bytes));
-        for (setting, content, wanted) in [("indent", "2", "indent is 0 or 1"), ("simplify", "65536", "simplify is 0 or 1"), ("edition", "0", "edition is 1 or 2"), ("edition", "18446744073709551615", "edition is 1 or 2")] {
+        for (setting, content, wanted) in [
+            ("indent", "2", "indent is 0 or 1"),
+            ("simplify", "65536", "simplify is 0 or 1"),
+            ("edition", "0", "edition is 1 or 2"),
+            ("edition", "18446744073709551615", "edition is 1 or 2"),
+        ] {
             let (code, printed, said) = ground.ran(&["settings", "truck.set", setting, content], &[]);
             assert_eq!((code, printed.as_str()), (Some(2), ""));
             assert_eq!(said, format!("refused 3: {setting} {content}: {wanted}; nothing is changed\n"));
@@ -173,7 +183,9 @@ fn settings_are_defaults_under_the_flags_of_the_line() {
     let with = ["--settings", "truck.set"];
     assert_eq!(explained(&with), told(2, 0));
     assert_eq!(graph(&with), drawn(0));
-    for (flags, wanted) in [(&["--indent"][..], told(2, 1)), (&["--no-indent"], told(2, 0)), (&["--edition", "1"], told(1, 0)), (&["--edition", "1", "--indent"], told(1, 1))] {
+    for (flags, wanted) in
+        [(&["--indent"][..], told(2, 1)), (&["--no-indent"], told(2, 0)), (&["--edition", "1"], told(1, 0)), (&["--edition", "1", "--indent"], told(1, 1))]
+    {
         // On either side of them.
         assert_eq!(explained(&[&with, flags].concat()), wanted);
         assert_eq!(explained(&[flags, &with].concat()), wanted);
@@ -265,7 +277,7 @@ fn any_file_is_shown_or_refused() {
             Ok(_) => assert_eq!((code, printed.lines().count(), said.as_str()), (Some(0), 3, "")),
             Err(refusal) => {
                 assert_eq!((code, printed.as_str()), (Some(2), ""));
-                assert!(said.starts_with(&format!("-: refused {} at ", refusal.number())) && said.lines().count() == 2, "{said}");
+                assert!(said.starts_with(&format!("standard input: refused {} at ", refusal.number())) && said.lines().count() == 2, "{said}");
             }
         }
         shown += usize::from(code == Some(0));
@@ -295,11 +307,14 @@ fn changes_at_once_all_stand_and_the_last_that_fits_is_the_last() {
             assert_eq!(file.len(), 16 * (before + fit));
             assert!(choices(&file).is_ok(), "{file:?}");
             let mut found: Vec<&[u8]> = file[16 * before..].chunks(16).collect();
-            let mut wanted: Vec<[u8; 16]> = (0..12).filter(|&k| codes[k] == Some(0)).map(|k| match words(k) {
-                ["indent", "0"] => record(1, 1, 0),
-                ["indent", _] => record(1, 1, 1),
-                _ => record(2, 3, 2),
-            }).collect();
+            let mut wanted: Vec<[u8; 16]> = (0..12)
+                .filter(|&k| codes[k] == Some(0))
+                .map(|k| match words(k) {
+                    ["indent", "0"] => record(1, 1, 0),
+                    ["indent", _] => record(1, 1, 1),
+                    _ => record(2, 3, 2),
+                })
+                .collect();
             found.sort();
             wanted.sort();
             assert_eq!(found, wanted.iter().map(|r| &r[..]).collect::<Vec<_>>());

@@ -2,8 +2,8 @@
 
 use std::thread::Builder;
 use urzulempa::{
-    check, edge_numbers, edges, explain, explain_air, explain_edition, explain_plain, graphviz, join, nodes, salvage, season, settings_read,
-    settings_set, Node, Report, MOST_EDGES, MOST_NODES, MOST_REPLACED,
+    check, edge_numbers, edges, explain, explain_air, explain_edition, explain_plain, graphviz, join, nodes, salvage, season, settings_read, settings_set,
+    Node, Report, MOST_EDGES, MOST_NODES, MOST_REPLACED,
 };
 
 const SAMPLES: [&[u8]; 5] = [

@@ -126,7 +126,9 @@ fn import_says_something_of_any_text_that_is_refused() {
 
 #[test]
 fn wrong_usage_is_64() {
-    for words in [&["export"][..], &["import"], &["export", "a", "b"], &["export", "-", "--simplify"], &["import", "-", "--room", "3"], &["export", "-", "--room", "x"]] {
+    for words in
+        [&["export"][..], &["import"], &["export", "a", "b"], &["export", "-", "--simplify"], &["import", "-", "--room", "3"], &["export", "-", "--room", "x"]]
+    {
         assert_eq!(run(words, &[]).status.code(), Some(64), "{words:?}");
     }
     assert_eq!(run(&["import", "no such file"], &[]).status.code(), Some(1));

@@ -143,6 +143,7 @@ fn a_cycle_is_named_and_a_full_graph_too() {
     let (status, _, err) = asked(&full(), &["p 7", "too old"]);
     assert_eq!(status, 2);
     assert!(err.starts_with("refused 8 at clause 1, which this exclusion would be: "), "{err}");
+    assert!(err.contains("\nbefore it the graph has 128 nodes, unresolved counted, and 126 edges\nmost of its nodes are versions of p (126)\n"), "{err}");
     assert_eq!(what_changes(&full(), 7, 0), Err(Refusal::GraphFull(1)));
 }
 

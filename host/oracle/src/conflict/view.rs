@@ -53,6 +53,11 @@ pub fn drawn(solver: &FileSolver<'_>, core: &[ClauseId]) -> Result<Drawn, Refusa
 }
 
 impl Drawn {
+    /// As `Conflict::graph` gave it.
+    pub fn graph(&self) -> &ConflictGraph {
+        &self.graph
+    }
+
     pub fn edges(&self) -> Vec<Edge> {
         edge_list(&self.graph, &self.added)
     }

@@ -97,8 +97,18 @@ pub fn skipped(rng: &mut Rng) -> Vec<u8> {
 }
 
 /// The gate requires a wish and was assigned by an AnyOf of `selected` and one of the partners, in the core at times.
-fn through(d: &mut Draft, rng: &mut Rng, [gate, selected, wish]: [u16; 3], core: usize, partners: &[u16]) {
-    let any_of = d.clause(kind::ANY_OF, rng.chance(core), [selected, *rng.pick(partners), 0]);
+fn through(
+    d: &mut Draft,
+    rng: &mut Rng,
+    [gate, selected, wish]: [u16; 3],
+    core: usize,
+    partners: &[u16],
+) {
+    let any_of = d.clause(
+        kind::ANY_OF,
+        rng.chance(core),
+        [selected, *rng.pick(partners), 0],
+    );
     d.assign(gate, any_of);
     d.requires(gate, wish);
 }

@@ -205,7 +205,10 @@ pub fn salvage(file: &[u8], room: &mut [u8], list: &mut [u16]) -> Salvaged {
 }
 
 /// The repaired file, the replaced records and how many bytes were dropped; or a refusal's number and place.
-pub fn mended(file: &[u8]) -> Result<(Vec<u8>, Vec<u16>, u64), (u64, u64)> {
+pub type Mended = Result<(Vec<u8>, Vec<u16>, u64), (u64, u64)>;
+
+/// What a repair gives.
+pub fn mended(file: &[u8]) -> Mended {
     let (mut room, mut list) = (vec![7; file.len() + 32], vec![7; 1_030]);
     let answer = salvage(file, &mut room, &mut list);
     if answer.number != 0 {
@@ -215,8 +218,14 @@ pub fn mended(file: &[u8]) -> Result<(Vec<u8>, Vec<u16>, u64), (u64, u64)> {
         return Err((number, place));
     }
     assert_eq!(answer.place, 0);
-    assert!(room.split_off(answer.bytes as usize).iter().all(|&byte| byte == 7));
-    assert!(list.split_off(answer.replaced as usize).iter().all(|&n| n == 7));
+    assert!(room
+        .split_off(answer.bytes as usize)
+        .iter()
+        .all(|&byte| byte == 7));
+    assert!(list
+        .split_off(answer.replaced as usize)
+        .iter()
+        .all(|&n| n == 7));
     Ok((room, list, answer.dropped))
 }
 

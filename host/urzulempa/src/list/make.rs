@@ -50,7 +50,11 @@ fn lines(list: &[u8]) -> Result<Vec<Line>, Vec<Fault>> {
             Err(why) => faults.push(fault(number, why)),
         }
     }
-    if faults.is_empty() { Ok(lines) } else { Err(faults) }
+    if faults.is_empty() {
+        Ok(lines)
+    } else {
+        Err(faults)
+    }
 }
 
 /// A line without a record is none.
@@ -81,7 +85,11 @@ fn line(number: usize, said: &str) -> Result<Option<Line>, String> {
     };
     let fields: Vec<Vec<Word>> = if rest.is_empty() { vec![] } else { rest.split(|w| *w == Word::Comma).map(<[Word]>::to_vec).collect() };
     let line = Line { number, label, kind, core, fields };
-    if line.fields.len() == form_fields(kind) { Ok(Some(line)) } else { Err(line.misshapen()) }
+    if line.fields.len() == form_fields(kind) {
+        Ok(Some(line))
+    } else {
+        Err(line.misshapen())
+    }
 }
 
 /// How many fields a line of a kind has.
@@ -139,7 +147,14 @@ struct Maker<'a> {
 
 impl<'a> Maker<'a> {
     fn of(lines: &'a [Line]) -> Result<Self, Vec<Fault>> {
-        let mut maker = Maker { lines, labels: HashMap::new(), owners: Default::default(), own: vec![0; lines.len()], named: Named::default(), rows: vec![[0; 32]; lines.len()] };
+        let mut maker = Maker {
+            lines,
+            labels: HashMap::new(),
+            owners: Default::default(),
+            own: vec![0; lines.len()],
+            named: Named::default(),
+            rows: vec![[0; 32]; lines.len()],
+        };
         let mut faults = Vec::new();
         for (at, line) in lines.iter().enumerate() {
             if let Some(table) = Table::of_kind(line.kind) {
@@ -154,7 +169,11 @@ impl<'a> Maker<'a> {
                 }
             }
         }
-        if faults.is_empty() { Ok(maker) } else { Err(faults) }
+        if faults.is_empty() {
+            Ok(maker)
+        } else {
+            Err(faults)
+        }
     }
 
     /// The rows, in the order of the lines. What is named is made before what names it, so that one fault does not make others.
@@ -224,7 +243,11 @@ impl<'a> Maker<'a> {
         if let [Word::Label(label)] = said {
             let at = *self.labels.get(label.as_str()).ok_or_else(|| format!("no line has the label @{label}:"))?;
             let owner = &self.lines[at];
-            return if Table::of_kind(owner.kind) == Some(table) { Ok(self.own[at]) } else { Err(format!("@{label} is line {}, which makes no {what}", owner.number)) };
+            return if Table::of_kind(owner.kind) == Some(table) {
+                Ok(self.own[at])
+            } else {
+                Err(format!("@{label} is line {}, which makes no {what}", owner.number))
+            };
         }
         let key = key(table, said).ok_or_else(|| line.misshapen())?;
         match self.named.all(table, &key) {
@@ -233,7 +256,10 @@ impl<'a> Maker<'a> {
             [] => Err(format!("no line makes the {what} `{key}`")),
             several => {
                 let made: Vec<String> = several.iter().map(|&n| self.lines[self.owners[table.place()][n]].number.to_string()).collect();
-                Err(format!("lines {} make a {what} `{key}`: put a label in front of the one that is meant, @LABEL: .., and write @LABEL here", made.join(", ")))
+                Err(format!(
+                    "lines {} make a {what} `{key}`: put a label in front of the one that is meant, @LABEL: .., and write @LABEL here",
+                    made.join(", ")
+                ))
             }
         }
     }

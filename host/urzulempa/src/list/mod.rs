@@ -46,6 +46,8 @@ pub struct Fault {
     pub refusal: Option<Refusal>,
 }
 
+impl std::error::Error for Fault {}
+
 impl fmt::Display for Fault {
     fn fmt(&self, f: &mut fmt::Formatter<'_>) -> fmt::Result {
         match self.line {

@@ -94,7 +94,11 @@ pub fn labelled(line: &str) -> Result<(Option<String>, &str), String> {
 
 fn label_of(label: &str) -> Result<String, String> {
     let fits = !label.is_empty() && label.chars().all(|c| c.is_ascii_alphanumeric() || "-_.".contains(c));
-    if fits { Ok(label.to_owned()) } else { Err(format!("@{label} is no label: letters, digits, -, _ and . make one; a text that begins with @ stands in quotes")) }
+    if fits {
+        Ok(label.to_owned())
+    } else {
+        Err(format!("@{label} is no label: letters, digits, -, _ and . make one; a text that begins with @ stands in quotes"))
+    }
 }
 
 /// A text as a line shows it: in quotes where a bare word would be read as something else.

@@ -6,168 +6,184 @@ mod saved;
 mod table;
 mod work;
 
-use crate::{keep, print, say, usage, DEFAULT_ROOM};
+use crate::json::Json;
+use crate::say::{about, print, say, DONE, REFUSED, TROUBLE};
+use crate::words::Given;
+use crate::{calls, keep, refused};
 use names::Names;
 use progress::Progress;
+use std::ffi::OsStr;
 use std::fs;
 use std::num::NonZeroUsize;
-use std::path::Path;
-use std::process::ExitCode;
+use std::os::unix::ffi::OsStrExt;
+use std::path::{Path, PathBuf};
 use std::thread::available_parallelism;
-use urzulempa::{Edition, Refusal, Report};
+use urzulempa::{Deepest, Edition, Refusal, Report};
 use work::Season;
 
 /// A season of files that can't be read has many: no more than these are told.
 const MOST_TOLD: usize = 20;
 
-/// One of the two commands, with the words behind it; none where it is another.
-pub fn run(words: &[String]) -> Option<Result<ExitCode, String>> {
-    let (command, rest) = words.split_first()?;
-    match command.as_str() {
-        "season" => Some(season_words(rest)),
-        "join" => Some(join_words(rest)),
-        _ => None,
-    }
-}
-
-fn season_words(words: &[String]) -> Result<ExitCode, String> {
-    let (mut paths, mut jobs, mut save) = (Vec::new(), None, None);
-    let (mut edition, mut room) = (Edition::One, DEFAULT_ROOM);
-    let mut rest = words.iter();
-    while let Some(word) = rest.next() {
-        match word.as_str() {
-            "--jobs" => match rest.next().and_then(|n| n.parse::<NonZeroUsize>().ok()) {
-                Some(n) => jobs = Some(n.get()),
-                None => return Ok(usage("--jobs wants a number from 1")),
-            },
-            "--save" => match rest.next() {
-                Some(name) if name != "-" && save.is_none() => save = Some(name.as_str()),
-                _ => return Ok(usage("--save wants the name of one file")),
-            },
-            "--edition" => match rest.next().and_then(|n| n.parse().ok()).and_then(Edition::of) {
-                Some(e) => edition = e,
-                None => return Ok(usage("--edition wants 1 or 2")),
-            },
-            "--room" => match rest.next().and_then(|n| n.parse().ok()) {
-                Some(n) => room = n,
-                None => return Ok(usage("--room wants a number of bytes")),
-            },
-            "-" if paths.contains(&"-") => return Ok(usage("- can be read once")),
-            w if w != "-" && w.starts_with('-') => return Ok(usage(&format!("{w} is no option of season"))),
-            w => paths.push(w),
-        }
-    }
-    if paths.is_empty() {
-        return Ok(usage("season wants a PATH at least"));
-    }
-    let jobs = jobs.unwrap_or_else(|| available_parallelism().map_or(1, NonZeroUsize::get));
-    season(&Season { names: Names::of(&paths), edition, room }, jobs, save)
-}
-
 /// Prints the report of the files, and saves it where that is asked for. Files that can't be read are told, and are no files of the season.
-fn season(season: &Season, jobs: usize, save: Option<&str>) -> Result<ExitCode, String> {
+pub fn season(given: &Given) -> Result<u8, String> {
+    let jobs = given.number("--jobs").map_or_else(|| available_parallelism().map_or(1, NonZeroUsize::get), NonZeroUsize::get);
+    let edition = given.number("--edition").and_then(Edition::of).unwrap_or_default();
+    // The texts are not printed: a terminal makes no difference.
+    let room = given.number("--room").unwrap_or(calls::OTHER_ROOM);
+    let season = Season { names: Names::of(given.names(0)), edition, room };
     let names = &season.names;
-    let place = save.map(reachable).transpose()?;
-    if let Some((name, place)) = save.zip(place.as_ref()).filter(|(name, _)| fs::metadata(name).is_ok()) {
-        if names.paths().any(|path| fs::metadata(path).is_ok_and(|found| place.is(&found))) {
-            return Err(format!("{name} is a file of the season, which would be gone: save the report under another name"));
-        }
+    let save = Save::of(given)?;
+    if let Some(save) = save.iter().find(|save| save.replaces_one(names)) {
+        return Err(format!("{} is a file of the season, which would be gone: save the report under another name", save.shown()));
     }
     let mut progress = Progress::of(names.len());
-    let whole = work::over(season, jobs, |done| progress.show(done));
+    let whole = work::over(&season, jobs, |done| progress.show(done));
     progress.clear();
     let whole = match whole? {
         Ok(whole) => whole,
-        Err(refusal) => return Ok(refused("the season", refusal)),
+        Err(refusal) => return count_refused(given, None, "the season", refusal),
     };
-    whole.troubles.iter().take(MOST_TOLD).for_each(|(at, why)| say(&format!("{}: {why}", names.shown(*at))));
+    whole.troubles.iter().take(MOST_TOLD).for_each(|(at, why)| about(&names.shown(*at), || say(why)));
     let unread = whole.unread.len();
     if unread > MOST_TOLD {
         say(&format!("and {} more could not be read", unread - MOST_TOLD));
     }
-    let first = |file: u64| names.shown(whole.place(file));
-    let mut said = table::rows(&whole.report, |file| format!("{}, file {}", first(file), table::grouped(file)));
-    said.push(table::longest(whole.longest.map(|(lines, at)| (lines, names.shown(at)))));
-    if unread > 0 {
-        said.push(table::unread(unread as u64));
-    }
-    finish(&table::lines(&said), &whole.report, save.zip(place))?;
-    Ok(ExitCode::from(u8::from(unread > 0)))
-}
-
-/// Where a report is to be put. That its folder is missing is told before a long season, and not behind it.
-fn reachable(name: &str) -> Result<keep::Place, String> {
-    let place = keep::Place::of(name)?;
-    let folder = Path::new(name).parent().filter(|folder| *folder != Path::new(""));
-    match folder {
-        Some(folder) if !folder.is_dir() => Err(format!("{name}: {} is no folder", folder.display())),
-        _ => Ok(place),
-    }
-}
-
-fn join_words(words: &[String]) -> Result<ExitCode, String> {
-    let (mut names, mut save) = (Vec::new(), None);
-    let mut rest = words.iter();
-    while let Some(word) = rest.next() {
-        match word.as_str() {
-            "--save" => match rest.next() {
-                Some(name) if name != "-" && save.is_none() => save = Some(name.as_str()),
-                _ => return Ok(usage("--save wants the name of one file")),
-            },
-            "-" if names.contains(&"-") => return Ok(usage("- can be read once")),
-            w if w != "-" && w.starts_with('-') => return Ok(usage(&format!("{w} is no option of join"))),
-            w => names.push(w),
+    if given.has("--json") {
+        let deepest = whole.report.deepest.map(|Deepest { depth, file }| {
+            let name = names.told(whole.place(file));
+            Json::Object(vec![("depth", depth.into()), ("number", file.into()), ("file", name.into())])
+        });
+        let longest = whole.longest.map(|(lines, at)| Json::Object(vec![("lines", lines.into()), ("file", names.told(at).into())]));
+        let told = vec![("deepest", deepest.into()), ("longest", longest.into()), ("unread", unread.into())];
+        finish_json(&whole.report, told, save)?;
+    } else {
+        let first = |file: u64| names.shown(whole.place(file));
+        let mut said = table::rows(&whole.report, |file| format!("{}, file {}", first(file), table::grouped(file)));
+        said.push(table::longest(whole.longest.map(|(lines, at)| (lines, names.shown(at)))));
+        if unread > 0 {
+            said.push(table::unread(unread as u64));
         }
+        finish(&table::lines(&said), &whole.report, save)?;
     }
-    if names.is_empty() {
-        return Ok(usage("join wants a saved report at least"));
-    }
-    join(&names, save)
+    Ok(if unread > 0 { TROUBLE } else { DONE })
 }
 
 /// Prints the report of saved reports, one season behind the other, and saves it where that is asked for.
-fn join(names: &[&str], save: Option<&str>) -> Result<ExitCode, String> {
-    let place = save.map(keep::Place::of).transpose()?;
+pub fn join(given: &Given) -> Result<u8, String> {
+    let names = given.names(0);
+    let save = Save::of(given)?;
     let mut whole = Report::default();
     // The number of the first file of each.
     let mut begins = Vec::new();
     for name in names {
-        let (text, source) = keep::read(name)?;
-        if let (Some(out), true) = (save, place.as_ref().is_some_and(|place| place.is(&source))) {
-            return Err(format!("{out} is {name} itself, which would be gone: save the report under another name"));
+        let (text, source) = keep::read(name, saved::MOST_BYTES)?;
+        if let Some(save) = save.as_ref().filter(|save| save.place.is(&source)) {
+            return Err(format!("{} is {} itself, which would be gone: save the report under another name", save.shown(), keep::shown(name)));
         }
         let report = match saved::read(&text) {
             Ok(report) => report,
-            Err(fault) => {
-                say(&format!("{name}: {fault}"));
-                say("a report is what `urzulempa season --save FILE` writes: save it again");
-                return Ok(ExitCode::from(2));
-            }
+            Err(fault) => return damaged(given, name, &fault),
         };
         begins.push(whole.files().unwrap_or(u64::MAX));
         if let Some(refusal) = urzulempa::join(&mut whole, &report).refusal() {
-            return Ok(refused(name, refusal));
+            return count_refused(given, Some(name), &names::shown(name.as_bytes()), refusal);
         }
     }
-    let first = |file: u64| {
+    // In which of the reports a file is, and its number there.
+    let own = |file: u64| {
         let at = begins.partition_point(|&begin| begin <= file).saturating_sub(1);
-        let (own, all) = (table::grouped(file - begins[at]), table::grouped(file));
-        format!("{}, file {own}, of all file {all}", names[at])
+        (&names[at], file - begins[at])
     };
-    finish(&table::lines(&table::rows(&whole, first)), &whole, save.zip(place))?;
-    Ok(ExitCode::SUCCESS)
+    if given.has("--json") {
+        let deepest = whole.deepest.map(|Deepest { depth, file }| {
+            let (name, own) = own(file);
+            Json::Object(vec![("depth", depth.into()), ("number", file.into()), ("report", keep::shown(name).into()), ("own", own.into())])
+        });
+        finish_json(&whole, vec![("deepest", deepest.into())], save)?;
+    } else {
+        let first = |file: u64| {
+            let (name, own) = own(file);
+            format!("{}, file {}, of all file {}", names::shown(name.as_bytes()), table::grouped(own), table::grouped(file))
+        };
+        finish(&table::lines(&table::rows(&whole, first)), &whole, save)?;
+    }
+    Ok(DONE)
+}
+
+/// Where a report is to be saved.
+struct Save<'g> {
+    name: &'g OsStr,
+    place: keep::Place,
+}
+
+impl<'g> Save<'g> {
+    /// None where that is not asked for. That a folder is missing is told before a long season, and not behind it.
+    fn of(given: &'g Given) -> Result<Option<Self>, String> {
+        let Some(name) = given.value("--save") else { return Ok(None) };
+        let place = keep::Place::of(name)?;
+        let folder = Path::new(name).parent().filter(|folder| *folder != Path::new(""));
+        match folder {
+            Some(folder) if !folder.is_dir() => Err(format!("{}: {} is no folder", name.to_string_lossy(), folder.display())),
+            _ => Ok(Some(Save { name, place })),
+        }
+    }
+
+    fn shown(&self) -> String {
+        self.name.to_string_lossy().into_owned()
+    }
+
+    /// Whether a file of the season would be gone.
+    fn replaces_one(&self, names: &Names) -> bool {
+        let is = |path: PathBuf| fs::metadata(path).is_ok_and(|found| self.place.is(&found));
+        fs::metadata(self.name).is_ok() && names.paths().any(is)
+    }
+
+    fn put(&self, report: &Report) -> Result<(), String> {
+        self.place.put(saved::text(report).as_bytes())
+    }
 }
 
 /// Prints a table and puts the report in its place.
-fn finish(table: &str, report: &Report, save: Option<(&str, keep::Place)>) -> Result<(), String> {
+fn finish(table: &str, report: &Report, save: Option<Save>) -> Result<(), String> {
     print(table.as_bytes())?;
-    match save {
-        Some((name, place)) => place.put(saved::text(report).as_bytes()).and_then(|()| print(format!("{name} is written\n").as_bytes())),
-        None => Ok(()),
-    }
+    save.map_or(Ok(()), |save| save.put(report).and_then(|()| print(format!("{} is written\n", save.shown()).as_bytes())))
 }
 
-fn refused(name: &str, refusal: Refusal) -> ExitCode {
-    say(&format!("{name}: refused {}: {refusal}", refusal.number()));
-    ExitCode::from(2)
+/// Puts the report in its place and prints it for a program, whether it could be saved or not.
+fn finish_json(report: &Report, told: Vec<(&'static str, Json)>, save: Option<Save>) -> Result<(), String> {
+    let put = save.as_ref().map_or(Ok(()), |save| save.put(report));
+    let saved = save.filter(|_| put.is_ok()).map(|save| save.shown());
+    let report = Json::Object([table::json(report), told].into_iter().flatten().collect());
+    print(&object(None, vec![("report", report), ("saved", saved.into())], None).line())?;
+    put
+}
+
+/// An answer for a program, as those of other commands are: the file is the one that the refusal is about.
+fn object(file: Option<&OsStr>, told: Vec<(&'static str, Json)>, refusal: Option<Json>) -> Json {
+    let head = vec![("file", file.map(keep::shown).into()), ("done", refusal.is_none().into())];
+    Json::Object([head, told, vec![("refusal", refusal.into())]].into_iter().flatten().collect())
+}
+
+/// A count would pass 64 bits.
+fn count_refused(given: &Given, file: Option<&OsStr>, name: &str, refusal: Refusal) -> Result<u8, String> {
+    if given.has("--json") {
+        print(&object(file, Vec::new(), Some(refused::json(&[], refusal, &[]))).line())?;
+    } else {
+        about(name, || say(&format!("refused {}: {refusal}", refusal.number())));
+    }
+    Ok(REFUSED)
+}
+
+/// A saved report that is none, with its first bad line.
+fn damaged(given: &Given, name: &OsStr, fault: &saved::Fault) -> Result<u8, String> {
+    let hint = "a report is what `urzulempa season --save FILE` writes: save it again";
+    if given.has("--json") {
+        print(&object(Some(name), Vec::new(), Some(fault.json(hint))).line())?;
+    } else {
+        about(&names::shown(name.as_bytes()), || {
+            say(&fault.to_string());
+            say(hint);
+        });
+    }
+    Ok(REFUSED)
 }

@@ -1,5 +1,6 @@
 //! The files of a season in their order: those of the line, and for a folder all that lie in it, by name.
 
+use crate::keep;
 use std::ffi::{OsStr, OsString};
 use std::fs;
 use std::io;
@@ -36,10 +37,10 @@ pub struct Names {
 }
 
 impl Names {
-    pub fn of(paths: &[&str]) -> Names {
+    pub fn of(paths: &[OsString]) -> Names {
         let mut names = Names::default();
         for path in paths {
-            if *path != "-" && Path::new(path).is_dir() {
+            if path != "-" && Path::new(path).is_dir() {
                 names.folder(path.as_bytes());
             } else {
                 names.push(b"", path.as_bytes());
@@ -70,12 +71,14 @@ impl Names {
         (0..self.len()).filter_map(|at| self.get(at).ok())
     }
 
-    /// A name as it is printed: on one line.
+    /// A name as a person sees it.
     pub fn shown(&self, at: usize) -> String {
-        match &self.bytes(at)[..] {
-            b"-" => "standard input".into(),
-            name => String::from_utf8_lossy(name).chars().map(|c| if c.is_control() { '?' } else { c }).collect(),
-        }
+        shown(&self.bytes(at))
+    }
+
+    /// A name as a program gets it.
+    pub fn told(&self, at: usize) -> String {
+        keep::shown(OsStr::from_bytes(&self.bytes(at)))
     }
 
     fn push(&mut self, folder: &[u8], name: &[u8]) {
@@ -110,6 +113,11 @@ impl Names {
             }
         }
     }
+}
+
+/// A name as it is printed: on one line.
+pub fn shown(name: &[u8]) -> String {
+    keep::shown(OsStr::from_bytes(name)).chars().map(|c| if c.is_control() { '?' } else { c }).collect()
 }
 
 #[derive(Clone, Copy)]

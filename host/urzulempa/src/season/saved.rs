@@ -1,9 +1,16 @@
 //! A saved report: a line that says what it is, then the 27 numbers of a report, each on a line behind its name.
 
+use crate::json::Json;
 use std::fmt;
 use urzulempa::{Report, REPORT_NUMBERS};
 
 const TITLE: &str = "urzulempa season 1";
+
+/// The most bytes of the line of a number: the longest name, a space and 20 digits.
+const MOST_LINE: usize = "first-file".len() + 1 + 20;
+
+/// The most bytes of a saved report.
+pub const MOST_BYTES: usize = TITLE.len() + 1 + REPORT_NUMBERS * (MOST_LINE + 1);
 
 /// The name of each number.
 fn name(at: usize) -> String {
@@ -27,6 +34,21 @@ pub struct Fault {
     why: String,
 }
 
+impl Fault {
+    /// For a program, with what to do.
+    pub fn json(&self, hint: &str) -> Json {
+        Json::Object(vec![
+            ("number", Json::Null),
+            ("at", "line".into()),
+            ("place", self.line.into()),
+            ("record", Json::Null),
+            ("byte", Json::Null),
+            ("message", self.why.as_str().into()),
+            ("more", vec![hint].into()),
+        ])
+    }
+}
+
 impl fmt::Display for Fault {
     fn fmt(&self, f: &mut fmt::Formatter<'_>) -> fmt::Result {
         write!(f, "refused at line {}: {}", self.line, self.why)
@@ -38,7 +60,7 @@ fn line_of(at: usize) -> usize {
     at + 2
 }
 
-/// Takes exactly what [`text`] writes of a season's report.
+/// Takes exactly what [`text`] writes of a season's report. Of one that is longer than any can be a byte more is enough.
 pub fn read(text: &[u8]) -> Result<Report, Fault> {
     let lines: Vec<&[u8]> = text.split(|&byte| byte == b'\n').collect();
     // What lies behind the last newline is no whole line.
@@ -46,13 +68,21 @@ pub fn read(text: &[u8]) -> Result<Report, Fault> {
     let title = lines[0];
     if title != TITLE.as_bytes() && !(whole == 0 && TITLE.as_bytes().starts_with(title)) {
         let other = title.starts_with(b"urzulempa season ");
-        let why = if other { "it is a report of another version than 1: a newer release wrote it, or it is damaged".into() } else { format!("it is not `{TITLE}`: this is no saved report") };
+        let why = if other {
+            "it is a report of another version than 1: a newer release wrote it, or it is damaged".into()
+        } else {
+            format!("it is not `{TITLE}`: this is no saved report")
+        };
         return Err(Fault { line: 1, why });
     }
     if whole < line_of(REPORT_NUMBERS) - 1 {
         // What is there may be bad before it is cut.
         for at in 0..whole.saturating_sub(1) {
             number_of(lines[at + 1], at)?;
+        }
+        // Of a line that is longer than any can be there may be more than was read.
+        if whole > 0 && lines[whole].len() > MOST_LINE {
+            number_of(lines[whole], whole - 1)?;
         }
         let why = if lines[whole].is_empty() { "it is missing: the report was cut" } else { "it has no newline at its end: the report was cut" };
         return Err(Fault { line: whole + 1, why: why.into() });
@@ -140,6 +170,14 @@ mod tests {
             }
         }
         assert_eq!(read((whole.clone() + "\n").as_bytes()).map_err(|fault| fault.line), Err(29));
-        assert_eq!(read((whole + "x").as_bytes()).map_err(|fault| fault.line), Err(29));
+        assert_eq!(read((whole.clone() + "x").as_bytes()).map_err(|fault| fault.line), Err(29));
+        assert!(whole.len() <= MOST_BYTES);
+        // What is too long is no cut.
+        for at in 0..REPORT_NUMBERS {
+            let digits = format!("{} {}", name(at), "1".repeat(MOST_BYTES));
+            let long: String = whole.lines().enumerate().map(|(n, line)| if n == at + 1 { digits.clone() + "\n" } else { format!("{line}\n") }).collect();
+            let fault = read(&long.as_bytes()[..MOST_BYTES + 1]).expect_err("too long");
+            assert!(fault.line == at + 2 && fault.why.contains("ends in no number"), "{fault}");
+        }
     }
 }

@@ -1,5 +1,6 @@
 //! A report as a person reads it.
 
+use crate::json::Json;
 use urzulempa::{Deepest, Report};
 
 /// What a refusal means, wherever its place is.
@@ -31,7 +32,11 @@ pub type Row = (String, Option<u64>, String);
 pub fn rows(report: &Report, first: impl Fn(u64) -> String) -> Vec<Row> {
     let refused = report.refused.iter().map(|&n| u128::from(n)).sum::<u128>();
     let row = |name: &str, count: u64, said: &str| (name.to_owned(), Some(count), said.to_owned());
-    let mut rows = vec![row("files", report.files().unwrap_or(u64::MAX), ""), row("done", report.done, ""), row("refused", u64::try_from(refused).unwrap_or(u64::MAX), "")];
+    let mut rows = vec![
+        row("files", report.files().unwrap_or(u64::MAX), ""),
+        row("done", report.done, ""),
+        row("refused", u64::try_from(refused).unwrap_or(u64::MAX), ""),
+    ];
     for (at, &count) in report.refused.iter().enumerate().filter(|(_, count)| **count > 0) {
         rows.push(row(&format!("  {:>2}", at + 1), count, REFUSALS[at]));
     }
@@ -47,6 +52,23 @@ pub fn rows(report: &Report, first: impl Fn(u64) -> String) -> Vec<Row> {
         None => ("deepest".into(), None, "no file has a text".into()),
     });
     rows
+}
+
+/// The counts of a report for a program; of the refusals those that a file got.
+pub fn json(report: &Report) -> Vec<(&'static str, Json)> {
+    let refused = (1u64..).zip(&report.refused).zip(REFUSALS).filter(|((_, count), _)| **count > 0);
+    let refused =
+        refused.map(|((number, &files), message)| Json::Object(vec![("number", number.into()), ("files", files.into()), ("message", message.into())]));
+    vec![
+        ("files", report.files().into()),
+        ("done", report.done.into()),
+        ("refused", Json::List(refused.collect())),
+        ("nodes", report.nodes.into()),
+        ("edges", report.edges.into()),
+        ("groups", report.groups.into()),
+        ("missing", report.missing.into()),
+        ("lines", report.lines.into()),
+    ]
 }
 
 /// The most lines of a file, and its name.

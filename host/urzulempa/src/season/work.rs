@@ -112,13 +112,7 @@ impl Job<'_> {
         loop {
             let answer = season(&mut stretch.report, &self.bytes, self.season.edition.number(), PLAIN_OPTION, &mut self.room);
             match answer.refusal() {
-                Some(Refusal::Room(_)) if self.room.len() < self.season.room => {
-                    stretch.report = before;
-                    let size = self.season.room.min(4 * self.room.len());
-                    // The old one goes before the new one comes.
-                    self.room = Vec::new();
-                    self.room = vec![0; size];
-                }
+                Some(Refusal::Room(_)) if self.room.len() < self.season.room && self.grow() => stretch.report = before,
                 Some(refusal @ Refusal::Count) => return Err(refusal),
                 _ => {
                     if answer.units > stretch.longest.map_or(0, |(lines, _)| lines) {
@@ -128,6 +122,16 @@ impl Job<'_> {
                 }
             }
         }
+    }
+
+    /// Four times the room, up to the most bytes; it stays as it is where there is no memory for that.
+    fn grow(&mut self) -> bool {
+        let size = self.season.room.min(self.room.len().saturating_mul(4));
+        let given = self.room.try_reserve_exact(size - self.room.len()).is_ok();
+        if given {
+            self.room.resize(size, 0);
+        }
+        given
     }
 }
 

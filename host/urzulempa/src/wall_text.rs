@@ -1,5 +1,6 @@
 //! A text of the wall display, checked: how much is in it, or what is wrong with its first bad line.
 
+use crate::json::Json;
 use urzulempa::wall::{BadLine, Chart, MOST_LABEL};
 use urzulempa::{MOST_EDGES, MOST_NODES};
 
@@ -7,6 +8,21 @@ use urzulempa::{MOST_EDGES, MOST_NODES};
 pub fn told(chart: &Chart<'_>) -> String {
     let counted = |n: usize, what: &str| format!("{n} {what}{}", if n == 1 { "" } else { "s" });
     format!("{}, {}\n", counted(chart.nodes.len(), "node"), counted(chart.edges.len(), "edge"))
+}
+
+/// The same for a program, or the first bad line.
+pub fn json(name: &str, text: &[u8], read: &Result<Chart<'_>, BadLine>) -> Json {
+    let refusal = |bad: &BadLine| {
+        let fields = [("number", 3u64.into()), ("at", "line".into()), ("place", bad.0.into()), ("message", fault(text, *bad).into())];
+        Json::Object(fields.into())
+    };
+    Json::Object(vec![
+        ("file", name.into()),
+        ("done", read.is_ok().into()),
+        ("nodes", read.as_ref().ok().map(|chart| chart.nodes.len()).into()),
+        ("edges", read.as_ref().ok().map(|chart| chart.edges.len()).into()),
+        ("refusal", read.as_ref().err().map(refusal).into()),
+    ])
 }
 
 /// What is wrong with the first bad line of a text; those before it are as they should be.
