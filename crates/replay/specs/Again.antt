@@ -14,6 +14,7 @@ use Rattle.replay.specs.Head.{callIn, optionIn, firstIn, secondIn, roomI
 use Rattle.replay.specs.Seen.{Told, told-one, Aired, aired-one, noCall, blank, blankNumbers, checkedIn, drawnIn, listedIn, edgedIn, mendedIn, replacedIn}
 use Rattle.replay.specs.Later.{FromTen, from-ten-one}
 use Rattle.replay.specs.Latest.{FromThirteen, from-thirteen-one}
+use Rattle.replay.specs.Seasons.{FromEighteen, from-eighteen-one}
 
 -- a list of at most 128 entries
 pub record Listing (file : List ℕ) (n : ℕ) (r : Seen) : Type 0 where
@@ -30,7 +31,7 @@ mendsIn file n = cond (leb n 8192) (replacedIn file (blank 65536) (blankNumbers 
 
 -- the call with that number, on a room of n bytes, a list of n entries or one of n numbers: check, explain, explain plainly, draw, list
 -- the nodes, list the edges, explain by edition 2, explain in the air profile, repair into a room, repair and list what was replaced;
--- the calls from 10 on are told in Later, those from 13 on in Latest
+-- the calls from 10 on are told in Later, those from 13 on in Latest, those from 18 on in Seasons
 unfoldable pub ToNine : List ℕ → ℕ → ℕ → ℕ → Seen → Type 0
 ToNine file zero opt n r = r ≡ checkedIn file
 ToNine file (suc zero) opt n r = Told 1 file opt (blank n) r
@@ -48,7 +49,8 @@ ToNine file (suc (suc (suc (suc (suc (suc (suc (suc (suc (suc k)))))))))) opt n 
 pub record Replayed (file : List ℕ) (call opt s t n : ℕ) (r : Seen) : Type 0 where
   pub low : call < 10 → ToNine file call opt n r
   pub middle : 10 ≤ call → call < 13 → FromTen file (call - 10) opt s t n r
-  pub high : 13 ≤ call → FromThirteen file (call - 13) opt s t n r
+  pub high : 13 ≤ call → call < 18 → FromThirteen file (call - 13) opt s t n r
+  pub top : 18 ≤ call → FromEighteen file (call - 18) opt s t n r
 
 -- a and b are one and the same, or not
 pub record Same (a b : Seen) (r : Bool) : Type 0 where
@@ -90,12 +92,13 @@ to-nine-one file (suc (suc (suc (suc (suc (suc (suc (suc (suc zero))))))))) opt 
 to-nine-one file (suc (suc (suc (suc (suc (suc (suc (suc (suc (suc k)))))))))) opt n r q R Q = R ∙ sym Q
 
 pub replayed-one : (file : List ℕ) (call opt s t n : ℕ) (r q : Seen) → Replayed file call opt s t n r → Replayed file call opt s t n q → r ≡ q
-replayed-one file call opt s t n r q R Q = go (decLe 10 call) (decLe 13 call)
+replayed-one file call opt s t n r q R Q = go (decLe 10 call) (decLe 13 call) (decLe 18 call)
   where
-    go : Dec (10 ≤ call) → Dec (13 ≤ call) → r ≡ q
-    go _ (yes l) = from-thirteen-one file (call - 13) opt s t n r q (R .high l) (Q .high l)
-    go (yes l) (no m) = let k : call < 13 = omega (arith, m) in from-ten-one file (call - 10) opt s t n r q (R .middle l k) (Q .middle l k)
-    go (no l) (no m) = let k : call < 10 = omega (arith, l) in to-nine-one file call opt n r q (R .low k) (Q .low k)
+    go : Dec (10 ≤ call) → Dec (13 ≤ call) → Dec (18 ≤ call) → r ≡ q
+    go _ _ (yes l) = from-eighteen-one file (call - 18) opt s t n r q (R .top l) (Q .top l)
+    go _ (yes l) (no m) = let k : call < 18 = omega (arith, m) in from-thirteen-one file (call - 13) opt s t n r q (R .high l k) (Q .high l k)
+    go (yes l) (no m) (no _) = let k : call < 13 = omega (arith, m) in from-ten-one file (call - 10) opt s t n r q (R .middle l k) (Q .middle l k)
+    go (no l) (no m) (no _) = let k : call < 10 = omega (arith, l) in to-nine-one file call opt n r q (R .low k) (Q .low k)
 
 true-both : (a b : Bool) → (a ≡ true → b ≡ true) → (b ≡ true → a ≡ true) → a ≡ b
 true-both true true f g = refl
@@ -200,15 +203,39 @@ at-none file (suc (suc (suc (suc (suc (suc (suc (suc (suc (suc m)))))))))) opt n
 
 pub at-low : (file : List ℕ) (call opt s t n : ℕ) (r : Seen) → call < 10 → ToNine file call opt n r → Replayed file call opt s t n r
 at-low file call opt s t n r l e =
-    record { low = λ _. e; middle = λ k _. let f : ⊥ = omega arith in absurd f; high = λ k. let f : ⊥ = omega arith in absurd f }
+    record {
+      low = λ _. e;
+      middle = λ k _. let f : ⊥ = omega arith in absurd f;
+      high = λ k _. let f : ⊥ = omega arith in absurd f;
+      top = λ k. let f : ⊥ = omega arith in absurd f;
+    }
 
 pub at-middle : (file : List ℕ) (call opt s t n : ℕ) (r : Seen) → 10 ≤ call → call < 13 → FromTen file (call - 10) opt s t n r → Replayed file call opt s t n r
 at-middle file call opt s t n r l m e =
-    record { low = λ k. let f : ⊥ = omega arith in absurd f; middle = λ _ _. e; high = λ k. let f : ⊥ = omega arith in absurd f }
+    record {
+      low = λ k. let f : ⊥ = omega arith in absurd f;
+      middle = λ _ _. e;
+      high = λ k _. let f : ⊥ = omega arith in absurd f;
+      top = λ k. let f : ⊥ = omega arith in absurd f;
+    }
 
-pub at-high : (file : List ℕ) (call opt s t n : ℕ) (r : Seen) → 13 ≤ call → FromThirteen file (call - 13) opt s t n r → Replayed file call opt s t n r
-at-high file call opt s t n r l e =
-    record { low = λ k. let f : ⊥ = omega arith in absurd f; middle = λ _ k. let f : ⊥ = omega arith in absurd f; high = λ _. e }
+pub at-high : (file : List ℕ) (call opt s t n : ℕ) (r : Seen) → 13 ≤ call → call < 18 → FromThirteen file (call - 13) opt s t n r → Replayed file call opt s t n r
+at-high file call opt s t n r l m e =
+    record {
+      low = λ k. let f : ⊥ = omega arith in absurd f;
+      middle = λ _ k. let f : ⊥ = omega arith in absurd f;
+      high = λ _ _. e;
+      top = λ k. let f : ⊥ = omega arith in absurd f;
+    }
+
+pub at-top : (file : List ℕ) (call opt s t n : ℕ) (r : Seen) → 18 ≤ call → FromEighteen file (call - 18) opt s t n r → Replayed file call opt s t n r
+at-top file call opt s t n r l e =
+    record {
+      low = λ k. let f : ⊥ = omega arith in absurd f;
+      middle = λ _ k. let f : ⊥ = omega arith in absurd f;
+      high = λ _ k. let f : ⊥ = omega arith in absurd f;
+      top = λ _. e;
+    }
 
 fields-same : (n p y u d s n′ p′ y′ u′ d′ s′ : ℕ) → n ≡ n′ → p ≡ p′ → y ≡ y′ → u ≡ u′ → d ≡ d′ → s ≡ s′
     → _≡_ {A = Seen} (record { number = n; place = p; bytes = y; units = u; depth = d; sum = s }) (record { number = n′; place = p′; bytes = y′; units = u′; depth = d′; sum = s′ })

@@ -1,4 +1,4 @@
--- The recorded calls from number 13 on, made again.
+-- The recorded calls 13 to 17, made again.
 use mathlib.Core.Path.{_≡_, refl, sym, _∙_}
 use mathlib.Core.List.{List}
 use Prim.Native.Nat.{ℕ, zero, suc}

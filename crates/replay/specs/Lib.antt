@@ -3,6 +3,7 @@ pub mod Asked
 pub mod Head
 pub mod Later
 pub mod Latest
+pub mod Seasons
 pub mod Seen
 pub mod Sum
 pub mod Tally

@@ -1,7 +1,7 @@
 -- The checksum of what a call left in a lent room or list, as `oracle record` computes it.
 use mathlib.Core.Path.{_≡_, refl, sym, ap}
 use mathlib.Core.List.{List, [], _∷_, _++_, map}
-use Prim.Native.Nat.{ℕ, zero, suc, _+_, _*_, _%_, _<_, _≤_}
+use Prim.Native.Nat.{ℕ, zero, suc, _+_, _*_, _/_, _%_, _<_, _≤_}
 use native.Mathlib.Numerals.{add-one}
 use native.Mathlib.Omega.{arith}
 use lib.ListN.{length, getD, drop, take}
@@ -22,6 +22,17 @@ sumFrom h (x ∷ xs) = sumFrom (mix h x) xs
 -- the bytes of a room, or the numbers of a list
 abbrev pub sumOf : List ℕ → ℕ
 sumOf xs = sumFrom 0 xs
+
+-- a word of 64 bits: its low half, then its high half
+unfoldable pub mixWord : ℕ → ℕ → ℕ
+unfolding mix
+mixWord h w = mix (mix h (w % 4294967296)) (w / 4294967296)
+
+-- the words ws behind the digits that gave h
+unfoldable pub wordsFrom : ℕ → List ℕ → ℕ
+unfolding mixWord
+wordsFrom h [] = h
+wordsFrom h (w ∷ ws) = wordsFrom (mixWord h w) ws
 
 -- an entry's six fields
 unfoldable pub mixEntry : ℕ → NodeEntry → ℕ
@@ -58,6 +69,33 @@ nothing-left (x ∷ xs) (suc i) l = nothing-left xs i (omega arith)
 pub sum-end : (xs : List ℕ) (h i z : ℕ) → sumFrom h (drop i xs) ≡ z → length xs ≤ i → h ≡ z
 unfolding sumFrom
 sum-end xs h i z e l = rw (nothing-left xs i l) at e
+
+pub word-mixed : (h a w r : ℕ) → r ≡ mix a (w / 4294967296) → a ≡ mix h (w % 4294967296) → r ≡ mixWord h w
+unfolding mixWord
+word-mixed h a w r p q = rw (p, q)
+
+pub words-next : (ws : List ℕ) (h i z r w : ℕ) → wordsFrom h (drop i ws) ≡ z → i < length ws → r ≡ mixWord h w → w ≡ getD ws i 0 → wordsFrom r (drop (i + 1) ws) ≡ z
+unfolding wordsFrom
+words-next ws h i z r w e l q p =
+    let d : drop i ws ≡ getD ws i 0 ∷ drop (suc i) ws = drop-cons ws i 0 l in
+    rw (add-one, q, p) (rw d at e)
+
+pub words-end : (ws : List ℕ) (h i z : ℕ) → wordsFrom h (drop i ws) ≡ z → length ws ≤ i → h ≡ z
+unfolding wordsFrom
+words-end ws h i z e l = rw (nothing-left ws i l) at e
+
+mix-small : (h x : ℕ) → mix h x < 18014398509481951
+unfolding mix
+mix-small h x = omega arith
+
+small-from : (xs : List ℕ) (h : ℕ) → h < 18014398509481951 → sumFrom h xs < 18014398509481951
+unfolding sumFrom
+small-from [] h l = l
+small-from (x ∷ xs) h l = small-from xs (mix h x) (mix-small h x)
+
+-- a checksum that the words of a report can go on from
+pub sum-small : (xs : List ℕ) (h : ℕ) → h ≡ sumOf xs → h < 18014398509481951
+sum-small xs h e = rw e (small-from xs 0 (omega arith))
 
 snoc-entries : (es : List NodeEntry) (e : NodeEntry) (h : ℕ) → entriesFrom h (es ++ (e ∷ [])) ≡ mixEntry (entriesFrom h es) e
 unfolding entriesFrom

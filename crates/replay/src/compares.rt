@@ -7,6 +7,7 @@ use crate::heads::recorded;
 use crate::heads::word;
 use crate::later::from_ten;
 use crate::latest::from_thirteen;
+use crate::seasons::from_eighteen;
 
 // The call with that number (host/oracle/src/record.rs), with what else it takes.
 pub fn replayed(file: &[u8], call: u64, option: u64, first: u64, second: u64, n: usize) -> Seen
@@ -19,7 +20,10 @@ pub fn replayed(file: &[u8], call: u64, option: u64, first: u64, second: u64, n:
     if call < 13 {
         return from_ten(file, call - 10, option, first, second, n);
     }
-    from_thirteen(file, call - 13, option, first, second, n)
+    if call < 18 {
+        return from_thirteen(file, call - 13, option, first, second, n);
+    }
+    from_eighteen(file, call - 18, option, first, second, n)
 }
 
 fn same(a: Seen, b: Seen) -> bool

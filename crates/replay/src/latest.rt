@@ -1,4 +1,4 @@
-// A recorded call from 13 on, made again, as those below are.
+// A recorded call from 13 to 17, made again, as those below are.
 ghost use Prim.Native.Nat.{_≤_};
 ghost use Rattle.replay.specs.Latest.{FromThirteen};
 use crate::asked::asked;

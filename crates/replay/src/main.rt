@@ -7,6 +7,7 @@ mod early;
 mod heads;
 mod later;
 mod latest;
+mod seasons;
 mod sums;
 mod walls;
 

@@ -2,7 +2,7 @@
 ghost use mathlib.Core.Path.{_≡_};
 ghost use Prim.Native.Nat.{_<_, _≤_};
 ghost use lib.ListN.{length};
-ghost use Rattle.replay.specs.Sum.{mix, mixEntry, sumOf, sumEntries, entriesAt};
+ghost use Rattle.replay.specs.Sum.{mix, mixEntry, mixWord, sumOf, wordsFrom, sumEntries, entriesAt};
 use entries::NodeEntry;
 use entries::entry_at;
 
@@ -66,6 +66,28 @@ pub fn sum_wide(list: &[u32]) -> u64
     let mut i: usize = 0;
     while i < list.len() {
         h = mixed(h, wide_word(list[i]));
+        i = i + 1;
+    }
+    h
+}
+
+fn mixed_word(h: u64, w: u64) -> u64
+    requires { ⌜ h < 18014398509481951 ⌝ }
+    ensures { λ r. ⌜ (r ≡ mixWord h w) × (r < 18014398509481951) ⌝ }
+{
+    let a = mixed(h, w % 4294967296);
+    mixed(a, w / 4294967296)
+}
+
+// The checksum that goes on from `start` over a list of words.
+pub fn sum_words(start: u64, list: &[u64]) -> u64
+    requires { ⌜ start < 18014398509481951 ⌝ }
+    ensures { λ r. ⌜ r ≡ wordsFrom start (now (list .entry)) ⌝ }
+{
+    let mut h: u64 = start;
+    let mut i: usize = 0;
+    while i < list.len() {
+        h = mixed_word(h, list[i]);
         i = i + 1;
     }
     h

@@ -18,9 +18,13 @@
 //!   [`what_if_explain`]: what conflict.rs says of the graph that it built with the exclusion behind it. 15 is the text of the
 //!   wall display, by [`tgf`]. 16 and 17 read such a text, which is the file before them, by [`tgf_read`], with the nodes as
 //!   units and the edges as depth: 16 with the checksum of the nodes' list beside an edges' list of [`EDGE_NUMBERS`], 17 with
-//!   that of the edges' list beside a nodes' list of [`NODE_NUMBERS`]; the room is counted in numbers. A room holds [`FILL`] in
+//!   that of the edges' list beside a nodes' list of [`NODE_NUMBERS`]; the room is counted in numbers. 18 and 19 are the season's
+//!   calls, by [`season::season`] and [`season::join`]. Their file begins with a report, in words of eight bytes, lowest first. 18
+//!   adds the file that stands behind it; its checksum goes on from the room over the report after the call. 19 puts the report
+//!   that stands behind it there; its checksum is that of the report after the call, and it has no room. A room holds [`FILL`] in
 //!   every other byte before the call. The two words behind the checksum are the setting and the content that 11 asks for, the
-//!   solvable and the reason of 13 and 14, and 0 for the other calls.
+//!   solvable and the reason of 13 and 14, the edition of 18 and how many words its report has, how many words the two reports of
+//!   19 have, and 0 for the other calls.
 //! - the end: 3, how many files, how many answers.
 
 use std::collections::BTreeSet;
@@ -28,6 +32,7 @@ use std::collections::BTreeSet;
 use crate::asked::Question;
 use crate::generate::what_if as asking;
 use crate::rng::Rng;
+use crate::season;
 use crate::settings::{self, LARGEST_SETTINGS, RECORD};
 use crate::wall::{self, Chart, Line, EDGES, LABEL, NODES};
 use crate::{
@@ -77,6 +82,12 @@ enum Call {
     Wall,
     WallNodes,
     WallEdges,
+    Season {
+        edition: u64,
+        option: u64,
+        words: usize,
+    },
+    Join(usize, usize),
 }
 
 /// How much is lent: a size, one that follows from what a call needs, or that of the file and some bytes behind it.
@@ -190,8 +201,40 @@ const READ: [(Call, Room); 6] = [
 /// Texts are those of the first file of every so manyth shape, where they are small.
 const TEXTS: usize = 5;
 
+/// Editions, options and rooms of a file that is added to a report: each gets the first and two others in turn.
+const ADDED: [(u64, u64, Room); 11] = [
+    (1, 1, Room::Of(AMPLE)),
+    (2, 0, Room::Exact),
+    (1, 0, Room::OneShort),
+    (2, 1, Room::Half),
+    (1, 1, Room::Exact),
+    (1, 2, Room::Of(60)),
+    (2, 1, Room::OneShort),
+    (0, 1, Room::Of(60)),
+    (1, 0, Room::Of(AMPLE)),
+    (3, 0, Room::Of(60)),
+    (2, u64::MAX, Room::Of(0)),
+];
+/// Reports of another length than 27, of which every third file gets one.
+const OTHERS: [usize; 4] = [26, 0, 28, 1];
+/// Files that are added: every so manyth of the small ones that are done, and about so many of each refusal, the smallest.
+const DONE: usize = 4;
+const REFUSED: usize = 2;
+/// Lengths of two reports that are joined, beside 27 and 27: each pair gets one of these in turn.
+const JOINED: [(usize, usize); 7] = [
+    (27, 26),
+    (26, 27),
+    (28, 26),
+    (27, 0),
+    (0, 27),
+    (1, 1),
+    (0, 0),
+];
+/// So many pairs of reports.
+const PAIRS: u64 = 48;
+
 /// What some calls have to be answered with, each at least once: all that they can give.
-const GIVEN: [(u64, &[u64]); 13] = [
+const GIVEN: [(u64, &[u64]); 15] = [
     (1, &[0, 1, 2, 3, 4, 5, 6, 7, 8, 9, 10, 11, 12]),
     (3, &[0, 1, 2, 3, 4, 5, 6, 7, 8, 9, 10, 12]),
     (5, &[0, 1, 2, 3, 4, 5, 6, 7, 8, 9, 10]),
@@ -205,6 +248,8 @@ const GIVEN: [(u64, &[u64]); 13] = [
     (15, &[0, 1, 2, 3, 4, 5, 6, 7, 8, 9, 10]),
     (16, &[0, 3, 10]),
     (17, &[0, 3, 10]),
+    (18, &[0, 1, 2, 3, 4, 5, 6, 7, 8, 9, 10, 11, 12, 14]),
+    (19, &[0, 10, 14]),
 ];
 
 /// A file with the heads of its calls.
@@ -229,6 +274,7 @@ pub fn list() -> Result<Vec<u8>, String> {
             });
         }
     }
+    let seasons = seasons(&all);
     all.extend(
         settings_files()
             .into_iter()
@@ -243,6 +289,8 @@ pub fn list() -> Result<Vec<u8>, String> {
     all.extend(rows());
     all.extend(asked());
     all.extend(texts());
+    all.extend(seasons);
+    all.extend(pairs());
     let mut out = Vec::new();
     let mut met = BTreeSet::new();
     for one in &all {
@@ -443,6 +491,148 @@ const SMALL_TEXTS: [&[u8]; 20] = [
     b"0 a\n1 b\n#\n1 4294967296 c\n",
 ];
 
+/// A season over small files, with files of every answer: each stands behind the report of those before it, and every third also
+/// behind one that holds anything.
+fn seasons(files: &[Recorded]) -> Vec<Recorded> {
+    let told = |file: &[u8]| season::told(file, 1, 1, &mut [0; AMPLE]).answer.number;
+    let mut small: Vec<&[u8]> = files.iter().map(|one| one.file.as_slice()).collect();
+    small.sort_by_key(|file| file.len());
+    let mut met = [0; 19];
+    small.retain(|file| {
+        let number = told(file) as usize;
+        met[number] += 1;
+        match number {
+            0 => file.len() <= 1_500 && met[0] % DONE == 1,
+            6..=8 => met[number] == 1,
+            10 => false,
+            11 => met[number] <= 2 * REFUSED,
+            _ => met[number] <= REFUSED,
+        }
+    });
+    Rng::named("recorded season", 0).shuffle(&mut small);
+    let mut report = [0; season::NUMBERS];
+    let mut all = Vec::new();
+    for (index, file) in small.into_iter().enumerate() {
+        let mut lent = vec![report];
+        if index % 3 == 2 {
+            lent.push(anything(&mut Rng::named("recorded reports", index as u64)));
+        }
+        for report in lent {
+            let file = [&bytes(&report), file].concat();
+            all.push(Recorded {
+                shape: "seasons",
+                seed: all.len() as u64,
+                calls: season_calls(&file, all.len()),
+                file,
+            });
+        }
+        season::season(&mut report, file, 1, 1, &mut [0; AMPLE]);
+    }
+    all
+}
+
+/// A file that is added to the report before it gets the first of [`ADDED`] and two others in turn; every third is also lent
+/// with a report of another length. It begins elsewhere then, and is not read.
+fn season_calls(file: &[u8], index: usize) -> Vec<[u64; 12]> {
+    let others = ADDED.len() - 1;
+    let turn = (0..2).map(|i| 1 + (2 * index + i) % others);
+    let picked = std::iter::once(0).chain(turn).map(|i| {
+        let (edition, option, room) = ADDED[i];
+        (edition, option, season::NUMBERS, room)
+    });
+    let words = OTHERS[index / 3 % OTHERS.len()].min(file.len() / 8);
+    let other = (index % 3 == 0).then_some((1, 1, words, Room::Of(60)));
+    let call = |(edition, option, words, room)| {
+        let call = Call::Season {
+            edition,
+            option,
+            words,
+        };
+        answered(file, (call, room))
+    };
+    picked.chain(other).map(call).collect()
+}
+
+/// A report that may be lent, also where no season has it: small counts, and at times one that is near its width.
+fn anything(rng: &mut Rng) -> [u64; season::NUMBERS] {
+    let mut report = [0; season::NUMBERS];
+    for number in &mut report {
+        *number = rng.next() >> rng.between(33, 63);
+    }
+    if rng.chance(50) {
+        let near = [u64::MAX, u64::MAX - 1, u64::MAX - 40, 1 << 63];
+        report[rng.below(season::NUMBERS)] = *rng.pick(&near);
+    }
+    report[26] = *rng.pick(&[0, 1, 1, 2, u64::MAX]);
+    report
+}
+
+/// Two reports behind one another, and some that are longer.
+fn pairs() -> Vec<Recorded> {
+    let make = |seed: u64| {
+        let mut rng = Rng::named("recorded pairs", seed);
+        let (mut first, mut second) = (anything(&mut rng), anything(&mut rng));
+        let none = [0; season::NUMBERS];
+        let (turn, more) = (seed as usize / 12, seed / 6 % 2);
+        match seed % 6 {
+            0 => first = none,
+            1 => second = none,
+            // A count at its width, and one past it; so the files, and the file number.
+            2 => {
+                (first, second) = (none, none);
+                let at = [0, 9, 19, 23][turn % 4];
+                (first[at], second[at]) = (u64::MAX - 5, 5 + more);
+            }
+            3 => {
+                (first, second) = (none, none);
+                (first[turn], second[10 + turn]) = (1 << 63, (1 << 63) - 1 + more);
+            }
+            4 => {
+                (first, second) = (none, none);
+                (first[0], first[7]) = (1 << 63, (1 << 63) - 3);
+                second[24..].copy_from_slice(&[u64::MAX, 2 + more, 1]);
+            }
+            _ => {}
+        }
+        let mut file = bytes(&[first, second].concat());
+        if seed % 12 == 11 {
+            file.resize(2 * 8 * 64, 1);
+        }
+        let other = JOINED[seed as usize % JOINED.len()];
+        let longer: &[(usize, usize)] = match seed % 12 {
+            11 => &[(27, 64), (64, 27), (64, 64)],
+            _ => &[],
+        };
+        let lengths = [(season::NUMBERS, season::NUMBERS), other].into_iter();
+        let lengths = lengths.chain(longer.iter().copied());
+        let trials = lengths.map(|(one, two)| (Call::Join(one, two), Room::Of(0)));
+        Recorded {
+            shape: "reports",
+            seed,
+            calls: trials.map(|trial| answered(&file, trial)).collect(),
+            file,
+        }
+    };
+    (0..PAIRS).map(make).collect()
+}
+
+fn bytes(words: &[u64]) -> Vec<u8> {
+    words.iter().flat_map(|word| word.to_le_bytes()).collect()
+}
+
+/// A report of so many words, and what stands behind it.
+fn lent(file: &[u8], words: usize) -> (Vec<u64>, &[u8]) {
+    let (report, rest) = file.split_at(8 * words);
+    let word = |bytes: &[u8]| u64::from_le_bytes(bytes.try_into().expect("eight bytes"));
+    (report.chunks(8).map(word).collect(), rest)
+}
+
+/// Words as digits of a checksum: the low half, then the high one.
+fn halves(words: &[u64]) -> Vec<u64> {
+    let of = |&word: &u64| [word & u64::from(u32::MAX), word >> 32];
+    words.iter().flat_map(of).collect()
+}
+
 /// The rows of small files in any order.
 fn rows() -> Vec<Recorded> {
     let mut all = Vec::new();
@@ -584,6 +774,24 @@ fn answered(file: &[u8], (call, room): (Call, Room)) -> [u64; 12] {
             let numbers: Vec<u64> = list.into_iter().map(u64::from).collect();
             (17, 0, answer, sum(&numbers))
         }
+        Call::Season {
+            edition,
+            option,
+            words,
+        } => {
+            let (mut report, file) = lent(file, words);
+            let mut room = vec![FILL; size];
+            let answer = season::season(&mut report, file, edition, option, &mut room);
+            let room = room.into_iter().map(u64::from);
+            let digits: Vec<u64> = room.chain(halves(&report)).collect();
+            (18, option, answer, sum(&digits))
+        }
+        Call::Join(one, two) => {
+            let (mut report, rest) = lent(file, one);
+            let (second, _) = lent(rest, two);
+            let answer = season::join(&mut report, &second);
+            (19, 0, answer, sum(&halves(&report)))
+        }
         Call::Held(version) => (10, version, held(file, version), sum(&[])),
         Call::Change(version, setting, content) => in_room(11, version, size, |room| {
             room[..file.len()].copy_from_slice(file);
@@ -595,6 +803,8 @@ fn answered(file: &[u8], (call, room): (Call, Room)) -> [u64; 12] {
         Call::Asked(question) | Call::AskedText(question, _) => {
             [question.solvable, question.reason]
         }
+        Call::Season { edition, words, .. } => [edition, words as u64],
+        Call::Join(one, two) => [one as u64, two as u64],
         _ => [0, 0],
     };
     let Answer {
@@ -669,7 +879,12 @@ fn read_back(text: &[u8], nodes: &mut [u32], edges: &mut [u32]) -> Answer {
 fn needed(file: &[u8], call: Call) -> usize {
     let mut room = vec![0; MOST];
     let answer = match call {
-        Call::Check | Call::Held(_) => return 0,
+        Call::Check | Call::Held(_) | Call::Join(..) => return 0,
+        Call::Season {
+            edition,
+            option,
+            words,
+        } => season::told(lent(file, words).1, edition, option, &mut room).answer,
         Call::Change(..) => return file.len() + RECORD,
         Call::Write => write(file, &mut room),
         Call::Explain(option) => explain(file, option, &mut room),
@@ -730,8 +945,8 @@ fn fields(list: &[Node]) -> Vec<u64> {
     list.iter().flat_map(of).map(u64::from).collect()
 }
 
-/// A polynomial in 1,021 modulo the largest prime below 2^54. A byte, a field of an entry (the clause last) or a number of
-/// another list is one digit.
+/// A polynomial in 1,021 modulo the largest prime below 2^54. A byte, a field of an entry (the clause last), a number of
+/// another list or half a word of a report is one digit.
 fn sum(digits: &[u64]) -> u64 {
     let next = |sum: u64, digit: &u64| (1021 * sum + digit + 1) % 18_014_398_509_481_951;
     digits.iter().fold(0, next)

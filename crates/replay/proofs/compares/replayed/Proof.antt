@@ -1,5 +1,5 @@
 use borrow.Author.Needs.{needs}
-use Rattle.replay.specs.Again.{at-low, at-middle, at-high}
+use Rattle.replay.specs.Again.{at-low, at-middle, at-high, at-top}
 use Rattle.replay.proofs.compares.replayed.Statement.{statement}
 use Rattle.replay.proofs.compares.replayed.Tie as tie
 
@@ -12,4 +12,6 @@ replayed-spec =
     (λ c. search needs)
     (λ c. search at-middle)
     (λ c. search needs)
-    (λ c. search at-high))
+    (λ c. search at-high)
+    (λ c. search needs)
+    (λ c. search at-top))
