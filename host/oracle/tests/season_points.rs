@@ -4,6 +4,7 @@
 
 mod common;
 
+use common::same;
 use oracle::draft::Draft;
 use oracle::season::{told, Report, Told, NUMBERS};
 use oracle::{samples, Answer};
@@ -12,18 +13,6 @@ const DEPTH: usize = 24;
 const FIRST: usize = 25;
 const NAMED: usize = 26;
 const MAX: u64 = u64::MAX;
-
-fn same(model: Answer, ours: urzulempa::Answer) -> Answer {
-    let port = Answer {
-        number: ours.number,
-        place: ours.place,
-        bytes: ours.bytes,
-        units: ours.units,
-        depth: ours.depth,
-    };
-    assert_eq!(port, model, "the port's answer and the model's");
-    model
-}
 
 fn season(report: &mut [u64], file: &[u8], edition: u64, option: u64, room: &mut [u8]) -> Answer {
     let (mut our_report, mut our_room) = (report.to_vec(), room.to_vec());

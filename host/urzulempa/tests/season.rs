@@ -1,8 +1,11 @@
 //! `season` and `join` as a person runs them: what the README shows.
 
+mod common;
+
+use common::Ground;
 use std::ffi::OsStr;
 use std::fs::{self, File};
-use std::io::{Read, Write};
+use std::io::Read;
 use std::os::unix::ffi::OsStrExt;
 use std::os::unix::fs::{symlink, PermissionsExt};
 use std::path::{Path, PathBuf};
@@ -15,49 +18,6 @@ const RACK: &[u8] = include_bytes!("../../../samples/rack.rec");
 const RING: &[u8] = include_bytes!("../../../samples/deck-panel.rec");
 const LONE: &[u8] = include_bytes!("../../../samples/lone.rec");
 const PAIR: &[u8] = include_bytes!("../../../samples/merged-pair.rec");
-
-/// A folder of its own, empty, where commands run.
-struct Ground(PathBuf);
-
-impl Ground {
-    fn new(name: &str) -> Ground {
-        let folder = Path::new(env!("CARGO_TARGET_TMPDIR")).join(format!("season-{name}-{}", std::process::id()));
-        let _ = fs::remove_dir_all(&folder);
-        fs::create_dir_all(&folder).expect("a folder");
-        Ground(folder)
-    }
-
-    fn command(&self, words: &[&str]) -> Command {
-        let mut command = Command::new(env!("CARGO_BIN_EXE_urzulempa"));
-        command.args(words).current_dir(&self.0).stdin(Stdio::piped()).stdout(Stdio::piped()).stderr(Stdio::piped());
-        command
-    }
-
-    /// Status, and what was printed and said.
-    fn ran(&self, words: &[&str], input: &[u8]) -> (Option<i32>, String, String) {
-        let mut child = self.command(words).spawn().expect("the command starts");
-        // A command that wants no input does not read it.
-        let _ = child.stdin.take().expect("a pipe").write_all(input);
-        let Output { status, stdout, stderr } = child.wait_with_output().expect("the command ends");
-        (status.code(), String::from_utf8_lossy(&stdout).into_owned(), String::from_utf8_lossy(&stderr).into_owned())
-    }
-
-    fn lay(&self, name: &str, bytes: &[u8]) {
-        let path = self.0.join(name);
-        fs::create_dir_all(path.parent().expect("a folder")).expect("a folder");
-        fs::write(path, bytes).expect("a file");
-    }
-
-    fn holds(&self, name: &str) -> Option<String> {
-        fs::read_to_string(self.0.join(name)).ok()
-    }
-}
-
-impl Drop for Ground {
-    fn drop(&mut self) {
-        let _ = fs::remove_dir_all(&self.0);
-    }
-}
 
 /// A saved report: the numbers that are not 0.
 fn saved(numbers: &[(&str, u64)]) -> String {
@@ -186,12 +146,12 @@ fn many_jobs_print_and_save_what_one_does() {
             let ran = ground.ran(&["season", "all", "--jobs", jobs, "--edition", edition, "--save", "report"], &[]);
             assert_eq!(ran.0, Some(1), "some can't be read");
             assert_eq!(ran.2.lines().count(), 8, "{}", ran.2);
-            let ran = (ran, ground.holds("report").expect("it is saved"));
+            let ran = (ran, ground.holds_text("report").expect("it is saved"));
             assert!(ran == *wanted.get_or_insert_with(|| ran.clone()), "{jobs} jobs");
         }
         // As many as there are cores.
         let ran = ground.ran(&["season", "all", "--edition", edition, "--save", "report"], &[]);
-        assert!(Some((ran, ground.holds("report").expect("it is saved"))) == wanted);
+        assert!(Some((ran, ground.holds_text("report").expect("it is saved"))) == wanted);
     }
 }
 
@@ -215,7 +175,7 @@ fn a_report_is_that_of_the_library_and_seasons_that_are_cut_join_to_the_whole() 
     assert_eq!(report.files(), Some(names.len() as u64));
     let (_, whole, _) = ground.ran(&["season", "all", "--save", "whole"], &[]);
     let number = |line: &str| line.rsplit(' ').next().and_then(|digits| digits.parse::<u64>().ok());
-    let numbers = |name: &str| -> Vec<u64> { ground.holds(name).expect("saved").lines().skip(1).filter_map(number).collect() };
+    let numbers = |name: &str| -> Vec<u64> { ground.holds_text(name).expect("saved").lines().skip(1).filter_map(number).collect() };
     assert_eq!(numbers("whole"), report.numbers());
     // By folders, as several machines would do it, joined in order and in two steps.
     let parts: Vec<String> = (0..7).map(|folder| format!("part{folder}")).collect();
@@ -225,14 +185,14 @@ fn a_report_is_that_of_the_library_and_seasons_that_are_cut_join_to_the_whole() 
     let parts: Vec<&str> = parts.iter().map(String::as_str).collect();
     let (code, printed, said) = ground.ran(&[&["join"], &parts[..], &["--save", "joined"]].concat(), &[]);
     assert_eq!((code, said.as_str()), (Some(0), ""));
-    assert_eq!(ground.holds("joined"), ground.holds("whole"));
+    assert_eq!(ground.holds_text("joined"), ground.holds_text("whole"));
     let counts = |text: &str| text.lines().take_while(|line| !line.starts_with("deepest")).map(str::to_owned).collect::<Vec<_>>();
     assert_eq!(counts(&printed), counts(&whole));
     assert!(printed.ends_with("joined is written\n"));
     ground.ran(&[&["join"], &parts[..3], &["--save", "left"]].concat(), &[]);
     ground.ran(&[&["join"], &parts[3..], &["--save", "right"]].concat(), &[]);
     ground.ran(&["join", "left", "right", "--save", "again"], &[]);
-    assert_eq!(ground.holds("again"), ground.holds("whole"));
+    assert_eq!(ground.holds_text("again"), ground.holds_text("whole"));
     let mut twice = report;
     assert!(join(&mut twice, &report).is_done());
     ground.ran(&["join", "whole", "whole", "--save", "twice"], &[]);
@@ -266,7 +226,7 @@ deepest         3  first in c, file 5, of all file 1,008
     let (_, printed, _) = ground.ran(&["join", "none", "c", "none"], &[]);
     assert!(printed.ends_with("first in c, file 5, of all file 5\n"), "{printed}");
     // From standard input, as another machine sends it.
-    let (code, printed, _) = ground.ran(&["join", "a", "-"], ground.holds("c").expect("a file").as_bytes());
+    let (code, printed, _) = ground.ran(&["join", "a", "-"], ground.holds_text("c").expect("a file").as_bytes());
     assert_eq!(code, Some(0));
     assert!(printed.ends_with("first in standard input, file 5, of all file 1,005\n"), "{printed}");
 }
@@ -303,7 +263,7 @@ fn a_damaged_report_is_refused_with_its_line() {
         let (code, printed, said) = ground.ran(&["join", "good", "bad", "--save", "out"], &[]);
         assert_eq!((code, printed.as_str()), (Some(2), ""), "{said}");
         assert!(said.starts_with(&format!("bad: refused at line {line}: ")) && said.contains(why), "{said}");
-        assert_eq!(ground.holds("out"), None);
+        assert_eq!(ground.holds_text("out"), None);
     }
 }
 
@@ -315,7 +275,7 @@ fn a_count_that_would_pass_64_bits_is_14() {
     let (code, printed, said) = ground.ran(&["join", "full", "one", "--save", "out"], &[]);
     assert_eq!((code, printed.as_str()), (Some(2), ""));
     assert_eq!(said, "one: refused 14: a count of the report would pass 64 bits: keep the two reports apart\n");
-    assert_eq!(ground.holds("out"), None);
+    assert_eq!(ground.holds_text("out"), None);
     ground.lay("many", saved(&[("refused-2", u64::MAX)]).as_bytes());
     ground.lay("file", saved(&[("done", 1)]).as_bytes());
     assert_eq!(ground.ran(&["join", "many", "file"], &[]).0, Some(2));
@@ -399,7 +359,7 @@ fn a_room_grows_as_that_of_explain_does() {
     let answer = explain_edition(&file, 1, 1, &mut room);
     assert!(answer.is_done() && answer.bytes > 1 << 20, "{answer:?}");
     let (_, printed, _) = ground.ran(&["season", "lone.rec", "long.rec", "lone.rec", "--save", "report"], &[]);
-    let report = ground.holds("report").expect("saved");
+    let report = ground.holds_text("report").expect("saved");
     assert!(report.contains("\ndone 3\n") && report.contains(&format!("\nlines {}\n", answer.units + 4)), "{report}");
     assert!(printed.contains("first in long.rec\n"), "{printed}");
     // In less room it is 10, and what was written counts.
@@ -409,7 +369,7 @@ fn a_room_grows_as_that_of_explain_does() {
         ground.ran(&["season", "long.rec", "--room", &size.to_string(), "--save", "report"], &[]);
         let wanted = [("refused-10", 1), ("lines", answer.units), ("depth", answer.depth), ("named", 1)];
         for (name, number) in wanted {
-            assert!(ground.holds("report").expect("saved").contains(&format!("\n{name} {number}\n")), "{name} {number}");
+            assert!(ground.holds_text("report").expect("saved").contains(&format!("\n{name} {number}\n")), "{name} {number}");
         }
     }
 }
@@ -442,12 +402,12 @@ fn a_report_is_not_saved_over_what_it_is_made_from() {
     // Another one is replaced whole.
     ground.lay("report", b"what was there before");
     assert_eq!(ground.ran(&["season", "all", "--save", "report"], &[]).0, Some(0));
-    let report = ground.holds("report").expect("saved");
+    let report = ground.holds_text("report").expect("saved");
     assert!(report.starts_with("urzulempa season 1\ndone 1\nrefused-1 1\n"), "{report}");
     let (code, _, said) = ground.ran(&["join", "report", "report", "--save", "report"], &[]);
     assert_eq!(code, Some(1));
     assert!(said.contains("report is report itself"), "{said}");
-    assert_eq!(ground.holds("report"), Some(report));
+    assert_eq!(ground.holds_text("report"), Some(report));
     // A place where nothing can be put is told before any file is read.
     for out in ["all", "none/report", "report/report"] {
         let (code, printed, _) = ground.ran(&["season", "all", "--save", out], &[]);
@@ -481,7 +441,7 @@ fn wrong_usage_is_status_64() {
         assert_eq!((code, printed.as_str()), (Some(64), ""), "{words:?}");
         assert!(said.contains("`urzulempa --help` shows the commands"), "{said}");
     }
-    assert_eq!((ground.holds("b"), ground.holds("c")), (None, None));
+    assert_eq!((ground.holds_text("b"), ground.holds_text("c")), (None, None));
     assert_eq!(ground.ran(&["join", "none"], &[]).0, Some(1));
     let (_, help, _) = ground.ran(&["--help"], &[]);
     for usage in ["season PATH... [--jobs J] [--save OUT] [--edition E] [--room N] [--json]", "join REPORT... [--save OUT] [--json]"] {

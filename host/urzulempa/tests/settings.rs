@@ -1,59 +1,14 @@
 //! `settings` and `--settings` as a person runs them: what the README shows.
 
+mod common;
+
+use common::Ground;
 use std::fs;
-use std::io::Write;
 use std::os::unix::fs::symlink;
-use std::path::{Path, PathBuf};
-use std::process::{Command, Output, Stdio};
 use urzulempa::{choices, explain, explain_air, explain_edition, graphviz, Edition};
 
 const REPLAY: &[u8] = include_bytes!("../../../samples/replay.rec");
 const MERGED_PAIR: &[u8] = include_bytes!("../../../samples/merged-pair.rec");
-
-/// A folder of its own, empty, where commands run.
-struct Ground(PathBuf);
-
-impl Ground {
-    fn new(name: &str) -> Ground {
-        let folder = Path::new(env!("CARGO_TARGET_TMPDIR")).join(format!("settings-{name}-{}", std::process::id()));
-        let _ = fs::remove_dir_all(&folder);
-        fs::create_dir_all(&folder).expect("a folder");
-        Ground(folder)
-    }
-
-    fn command(&self, words: &[&str]) -> Command {
-        let mut command = Command::new(env!("CARGO_BIN_EXE_urzulempa"));
-        command.args(words).current_dir(&self.0).stdin(Stdio::piped()).stdout(Stdio::piped()).stderr(Stdio::piped());
-        command
-    }
-
-    fn run(&self, words: &[&str], input: &[u8]) -> Output {
-        let mut child = self.command(words).spawn().expect("the command starts");
-        // A command that wants no input does not read it.
-        let _ = child.stdin.take().expect("a pipe").write_all(input);
-        child.wait_with_output().expect("the command ends")
-    }
-
-    /// Status, and what was printed and said.
-    fn ran(&self, words: &[&str], input: &[u8]) -> (Option<i32>, String, String) {
-        let out = self.run(words, input);
-        (out.status.code(), String::from_utf8_lossy(&out.stdout).into_owned(), String::from_utf8_lossy(&out.stderr).into_owned())
-    }
-
-    fn lay(&self, name: &str, bytes: &[u8]) {
-        fs::write(self.0.join(name), bytes).expect("a file");
-    }
-
-    fn holds(&self, name: &str) -> Option<Vec<u8>> {
-        fs::read(self.0.join(name)).ok()
-    }
-}
-
-impl Drop for Ground {
-    fn drop(&mut self) {
-        let _ = fs::remove_dir_all(&self.0);
-    }
-}
 
 fn record(version: u8, setting: u8, content: u16) -> [u8; 16] {
     let mut record = [0; 16];

@@ -7,7 +7,8 @@ use oracle::asked::{agree, Question};
 use oracle::draft::Draft;
 use oracle::{Answer, Edge, Node, Problem, Salvaged};
 
-fn same(theirs: Answer, ours: urzulempa::Answer) -> Answer {
+/// The port's answer has to be the other one: conflict.rs's, or that of the model beside it.
+pub fn same(theirs: Answer, ours: urzulempa::Answer) -> Answer {
     let port = Answer {
         number: ours.number,
         place: ours.place,
@@ -15,7 +16,7 @@ fn same(theirs: Answer, ours: urzulempa::Answer) -> Answer {
         units: ours.units,
         depth: ours.depth,
     };
-    assert_eq!(port, theirs, "the port's answer and conflict.rs's");
+    assert_eq!(port, theirs, "the port's answer and the other one");
     theirs
 }
 
