@@ -1,5 +1,5 @@
-// The public calls (include/urzulempa.h). Each owns its working arrays, takes any bytes, any room and any option, and has no
-// `requires`.
+// The public calls (include/urzulempa.h), a line each over the crate that does it, but for the two lists of structs. Each takes any bytes,
+// any room and any option, and has no `requires`.
 mod nodes;
 mod whatifs;
 
