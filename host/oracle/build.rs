@@ -66,7 +66,7 @@ const REPLACEMENTS: &[Replacement] = &[
         name: "clause at hand",
         matches: 1,
         from: "let clause = &state.clauses.kinds[clause_id.to_index()];",
-        to: "let clause = progress.enter(*clause_id, &state.clauses.kinds);",
+        to: "let clause = state.clauses.entered(*clause_id, progress);",
     },
     Replacement {
         name: "add_node's parameters",

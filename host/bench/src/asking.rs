@@ -2,15 +2,15 @@
 //! built and labelled anew, which is the only way that conflict.rs has. What the question takes beyond the file's own node list is
 //! working out labels again, only for packages that lead to the chosen one, and looking for a cycle.
 
-use super::{both, keep, largest, made, time};
+use super::{both, keep, largest, limit, made, time};
 use oracle::draft::{record, Draft};
 use oracle::reader::kind;
 use std::hint::black_box;
 
 pub fn table() {
     println!();
-    println!("| a question against a rebuild of the longer file | nodes | edges | labels that change | conflict.rs, rebuild | port, rebuild | port, question | rebuild / question, conflict.rs | rebuild / question, port | port, question beyond the file's own node list |");
-    println!("|---|---|---|---|---|---|---|---|---|---|");
+    println!("| a question against a rebuild of the longer file | nodes | edges | labels that change | conflict.rs, rebuild | port, rebuild | port, question | rebuild / question, conflict.rs | rebuild / question, port | port, question beyond the file's own node list | limit | question / limit |");
+    println!("|---|---|---|---|---|---|---|---|---|---|---|---|");
     let sample = |name: &str| oracle::samples::all().into_iter().find(|s| s.0 == name).map(|s| s.1).unwrap_or_default();
     let rows = [
         ("rack.rec, driver 11", sample("rack.rec"), 43),
@@ -44,7 +44,8 @@ pub fn table() {
             || keep(black_box(urzulempa::what_if(black_box(&file), solvable, reason, &mut again))),
         );
         let (beyond, times) = (time(question - plain), [rust, rebuild, question].map(time).join(" | "));
-        println!("| {name} | {nodes} | {edges} | {changed} | {times} | {:.2} | {:.2} | {beyond} |", rust / question, rebuild / question);
+        let limit = limit::columns(limit::of(&file, limit::NODES, 0), question);
+        println!("| {name} | {nodes} | {edges} | {changed} | {times} | {:.2} | {:.2} | {beyond} | {limit} |", rust / question, rebuild / question);
     }
 }
 

@@ -1,7 +1,11 @@
 //! Port and conflict.rs side by side in one run: same inputs, both built for release, rooms cleared the same way.
-//! Times are the least of several rounds, taken in turns; ratios above 1 mean that the port is faster.
+//! Times are the least of several rounds, taken in turns; ratios above 1 mean that the port is faster. A limit is what no program that
+//! does the work can be faster than (`limit`), and the number behind it says how many times that the port takes.
 
 mod asking;
+mod clock;
+mod growth;
+mod limit;
 mod merging;
 mod season;
 
@@ -15,13 +19,24 @@ fn main() -> ExitCode {
         println!("bench: skipped: conflict.rs was not there when this was built");
         return ExitCode::from(77);
     }
-    // One table by itself.
-    if std::env::args().nth(1).as_deref() == Some("season") {
-        season::table();
-        return ExitCode::SUCCESS;
+    let words: Vec<String> = std::env::args().skip(1).collect();
+    match words.iter().map(String::as_str).collect::<Vec<_>>()[..] {
+        [] => {}
+        // One table by itself.
+        ["season"] => {
+            season::table();
+            return ExitCode::SUCCESS;
+        }
+        // Whether what one more record, node, edge or line costs grows with the size.
+        ["--check"] => return growth::check(growth::MOST),
+        ["--check", most] if most.parse::<f64>().is_ok() => return growth::check(most.parse().unwrap_or(growth::MOST)),
+        _ => {
+            eprintln!("bench: usage: bench [season | --check [MOST]]");
+            return ExitCode::from(64);
+        }
     }
-    println!("| what | bytes in | conflict.rs | port | ratio |");
-    println!("|---|---|---|---|---|");
+    println!("| what | bytes in | conflict.rs | port | ratio | limit | port / limit |");
+    println!("|---|---|---|---|---|---|---|");
     graphs();
     edge_lists();
     texts();
@@ -30,34 +45,40 @@ fn main() -> ExitCode {
     air();
     asking::table();
     season::table();
-    growth();
+    growth::table();
+    limits();
     ExitCode::SUCCESS
 }
-
-/// What the arrays that `urzulempa_explain` owns take together (docs/DECISIONS.md lists them), and the one that is cleared twice.
-const OWNED: usize = 64_648;
-const TWICE: usize = 10_240;
 
 /// The least time of one call: each round repeats it for at least this long.
 const ROUND: Duration = Duration::from_millis(40);
 const ROUNDS: usize = 15;
 
+/// Time on the processor, so that other work on the machine counts for little.
 fn once(call: &mut dyn FnMut()) -> f64 {
-    let start = Instant::now();
+    by(clock::of_thread, call)
+}
+
+fn by(clock: fn() -> f64, call: &mut dyn FnMut()) -> f64 {
+    let (start, before) = (Instant::now(), clock());
     let mut n = 0u32;
     while n == 0 || start.elapsed() < ROUND {
         call();
         n += 1;
     }
-    start.elapsed().as_secs_f64() / f64::from(n)
+    (clock() - before) / f64::from(n)
 }
 
 /// Both calls in turns, so that a slow moment of the machine meets both.
-fn both(mut theirs: impl FnMut(), mut ours: impl FnMut()) -> (f64, f64) {
+fn both(theirs: impl FnMut(), ours: impl FnMut()) -> (f64, f64) {
+    both_by(clock::of_thread, theirs, ours)
+}
+
+fn both_by(clock: fn() -> f64, mut theirs: impl FnMut(), mut ours: impl FnMut()) -> (f64, f64) {
     let mut best = (f64::MAX, f64::MAX);
     for _ in 0..ROUNDS {
-        best.0 = best.0.min(once(&mut theirs));
-        best.1 = best.1.min(once(&mut ours));
+        best.0 = best.0.min(by(clock, &mut theirs));
+        best.1 = best.1.min(by(clock, &mut ours));
     }
     best
 }
@@ -73,8 +94,8 @@ fn time(seconds: f64) -> String {
     }
 }
 
-fn row(what: &str, bytes: usize, (theirs, ours): (f64, f64)) {
-    println!("| {what} | {bytes} | {} | {} | {:.2} |", time(theirs), time(ours), theirs / ours);
+fn row(what: &str, bytes: usize, (theirs, ours): (f64, f64), limit: f64) {
+    println!("| {what} | {bytes} | {} | {} | {:.2} | {} |", time(theirs), time(ours), theirs / ours, limit::columns(limit, ours));
 }
 
 fn made(shape: &str, seed: u64) -> Vec<u8> {
@@ -104,13 +125,14 @@ fn graphs() {
             &format!("file to graph, {name}"),
             file.len(),
             both(|| keep(black_box(oracle::check(black_box(file)))), || keep(black_box(urzulempa::check(black_box(file))))),
+            limit::of(file, limit::GRAPH, 0),
         );
     }
     for (name, file) in &loads {
         let mut theirs = vec![oracle::Node::default(); 128];
         let mut ours = [urzulempa::Node::default(); 128];
         let labelled = both(|| keep(black_box(oracle::nodes(black_box(file), &mut theirs))), || keep(black_box(urzulempa::nodes(black_box(file), &mut ours))));
-        row(&format!("file to labelled graph, {name}"), file.len(), labelled);
+        row(&format!("file to labelled graph, {name}"), file.len(), labelled, limit::of(file, limit::NODES, 0));
     }
 }
 
@@ -120,7 +142,8 @@ fn edge_lists() {
         let (mut theirs, mut ours) = (vec![0; 5 * 1024], vec![0; 5 * 1024]);
         let times =
             both(|| keep(black_box(oracle::edges(black_box(&file), &mut theirs))), || keep(black_box(urzulempa::edge_numbers(black_box(&file), &mut ours))));
-        row(&format!("file to edge list, {name}"), file.len(), times);
+        let written = urzulempa::edge_numbers(&file, &mut ours).bytes;
+        row(&format!("file to edge list, {name}"), file.len(), times, limit::of(&file, limit::GRAPH, written));
     }
 }
 
@@ -132,14 +155,14 @@ fn texts() {
         "explanation of P7, a call",
         file.len(),
         both(|| keep(black_box(oracle::explain(black_box(&file), 0, &mut a))), || keep(black_box(urzulempa::explain(black_box(&file), 0, &mut b)))),
+        limit::of(&file, limit::EXPLAIN, urzulempa::explain(&file, 0, &mut b).bytes),
     );
-    let mut arrays = vec![0u8; OWNED + TWICE];
-    let clearing = (0..ROUNDS).map(|_| once(&mut || black_box(&mut arrays[..]).fill(0))).fold(f64::MAX, f64::min);
-    println!("| of that, clearing the {OWNED} bytes of arrays that a call owns, {TWICE} of them twice | | | {} | |", time(clearing));
+    println!("| of that, clearing the 64648 bytes of arrays that a call owns, 10240 of them twice | | | {} | | | |", time(limit::clearing(&[64_648, 10_240])));
     row(
         "graph text of P7, a call",
         file.len(),
         both(|| keep(black_box(oracle::graphviz(black_box(&file), 1, &mut a))), || keep(black_box(urzulempa::graphviz(black_box(&file), 1, &mut b)))),
+        limit::of(&file, limit::DRAW, urzulempa::graphviz(&file, 1, &mut b).bytes),
     );
     for (name, file, size) in
         [("exploding DAG, room of 64 MiB", largest("dag-exploding-limit"), 64 << 20), ("depth 2,079, in full", made("depth-largest", 1), 32 << 20)]
@@ -157,7 +180,7 @@ fn texts() {
             bytes / times.1 / 1e6,
             if same { "equal" } else { "DIFFER" }
         );
-        row(&said, file.len(), times);
+        row(&said, file.len(), times, limit::of(&file, limit::EXPLAIN, answer.bytes));
     }
     let file = largest("nodes-and-edges");
     let (mut a, mut b) = (vec![0; 1 << 20], vec![0; 1 << 20]);
@@ -165,14 +188,15 @@ fn texts() {
         "graph text, largest load",
         file.len(),
         both(|| keep(black_box(oracle::graphviz(black_box(&file), 1, &mut a))), || keep(black_box(urzulempa::graphviz(black_box(&file), 1, &mut b)))),
+        limit::of(&file, limit::DRAW, urzulempa::graphviz(&file, 1, &mut b).bytes),
     );
 }
 
 /// The same file by the rules of both editions. Edition 2 of conflict.rs is the oracle's: every shown package among the reported.
 fn editions() {
     println!();
-    println!("| explanation by edition | edition | answer | lines | bytes | depth | conflict.rs | port | ratio |");
-    println!("|---|---|---|---|---|---|---|---|---|");
+    println!("| explanation by edition | edition | answer | lines | bytes | depth | conflict.rs | port | ratio | limit | port / limit |");
+    println!("|---|---|---|---|---|---|---|---|---|---|---|");
     let sample = |name: &str| oracle::samples::all().into_iter().find(|s| s.0 == name).map(|s| s.1).unwrap_or_default();
     let loads = [
         ("deck-panel.rec (P9)", sample("deck-panel.rec"), 4096),
@@ -193,11 +217,12 @@ fn editions() {
             let (lines, bytes, depth) = (answer.units, answer.bytes, answer.depth);
             let said = if same { "" } else { ", rooms DIFFER" };
             println!(
-                "| {name} | {edition} | {}{said} | {lines} | {bytes} | {depth} | {} | {} | {:.2} |",
+                "| {name} | {edition} | {}{said} | {lines} | {bytes} | {depth} | {} | {} | {:.2} | {} |",
                 answer.number,
                 time(times.0),
                 time(times.1),
-                times.0 / times.1
+                times.0 / times.1,
+                limit::columns(limit::of(file, limit::EXPLAIN, bytes), times.1)
             );
         }
     }
@@ -206,12 +231,21 @@ fn editions() {
 /// The largest load that fits the air profile, 64 nodes and 993 edges without a cycle: the profile's tests beside the explanation.
 fn air() {
     println!();
-    println!("| the largest load on air | answer | lines | bytes | conflict.rs | port | ratio |");
-    println!("|---|---|---|---|---|---|---|");
+    println!("| the largest load on air | answer | lines | bytes | conflict.rs | port | ratio | limit | port / limit |");
+    println!("|---|---|---|---|---|---|---|---|---|");
     let file = made("air-largest", 1);
     let (mut a, mut b) = (vec![0; 1 << 20], vec![0; 1 << 20]);
     let show = |what: &str, answer: urzulempa::Answer, times: (f64, f64)| {
-        println!("| {what} | {} | {} | {} | {} | {} | {:.2} |", answer.number, answer.units, answer.bytes, time(times.0), time(times.1), times.0 / times.1);
+        let limit = limit::columns(limit::of(&file, limit::EXPLAIN, answer.bytes), times.1);
+        println!(
+            "| {what} | {} | {} | {} | {} | {} | {:.2} | {limit} |",
+            answer.number,
+            answer.units,
+            answer.bytes,
+            time(times.0),
+            time(times.1),
+            times.0 / times.1
+        );
     };
     let times = both(|| keep(black_box(oracle::explain(black_box(&file), 0, &mut a))), || keep(black_box(urzulempa::explain(black_box(&file), 0, &mut b))));
     show("explain", urzulempa::explain(&file, 0, &mut b), times);
@@ -220,38 +254,17 @@ fn air() {
     show("explain_air", urzulempa::explain_air(&file, 0, &mut b), times);
 }
 
-/// How the time grows with the size of the load, in one thing at a time: what one more of it costs must not grow.
-fn growth() {
-    println!();
-    println!("| port, file to labelled graph | records | nodes | edges | time | time a record and edge |");
-    println!("|---|---|---|---|---|---|");
-    let sized = |what: &str, file: Vec<u8>| {
-        let model = oracle::Problem::read(&file).ok().and_then(|p| p.model().ok().map(|m| (m.nodes().len(), m.edge_count())));
-        let Some((nodes, edges)) = model else { return };
-        let mut list = [urzulempa::Node::default(); 128];
-        let best = (0..ROUNDS).map(|_| once(&mut || keep(black_box(urzulempa::nodes(black_box(&file), &mut list))))).fold(f64::MAX, f64::min);
-        let records = file.len() / 32;
-        println!("| {what} | {records} | {nodes} | {edges} | {} | {:.0} ns |", time(best), best / (records + edges) as f64 * 1e9);
-    };
-    for records in [128, 256, 512, 1024, 2048] {
-        sized("by records, the graph the same", padded(records));
-    }
-    for nodes in [8, 16, 32, 64, 128] {
-        sized("by nodes", generate::limits::nodes(nodes));
-    }
-    for edges in [64, 128, 256, 512, 1024] {
-        sized("by edges", generate::limits::edges(edges));
-    }
-    println!();
-    println!("| port, text by room | lines | bytes | time | time a line |");
-    println!("|---|---|---|---|---|");
-    let file = largest("dag-exploding-limit");
-    for size in [1 << 16, 1 << 18, 1 << 20, 1 << 22, 1 << 24] {
-        let mut room = vec![0; size];
-        let best = (0..ROUNDS).map(|_| once(&mut || keep(black_box(urzulempa::explain(black_box(&file), 0, &mut room))))).fold(f64::MAX, f64::min);
-        let answer = urzulempa::explain(&file, 0, &mut room);
-        println!("| exploding DAG | {} | {} | {} | {:.0} ns |", answer.units, answer.bytes, time(best), best / answer.units.max(1) as f64 * 1e9);
-    }
+/// The limits by themselves, of the files and texts above.
+fn limits() {
+    let (p7, middle, large) = (p7(), largest("world-middle"), largest("nodes-and-edges"));
+    let mut room = vec![0; 64 << 20];
+    let written = [
+        ("explanation of P7", urzulempa::explain(&p7, 0, &mut room).bytes),
+        ("graph text, largest load", urzulempa::graphviz(&large, 1, &mut room).bytes),
+        ("depth 2,079", urzulempa::explain(&made("depth-largest", 1), 0, &mut room).bytes),
+        ("exploding DAG, room of 64 MiB", urzulempa::explain(&largest("dag-exploding-limit"), 0, &mut room).bytes),
+    ];
+    limit::table(&[("P7", &p7), ("middle load", &middle), ("largest load", &large)], &written);
 }
 
 /// P7 with further clauses outside the core, up to so many records.

@@ -1,7 +1,7 @@
 //! Groups and labels alone: what the labelled graph takes beyond the graph, on loads that are easy and hard to group. Beside them
 //! a plain Rust program without fingerprints, which has the graph in hand, compares sorted edge lists, and makes no labels.
 
-use super::{both, keep, largest, once, time, ROUNDS};
+use super::{both, keep, largest, limit, once, time, ROUNDS};
 use oracle::draft::Draft;
 use std::hint::black_box;
 
@@ -12,8 +12,10 @@ const COMMON: usize = 6;
 
 pub fn table() {
     println!();
-    println!("| groups and labels alone | edges | groups | conflict.rs | port | ratio | plain Rust, groups only |");
-    println!("|---|---|---|---|---|---|---|");
+    println!("| groups and labels alone | edges | groups | conflict.rs | port | ratio | plain Rust, groups only | limit | port / limit |");
+    println!("|---|---|---|---|---|---|---|---|---|");
+    // A read of the graph's words.
+    let words = limit::reading(&[1; limit::WORDS]);
     let loads = [
         ("largest load", largest("nodes-and-edges")),
         ("126 alike", wide(|_| (COMMON, 0), 0)),
@@ -29,7 +31,8 @@ pub fn table() {
         let labelled = both(|| keep(black_box(oracle::nodes(black_box(file), &mut theirs))), || keep(black_box(urzulempa::nodes(black_box(file), &mut ours))));
         let alone = (labelled.0 - graph.0, labelled.1 - graph.1);
         let (edges, groups, plain) = by_plain(file);
-        println!("| {name} | {edges} | {groups} | {} | {} | {:.2} | {} |", time(alone.0), time(alone.1), alone.0 / alone.1, time(plain));
+        let limit = limit::columns(words, alone.1);
+        println!("| {name} | {edges} | {groups} | {} | {} | {:.2} | {} | {limit} |", time(alone.0), time(alone.1), alone.0 / alone.1, time(plain));
     }
 }
 

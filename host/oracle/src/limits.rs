@@ -3,7 +3,8 @@
 //!
 //! The function has no way to say no, so a refusal leaves it by unwinding with a payload of its
 //! own, which [`caught`] turns into an answer. `resume_unwind` runs no panic hook: nothing is
-//! printed. Nodes and edges are counted by the real graph at the moment it would grow.
+//! printed. Nodes and edges are counted by the real graph at the moment it would grow. A clause is
+//! a number here: what it says is looked at in `standins`, which leans on this file.
 
 use std::cell::{Cell, RefCell};
 use std::collections::HashSet;
@@ -11,9 +12,6 @@ use std::panic::{catch_unwind, resume_unwind, AssertUnwindSafe};
 
 use petgraph::graph::{DiGraph, NodeIndex};
 
-use crate::standins::internal::id::ClauseId;
-use crate::standins::solver::clause::Clause;
-use crate::standins::DenseIndex;
 use crate::Refusal;
 
 pub const NODES: usize = 128;
@@ -30,21 +28,21 @@ pub struct AddedBy {
     pub edges: Vec<u16>,
 }
 
-/// The core clause that `Conflict::graph` is at, and what was added so far.
+/// The number of the core clause that `Conflict::graph` is at, and what was added so far.
 #[derive(Default)]
 pub struct Progress {
-    at: Cell<Option<ClauseId>>,
+    at: Cell<Option<u16>>,
     added: RefCell<AddedBy>,
 }
 
 impl Progress {
-    pub fn enter<'c>(&self, id: ClauseId, clauses: &'c [Clause]) -> &'c Clause {
-        self.at.set(Some(id));
-        let clause = &clauses[id.to_index()];
-        if let Clause::Learnt(..) = clause {
-            resume_unwind(Box::new(Stop::Learnt));
-        }
-        clause
+    pub fn enter(&self, clause: u16) {
+        self.at.set(Some(clause));
+    }
+
+    /// The clause that was entered last is a learnt one.
+    pub fn learnt(&self) -> ! {
+        resume_unwind(Box::new(Stop::Learnt))
     }
 
     /// Called before petgraph's `remove_node`, which puts the last node where the removed one was.
@@ -53,7 +51,7 @@ impl Progress {
     }
 
     fn clause(&self) -> u16 {
-        self.at.get().map_or(NO_CLAUSE, |id| id.0)
+        self.at.get().unwrap_or(NO_CLAUSE)
     }
 }
 

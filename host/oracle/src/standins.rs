@@ -173,6 +173,18 @@ pub mod solver {
         pub kinds: Vec<Clause>,
     }
 
+    impl Clauses {
+        /// The clause that `Conflict::graph` comes to, noted as the one at hand; refusal 7 if it is learnt.
+        pub fn entered(&self, id: ClauseId, progress: &Progress) -> &Clause {
+            progress.enter(id.0);
+            let clause = &self.kinds[id.to_index()];
+            if let Clause::Learnt(..) = clause {
+                progress.learnt();
+            }
+            clause
+        }
+    }
+
     /// Record 8, by variable.
     pub struct DecisionTracker {
         pub assigned_by: Vec<Option<ClauseId>>,

@@ -12,15 +12,7 @@ use oracle::{samples, Answer};
 fn tgf(file: &[u8], room: &mut [u8]) -> Answer {
     let mut ours = room.to_vec();
     let port = urzulempa::tgf(file, &mut ours);
-    let port = Answer {
-        number: port.number,
-        place: port.place,
-        bytes: port.bytes,
-        units: port.units,
-        depth: port.depth,
-    };
-    let model = oracle::tgf(file, room);
-    assert_eq!(port, model, "the port's answer and the model's");
+    let model = common::same(oracle::tgf(file, room), port);
     assert!(ours == room, "the port leaves other bytes");
     model
 }

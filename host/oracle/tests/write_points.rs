@@ -1,5 +1,8 @@
 //! The writer of a record file (document 02, order 1), each point on the smallest rows that show it.
 
+mod common;
+
+use common::same;
 use oracle::draft::{record, Draft};
 use oracle::generate::limits::{self, holding, Table};
 use oracle::reader::{self, kind, RECORD};
@@ -12,15 +15,7 @@ type Row = [u8; RECORD];
 fn write(rows: &[u8], room: &mut [u8]) -> Answer {
     let mut ours = room.to_vec();
     let port = urzulempa::write(rows, &mut ours);
-    let answer = oracle::write(rows, room);
-    let port = Answer {
-        number: port.number,
-        place: port.place,
-        bytes: port.bytes,
-        units: port.units,
-        depth: port.depth,
-    };
-    assert_eq!(port, answer, "the port's answer and the model's");
+    let answer = same(oracle::write(rows, room), port);
     assert!(ours == room, "the port leaves another room");
     answer
 }

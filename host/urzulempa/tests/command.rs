@@ -2,11 +2,10 @@
 
 mod common;
 
-use common::{run, said};
+use common::{run, said, Ground};
 use std::fs;
 use std::io::Write;
 use std::os::unix::fs::{symlink, PermissionsExt};
-use std::path::{Path, PathBuf};
 use std::process::{Command, Stdio};
 use urzulempa::{explain, explain_plain, nodes, repaired, Node, MOST_NODES};
 
@@ -282,14 +281,6 @@ fn edition_2_shows_each_package_once_and_ends() {
     assert!(said(&out.stderr).starts_with("refused 10 at unit 2"));
 }
 
-/// A folder of its own, empty.
-fn folder(name: &str) -> PathBuf {
-    let folder = Path::new(env!("CARGO_TARGET_TMPDIR")).join(format!("{name}-{}", std::process::id()));
-    let _ = fs::remove_dir_all(&folder);
-    fs::create_dir_all(&folder).expect("a folder");
-    folder
-}
-
 /// replay.rec with some bytes set.
 fn replay(changes: &[(usize, u8)]) -> Vec<u8> {
     let mut file = REPLAY.to_vec();
@@ -299,7 +290,8 @@ fn replay(changes: &[(usize, u8)]) -> Vec<u8> {
 
 #[test]
 fn salvage_says_what_it_replaced_and_dropped_and_writes_the_rest() {
-    let folder = folder("says");
+    let ground = Ground::new("says");
+    let folder = &ground.0;
     let out = folder.join("out.rec");
     let name = out.to_str().expect("a name");
     let salvaged = |file: &[u8]| {
@@ -335,12 +327,12 @@ fn salvage_says_what_it_replaced_and_dropped_and_writes_the_rest() {
     assert_eq!(lines.len(), 4);
     assert!(lines[1].starts_with("record 12, byte 384, clause 2, is replaced: Requires(variable 2, requirement 1), in the core: it would get 3"), "{lines:?}");
     assert!(lines[3].starts_with("it still gets 9: node 1 is not reached from the root"), "{lines:?}");
-    fs::remove_dir_all(folder).expect("the folder");
 }
 
 #[test]
 fn salvage_writes_nothing_where_it_can_not_repair() {
-    let folder = folder("nothing");
+    let ground = Ground::new("nothing");
+    let folder = &ground.0;
     let out = folder.join("out.rec");
     let name = out.to_str().expect("a name");
     for (file, wanted) in [
@@ -359,17 +351,17 @@ fn salvage_writes_nothing_where_it_can_not_repair() {
             assert!(err.starts_with(wanted) && err.contains(&format!("{name} is not written: ")), "{err}");
             assert_eq!(fs::read(&out).ok().as_deref(), old);
         }
-        assert_eq!(fs::read_dir(&folder).expect("the folder").count(), 1);
+        assert_eq!(fs::read_dir(folder).expect("the folder").count(), 1);
     }
     // The record that stops it is decoded, as elsewhere.
     let err = said(&run(&["salvage", "-", "-o", name], &replay(&[(5 * 32 + 4, 9)])).stderr);
     assert!(err.contains("record 5: candidate: requirement 0, solvable 9; solvable 9 is not defined yet; 2 solvables are"), "{err}");
-    fs::remove_dir_all(folder).expect("the folder");
 }
 
 #[test]
 fn salvage_does_not_write_over_its_input_by_any_name_without_force() {
-    let folder = folder("over");
+    let ground = Ground::new("over");
+    let folder = &ground.0;
     let at = |name: &str| folder.join(name).to_str().expect("a name").to_owned();
     let damaged = replay(&[(11 * 32 + 1, 7)]);
     let lay = || {
@@ -408,13 +400,13 @@ fn salvage_does_not_write_over_its_input_by_any_name_without_force() {
     let ran = Command::new(env!("CARGO_BIN_EXE_urzulempa")).args(["salvage", "-", "-o", &at("soft.rec")]).stdin(stdin).output().expect("it runs");
     assert_eq!((ran.status.code(), fs::read(at("in.rec")).expect("a file")), (Some(1), damaged.clone()));
     assert!(said(&ran.stderr).contains("is standard input itself"));
-    assert_eq!(fs::read_dir(&folder).expect("the folder").count(), 4);
-    fs::remove_dir_all(folder).expect("the folder");
+    assert_eq!(fs::read_dir(folder).expect("the folder").count(), 4);
 }
 
 #[test]
 fn salvage_replaces_files_only_and_keeps_their_permissions() {
-    let folder = folder("kept");
+    let ground = Ground::new("kept");
+    let folder = &ground.0;
     let at = |name: &str| folder.join(name).to_str().expect("a name").to_owned();
     fs::write(at("out.rec"), "old").expect("a file");
     for mode in [0o600, 0o644, 0o660] {
@@ -427,11 +419,10 @@ fn salvage_replaces_files_only_and_keeps_their_permissions() {
         let ran = run(&["salvage", "-", "-o", &name], REPLAY);
         assert_eq!((ran.status.code(), ran.stdout.len()), (Some(1), 0), "{name}");
     }
-    assert_eq!(fs::read_dir(&folder).expect("the folder").count(), 2);
+    assert_eq!(fs::read_dir(folder).expect("the folder").count(), 2);
     // A name without a folder means the one where the command runs.
-    let ran = Command::new(env!("CARGO_BIN_EXE_urzulempa")).args(["salvage", "out.rec", "-o", "new.rec"]).current_dir(&folder).output().expect("it runs");
+    let ran = Command::new(env!("CARGO_BIN_EXE_urzulempa")).args(["salvage", "out.rec", "-o", "new.rec"]).current_dir(folder).output().expect("it runs");
     assert_eq!((ran.status.code(), fs::read(at("new.rec")).expect("a file").as_slice()), (Some(0), REPLAY));
-    fs::remove_dir_all(folder).expect("the folder");
 }
 
 #[test]

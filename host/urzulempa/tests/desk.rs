@@ -2,7 +2,7 @@
 
 mod common;
 
-use common::{run, said};
+use common::{run, said, Ground};
 use std::ffi::{OsStr, OsString};
 use std::fs::{self, File};
 use std::io::Read;
@@ -33,35 +33,9 @@ fn listed(list: &str) -> Vec<u8> {
     make(list.as_bytes()).unwrap_or_else(|faults| panic!("{faults:?}"))
 }
 
-/// A folder of its own, empty, which goes with the test.
-struct Ground(PathBuf);
-
-impl Ground {
-    fn new(name: &str) -> Self {
-        let folder = Path::new(env!("CARGO_TARGET_TMPDIR")).join(format!("desk-{name}-{}", std::process::id()));
-        let _ = fs::remove_dir_all(&folder);
-        fs::create_dir_all(&folder).expect("a folder");
-        Ground(folder)
-    }
-
-    fn lay(&self, name: impl AsRef<OsStr>, bytes: &[u8]) {
-        fs::write(self.0.join(name.as_ref()), bytes).expect("a file");
-    }
-
-    /// The command with its words, run in the folder.
-    fn command(&self, words: &[&OsStr]) -> Output {
-        Command::new(COMMAND).args(words).current_dir(&self.0).stdin(Stdio::null()).output().expect("it runs")
-    }
-
-    fn ran(&self, words: &[&str]) -> (i32, String, String) {
-        told(&self.command(&words.iter().map(OsStr::new).collect::<Vec<_>>()))
-    }
-}
-
-impl Drop for Ground {
-    fn drop(&mut self) {
-        let _ = fs::remove_dir_all(&self.0);
-    }
+/// The same in a folder, with nothing on standard input.
+fn ran_in(ground: &Ground, words: &[&str]) -> (i32, String, String) {
+    told(&ground.run(words, &[]))
 }
 
 /// A load whose text doubles with each step: `steps` pairs of packages, each of which needs the next pair.
@@ -278,7 +252,7 @@ fn on_a_terminal_the_room_is_what_a_person_can_use() {
     // A season prints no text, and its report is the same wherever it is shown; a line of progress may stand before it.
     let words = [OsStr::new("season"), path.as_os_str()];
     let (status, shown) = on_terminal(&words, &[]);
-    let table = ground.command(&words).stdout;
+    let table = ground.run_any(&words, &[]).stdout;
     assert!(status == 0 && said(&table).contains("\ndone ") && !said(&table).contains("\n  10 ") && shown.ends_with(&table), "{}", said(&shown));
 }
 
@@ -369,21 +343,21 @@ fn a_name_need_not_be_utf_8() {
     let word = OsStr::new;
     ground.lay(&odd, REPLAY);
     let text = run(&["explain", "-"], REPLAY).stdout;
-    assert_eq!(ground.command(&[word("explain"), &odd]).stdout, text);
+    assert_eq!(ground.run_any(&[word("explain"), &odd], &[]).stdout, text);
     let out = OsString::from_vec(b"\xfe.rec".to_vec());
-    assert_eq!(ground.command(&[word("salvage"), &odd, word("-o"), &out]).status.code(), Some(0));
+    assert_eq!(ground.run_any(&[word("salvage"), &odd, word("-o"), &out], &[]).status.code(), Some(0));
     assert_eq!(fs::read(ground.0.join(&out)).expect("a file"), REPLAY);
     let set = OsString::from_vec(b"\xfd.set".to_vec());
-    assert_eq!(ground.command(&[word("settings"), &set, word("indent"), word("0")]).status.code(), Some(0));
+    assert_eq!(ground.run_any(&[word("settings"), &set, word("indent"), word("0")], &[]).status.code(), Some(0));
     let mut joined = b"--settings=".to_vec();
     joined.extend(set.as_bytes());
-    let flat = ground.command(&[word("explain"), &odd, OsStr::from_bytes(&joined)]);
+    let flat = ground.run_any(&[word("explain"), &odd, OsStr::from_bytes(&joined)], &[]);
     assert_eq!(flat.stdout, run(&["explain", "-", "--no-indent"], REPLAY).stdout);
     // One that is not there is told as far as it can be, and a text that no file has means nothing.
     let none = OsString::from_vec(b"\xfc".to_vec());
-    assert_eq!(told(&ground.command(&[word("check"), &none])).0, 1);
-    assert_eq!(told(&ground.command(&[word("what-if"), &odd, &none, word("#0")])).0, 2);
-    assert_eq!(told(&ground.command(&[&none])).0, 64);
+    assert_eq!(told(&ground.run_any(&[word("check"), &none], &[])).0, 1);
+    assert_eq!(told(&ground.run_any(&[word("what-if"), &odd, &none, word("#0")], &[])).0, 2);
+    assert_eq!(told(&ground.run_any(&[&none], &[])).0, 64);
 }
 
 #[test]
@@ -393,10 +367,10 @@ fn two_hyphens_end_the_options_and_a_value_may_stand_behind_its_option() {
     ground.lay("-h", REPLAY);
     let text = said(&run(&["explain", "-"], REPLAY).stdout);
     for words in [&["explain", "--", "--room"][..], &["explain", "--", "-h"], &["explain", "--room=1000", "--", "-h"]] {
-        assert_eq!(ground.ran(words), (0, text.clone(), String::new()), "{words:?}");
+        assert_eq!(ran_in(&ground, words), (0, text.clone(), String::new()), "{words:?}");
     }
-    assert_eq!(ground.ran(&["explain", "./--room", "--room=154", "--no-indent"]).0, 2);
-    assert_eq!(ground.ran(&["explain", "./--room", "--room=155", "--no-indent"]).0, 0);
+    assert_eq!(ran_in(&ground, &["explain", "./--room", "--room=154", "--no-indent"]).0, 2);
+    assert_eq!(ran_in(&ground, &["explain", "./--room", "--room=155", "--no-indent"]).0, 0);
     assert_eq!(ran(&["explain", "-", "--edition=2"], DECK_PANEL), ran(&["explain", "-", "--edition", "2"], DECK_PANEL));
     assert_eq!(ran(&["edges", "-", "--", "--json"], RACK), (0, String::new(), "--json: the file has no such package\n".into()));
     for (words, why) in [
@@ -467,21 +441,21 @@ fn several_files_have_the_worst_status_and_each_its_name() {
     ground.lay("good.rec", REPLAY);
     ground.lay("ring.rec", DECK_PANEL);
     ground.lay("cut.rec", &REPLAY[..33]);
-    assert_eq!(ground.ran(&["check", "good.rec", "ring.rec"]), (0, String::new(), String::new()));
-    let (status, out, err) = ground.ran(&["check", "good.rec", "none.rec", "ring.rec"]);
+    assert_eq!(ran_in(&ground, &["check", "good.rec", "ring.rec"]), (0, String::new(), String::new()));
+    let (status, out, err) = ran_in(&ground, &["check", "good.rec", "none.rec", "ring.rec"]);
     assert_eq!((status, out.as_str(), err.as_str()), (1, "", "urzulempa: none.rec: No such file or directory (os error 2)\n"));
-    let (status, _, err) = ground.ran(&["check", "cut.rec", "none.rec", "good.rec"]);
+    let (status, _, err) = ran_in(&ground, &["check", "cut.rec", "none.rec", "good.rec"]);
     assert_eq!(status, 2);
     let lines: Vec<&str> = err.lines().collect();
     assert!(lines[0].starts_with("cut.rec: refused 1 at the whole file") && lines[1] == "cut.rec: it has 33 bytes", "{err}");
     assert_eq!(lines.last(), Some(&"urzulempa: none.rec: No such file or directory (os error 2)"));
     // The texts one behind the other, with nothing between them on standard output.
-    let alone = |name: &str| ground.ran(&["explain", name]);
-    let (status, out, err) = ground.ran(&["explain", "good.rec", "ring.rec", "good.rec"]);
+    let alone = |name: &str| ran_in(&ground, &["explain", name]);
+    let (status, out, err) = ran_in(&ground, &["explain", "good.rec", "ring.rec", "good.rec"]);
     assert_eq!((status, out), (2, [alone("good.rec").1, alone("ring.rec").1, alone("good.rec").1].concat()));
     let said: String = alone("ring.rec").2.lines().map(|line| format!("ring.rec: {line}\n")).collect();
     assert_eq!(err, format!("good.rec:\nring.rec:\n{said}good.rec:\n"));
-    assert_eq!(ground.ran(&["graph", "good.rec", "ring.rec"]).0, 64);
+    assert_eq!(ran_in(&ground, &["graph", "good.rec", "ring.rec"]).0, 64);
 }
 
 #[test]

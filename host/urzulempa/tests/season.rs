@@ -56,7 +56,7 @@ fn the_readme_shows_what_is_printed() {
 fn a_table_of_files_in_the_order_given() {
     let ground = Ground::new("table");
     for (name, file) in [("deck-panel.rec", RING), ("lone.rec", LONE), ("rack.rec", RACK), ("replay.rec", REPLAY), ("cut.rec", &REPLAY[..100])] {
-        ground.lay(&format!("friday/{name}"), file);
+        ground.lay(format!("friday/{name}"), file);
     }
     let wanted = "\
 files        5
@@ -99,7 +99,7 @@ fn a_folders_files_go_by_name_and_its_folders_where_their_names_stand() {
     let ground = Ground::new("order");
     // Of equal depth the first in order is named.
     for name in ["b", "a/z", "a/y/x", "c"] {
-        ground.lay(&format!("all/{name}"), REPLAY);
+        ground.lay(format!("all/{name}"), REPLAY);
     }
     let first = |words: &[&str]| {
         let printed = ground.ran(&[&["season"], words].concat(), &[]).1;
@@ -128,7 +128,7 @@ fn mixed(ground: &Ground) {
         }
         let name = format!("all/{:02}/{index:04}.rec", index / 100);
         if index % 97 == 13 {
-            ground.lay(&format!("all/{:02}/keep", index / 100), LONE);
+            ground.lay(format!("all/{:02}/keep", index / 100), LONE);
             symlink("nowhere", ground.0.join(&name)).expect("a link");
         } else {
             ground.lay(&name, &file);
@@ -561,7 +561,7 @@ fn on_terminal(ground: &Ground, words: &[&str], until: &str) -> (String, String)
 fn progress_is_shown_on_a_terminal_alone() {
     let ground = Ground::new("progress");
     for index in 0..70 {
-        ground.lay(&format!("all/{index:02}"), RACK);
+        ground.lay(format!("all/{index:02}"), RACK);
     }
     // The last file comes late: what is going on is shown meanwhile, then taken away.
     let words = ["season", "all", "-", "--jobs", "1"];

@@ -1,6 +1,7 @@
 //! The command as a person runs it, for the tests of its calls.
 #![allow(dead_code)] // not every test uses all of it
 
+use std::ffi::OsStr;
 use std::fs;
 use std::io::Write;
 use std::path::{Path, PathBuf};
@@ -8,13 +9,13 @@ use std::process::{Command, Output, Stdio};
 
 /// The command with these words, and `input` on standard input.
 pub fn run(words: &[&str], input: &[u8]) -> Output {
-    let mut child = Command::new(env!("CARGO_BIN_EXE_urzulempa"))
-        .args(words)
-        .stdin(Stdio::piped())
-        .stdout(Stdio::piped())
-        .stderr(Stdio::piped())
-        .spawn()
-        .expect("the command starts");
+    let mut command = Command::new(env!("CARGO_BIN_EXE_urzulempa"));
+    command.args(words);
+    ended(command, input)
+}
+
+fn ended(mut command: Command, input: &[u8]) -> Output {
+    let mut child = command.stdin(Stdio::piped()).stdout(Stdio::piped()).stderr(Stdio::piped()).spawn().expect("the command starts");
     // A command that wants no file does not read it.
     let _ = child.stdin.take().expect("a pipe").write_all(input);
     child.wait_with_output().expect("the command ends")
@@ -36,16 +37,23 @@ impl Ground {
     }
 
     pub fn command(&self, words: &[&str]) -> Command {
+        let words: Vec<&OsStr> = words.iter().map(OsStr::new).collect();
+        self.command_any(&words)
+    }
+
+    /// Words need not be UTF-8.
+    fn command_any(&self, words: &[&OsStr]) -> Command {
         let mut command = Command::new(env!("CARGO_BIN_EXE_urzulempa"));
         command.args(words).current_dir(&self.0).stdin(Stdio::piped()).stdout(Stdio::piped()).stderr(Stdio::piped());
         command
     }
 
     pub fn run(&self, words: &[&str], input: &[u8]) -> Output {
-        let mut child = self.command(words).spawn().expect("the command starts");
-        // A command that wants no input does not read it.
-        let _ = child.stdin.take().expect("a pipe").write_all(input);
-        child.wait_with_output().expect("the command ends")
+        ended(self.command(words), input)
+    }
+
+    pub fn run_any(&self, words: &[&OsStr], input: &[u8]) -> Output {
+        ended(self.command_any(words), input)
     }
 
     /// Status, and what was printed and said.
@@ -54,7 +62,7 @@ impl Ground {
         (out.status.code(), said(&out.stdout), said(&out.stderr))
     }
 
-    pub fn lay(&self, name: &str, bytes: &[u8]) {
+    pub fn lay(&self, name: impl AsRef<Path>, bytes: &[u8]) {
         let path = self.0.join(name);
         fs::create_dir_all(path.parent().expect("a folder")).expect("a folder");
         fs::write(path, bytes).expect("a file");
