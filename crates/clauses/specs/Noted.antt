@@ -6,7 +6,7 @@ use Rattle.basis.specs.Members.{All}
 use Rattle.store.specs.declared.Edge.{Edge}
 use Rattle.store.specs.Graph.{Graph}
 use Rattle.expansion.specs.Expand.{Build}
-use Rattle.graph.specs.Graphs.{Turned, go, halt}
+use Rattle.graph.specs.Working.{TurnedSoFar, goTo, haltAt}
 
 -- h is g with more at the end, all of it noted with the clause at hand in g
 pub record Noted (g h : Graph) : Type 0 where
@@ -19,6 +19,6 @@ pub record Noted (g h : Graph) : Type 0 where
   pub firsts-noted : All (λ c. c ≡ g .hand) firsts
 
 -- the graph as far as a turn came
-abbrev pub turnedGraph : Turned → Graph
-turnedGraph (go b) = b .graph
-turnedGraph (halt k g) = g
+abbrev pub turnedGraph : TurnedSoFar → Graph
+turnedGraph (goTo b) = b .graph
+turnedGraph (haltAt k g) = g

@@ -15,7 +15,7 @@ use Rattle.basis.specs.Lists.{filter, upto}
 use Rattle.basis.specs.Members.{In, split, either, in-filter, filter-in}
 use Rattle.store.specs.Graph.{Graph, nodeAt, isSolvable}
 use Rattle.groups.specs.Groups.{sort, outKeys, inKeys, mergesBy, titleOf, matesBy, headOr, mates}
-use Rattle.groups.specs.Small.{eq-refl}
+use Rattle.groups.specs.Small.{eq-refl, keys-refl}
 use Rattle.groups.specs.Counts.{same-mates}
 use Rattle.drawing.specs.Draw.{markOf}
 
@@ -104,7 +104,8 @@ module _ (name : ℕ → List ℕ) (G : Graph) where
   unfolding mates matesBy mergesBy
   self n h s =
       filter-in (λ k. mergesBy (titleOf name G) G k n) n (upto (length (G .nodes)) 0)
-      (rw (s, eq-refl (titleOf name G n), eq-refl (sort (inKeys G n)), eq-refl (sort (outKeys G n)))) (upto-in (length (G .nodes)) 0 n (omega arith) (omega arith))
+      (rw (s, eq-refl (titleOf name G n), keys-refl (sort (inKeys G n)), keys-refl (sort (outKeys G n))))
+      (upto-in (length (G .nodes)) 0 n (omega arith) (omega arith))
 
   lead-least : (n x : ℕ) → In x (mates name G n) → lead n ≤ x
   unfolding mates matesBy

@@ -15,8 +15,10 @@ use Rattle.triples.specs.Hashed.{tripleOf, Triples, madeIn, lastIn, held}
 use Rattle.expansion.specs.declared.Work.{Work}
 use Rattle.expansion.specs.declared.Progress.{Progress}
 use Rattle.expansion.specs.declared.Progress.the-variants as P
-use Rattle.expansion.specs.Expand.{Build, Step, on, stop}
-use Rattle.expansion.specs.Pairing.{buildIn, Holds, Expanded}
+use Rattle.expansion.specs.Expand.{Build}
+use Rattle.expansion.specs.Working.{StepSoFar, onTo, stopAt}
+use Rattle.expansion.specs.Lasts.{lasts-one}
+use Rattle.expansion.specs.State.{buildIn, Holds, Expanded}
 
 made-count : (tr w : List ℕ) (n : ℕ) → Triples tr w n → length (madeIn tr n) ≡ n
 unfolding madeIn
@@ -32,22 +34,22 @@ work-one g h tr us w m k j H I e =
     worked : Size → ℕ → Work
     worked s n = record { size = s; triples = n }
 
-module _ (X : Step) (g h tr us w m : List ℕ) where
+module _ (X : StepSoFar) (g h tr us w m : List ℕ) where
   pub expanded-one : (r q : Progress) → Expanded X g tr w r → Expanded X h us m q → (r ≡ q) × (g ≡ h)
   expanded-one (P.On k) (P.On j) R Q =
-      let z : on (buildIn g tr w k) ≡ on (buildIn h us m j) = R .is ∙ sym (Q .is) in
+      let z : onTo (buildIn g tr w k) ≡ onTo (buildIn h us m j) = R .is ∙ sym (Q .is) in
       let e : buildIn g tr w k ≡ buildIn h us m j = cc in
       (ap P.On (work-one g h tr us w m k j (R .holds) (Q .holds) e), table-one g h (k .size) (j .size) (R .holds .growing .stored) (Q .holds .growing .stored) (ap (λ (b : Build). b .graph) e))
   expanded-one (P.Full s) (P.Full t) R Q =
-      let z : stop (graphIn g s) ≡ stop (graphIn h t) = R .is ∙ sym (Q .is) in
+      let z : stopAt (graphIn g s) ≡ stopAt (graphIn h t) = R .is ∙ sym (Q .is) in
       let e : graphIn g s ≡ graphIn h t = cc in
       (ap P.Full (size-one g h s t (R .holds .stored) (Q .holds .stored) e), table-one g h s t (R .holds .stored) (Q .holds .stored) e)
-  expanded-one (P.On k) (P.Full t) R Q = let z : on (buildIn g tr w k) ≡ stop (graphIn h t) = R .is ∙ sym (Q .is) in clash (cc)
-  expanded-one (P.Full s) (P.On j) R Q = let z : stop (graphIn g s) ≡ on (buildIn h us m j) = R .is ∙ sym (Q .is) in clash (cc)
+  expanded-one (P.On k) (P.Full t) R Q = let z : onTo (buildIn g tr w k) ≡ stopAt (graphIn h t) = R .is ∙ sym (Q .is) in clash (cc)
+  expanded-one (P.Full s) (P.On j) R Q = let z : stopAt (graphIn g s) ≡ onTo (buildIn h us m j) = R .is ∙ sym (Q .is) in clash (cc)
 
   -- the triples made, and the last solvable of each name, where it goes on
   pub expanded-made : (k j : Work) → Expanded X g tr w (P.On k) → Expanded X h us m (P.On j) → (madeIn tr (k .triples) ≡ madeIn us (j .triples)) × (lastIn w ≡ lastIn m)
   expanded-made k j R Q =
-      let z : on (buildIn g tr w k) ≡ on (buildIn h us m j) = R .is ∙ sym (Q .is) in
+      let z : onTo (buildIn g tr w k) ≡ onTo (buildIn h us m j) = R .is ∙ sym (Q .is) in
       let e : buildIn g tr w k ≡ buildIn h us m j = cc in
-      (ap (λ (b : Build). b .made) e, ap (λ (b : Build). b .last) e)
+      (ap (λ (b : Build). b .made) e, lasts-one w m (ap (λ (b : Build). b .last) e))

@@ -2,7 +2,8 @@
 -- document 01, "Graph rules").
 use mathlib.Core.Bool.{Bool, true, false}
 use mathlib.Core.List.{List, [], _∷_, map}
-use Prim.Native.Nat.{ℕ, zero, suc}
+use mathlib.Core.Option.{Option, none, some}
+use Prim.Native.Nat.{ℕ}
 use lib.ListN.{getD, set, replicate}
 use Rattle.basis.specs.Lists.{any, snoc}
 use Rattle.records.specs.declared.Clause.{Clause}
@@ -17,38 +18,38 @@ use Rattle.store.specs.Graph.{Graph, startGraph, Added, added, full, addNode, a
 use Rattle.triples.specs.Triple.{Triple, triple, sameTriple}
 use Rattle.linking.specs.declared.Party.{Party}
 use Rattle.linking.specs.declared.Party.the-variants.{Node, Neither}
-use Rattle.linking.specs.Links.{partyOf, solvableIn, nameIn, parentReason, excludedReason, partnersOr, requirers, Linked, more, short, linkAll, requiresOf, excludedLinks, lockLinks, constrainsLinks, forbidAll}
+use Rattle.linking.specs.Links.{partyOf, solvableIn, nameIn, parentReason, excludedReason, partnersOr, requirers}
+use Rattle.linking.specs.Links.{Linked, more, short, linkAll, requiresOf, excludedLinks, lockLinks, constrainsLinks, forbidAll}
 use Rattle.expansion.specs.declared.Side.{Side}
 use Rattle.expansion.specs.declared.Side.the-variants.{Parent, Candidate}
 
 -- ---- building
 
--- the graph so far, the last solvable + 1 under each forbidden name (`last_node_by_name`), and the triples made (`constrains_edges`):
--- conflict.rs, lines 50, 57 and 163
+-- the graph so far, by a name's number the last solvable under that forbidden name, if there is one (`last_node_by_name`), and the
+-- triples made (`constrains_edges`): conflict.rs, lines 50, 57 and 163
 pub record Build : Type 0 where
   pub graph : Graph
-  pub last : List ℕ
+  pub last : List (Option ℕ)
   pub made : List Triple
 
 -- what the loop begins with (conflict.rs, lines 50 to 57 and 163): root and unresolved, no name, no triple
 abbrev pub startBuild : Build
-startBuild = record { graph = startGraph; last = replicate 128 0; made = [] }
+startBuild = record { graph = startGraph; last = replicate 128 none; made = [] }
 
--- what a clause leads to in `expandBy`: the build goes on, or there is no room
+-- what a clause leads to in `expandBy`: the build goes on; or 8, "node 129 or edge 1,025 would be added"
 pub data Step : Type 0 where
   on : Build → Step
-  -- 8, with the graph as far as it came
-  stop : Graph → Step
+  stop : Step
 
 -- the links of a clause that touches nothing else, in `expandBy`
 abbrev pub kept : Build → Linked → Step
 kept b (more g) = on (record { graph = g; last = b .last; made = b .made })
-kept b (short g) = stop g
+kept b short = stop
 
 -- "Each triple .. makes one edge" (`constrains_edges.insert`, conflict.rs, lines 291 and 319)
 abbrev pub noted : Build → Triple → Added → Step
 noted b t (added i g) = on (record { graph = g; last = b .last; made = snoc (b .made) t })
-noted b t (full g) = stop g
+noted b t full = stop
 
 -- "Each triple (parent, candidate, version set of the clause at hand) from clauses 23 and 24 makes one edge"
 unfoldable pub once : Build → Triple → Step
@@ -63,7 +64,7 @@ once b t =
 unfoldable pub onceAll : List Triple → Build → Step
 unfolding once
 onceAll [] b = on b
-onceAll (t ∷ rest) b = elim (once b t) [ stop g ↦ stop g | on c ↦ onceAll rest c ]
+onceAll (t ∷ rest) b = elim (once b t) [ stop ↦ stop | on c ↦ onceAll rest c ]
 
 -- "(parent, candidate, version set of the clause at hand)": the clause's own node, and one of the other side
 abbrev pub tripleBy : Side → ConflictNode → ℕ → ConflictNode → Triple
@@ -88,14 +89,14 @@ pairAll T side b v (Node n) d = onceAll (triplesOf side n v (others T side b)) d
 
 -- the solvable is now the last one under the name (`last_node_by_name.insert`, conflict.rs, line 255)
 abbrev pub lastly : Build → ℕ → ℕ → Linked → Step
-lastly b n s (more g) = on (record { graph = g; last = set (b .last) n (suc s); made = b .made })
-lastly b n s (short g) = stop g
+lastly b n s (more g) = on (record { graph = g; last = set (b .last) n (some s); made = b .made })
+lastly b n s short = stop
 
 -- solvable and forbidden name, where the variables name them (conflict.rs, lines 243 to 263)
 abbrev pub forbidIn : Build → List ℕ → List ℕ → Step
 forbidIn b [] ns = on b
 forbidIn b (s ∷ ss) [] = on b
-forbidIn b (s ∷ ss) (n ∷ ns) = lastly b n s (forbidAll (b .graph) (getD (b .last) n 0) s)
+forbidIn b (s ∷ ss) (n ∷ ns) = lastly b n s (forbidAll (b .graph) (getD (b .last) n none) s)
 
 -- "ForbidMultipleInstances links the previous solvable under that forbidden name to this one."
 unfoldable pub forbid : Tables → ℕ → ℕ → Build → Step

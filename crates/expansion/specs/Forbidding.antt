@@ -4,7 +4,6 @@ use mathlib.Core.Path.{_≡_, refl, sym, ap, _∙_}
 use mathlib.Core.List.{List, [], _∷_}
 use mathlib.Core.Option.{Option, none, some}
 use Prim.Native.Nat.{ℕ, zero, suc, _+_, _<_, _≤_}
-use native.Mathlib.Numerals.{add-one}
 use native.Mathlib.Omega.{arith}
 use lib.ListN.{length, getD, set, List·getD-eq-default}
 use lib.Dec.{ltb}
@@ -28,17 +27,20 @@ use Rattle.index.specs.Found.{loaded-valid}
 use Rattle.store.specs.declared.Size.{Size}
 use Rattle.store.specs.Graph.{Graph}
 use Rattle.store.specs.Table.{graphIn, Growing, edges-count}
-use Rattle.triples.specs.Hashed.{lastIn, last-put, triples-put}
+use Rattle.triples.specs.Hashed.{lastIn, triples-put}
 use Rattle.linking.specs.declared.Grown.{Grown}
 use Rattle.linking.specs.declared.Grown.the-variants as G
-use Rattle.linking.specs.Links.{solvableIn, nameIn, Link, Linked, more, short, linkAll, requiresOf, requirers, excludedLinks, lockLinks, constrainsLinks, forbidAll}
+use Rattle.linking.specs.Links.{solvableIn, nameIn, Link, requiresOf, requirers, excludedLinks, lockLinks, constrainsLinks}
+use Rattle.linking.specs.Working.{LinkedSoFar, moreTo, shortAt, linkAllIn, forbidAllIn, lastBy}
 use Rattle.linking.specs.Growth.{grownIn, Grew, edges-all, edges-forbid}
 use Rattle.expansion.specs.declared.Work.{Work}
 use Rattle.expansion.specs.declared.Progress.{Progress}
 use Rattle.expansion.specs.declared.Progress.the-variants as P
 use Rattle.expansion.specs.declared.Side.the-variants.{Parent, Candidate}
-use Rattle.expansion.specs.Expand.{Build, Step, on, stop, kept, lastly, forbid, forbidIn, pair, expand}
-use Rattle.expansion.specs.Pairing.{buildIn, Holds, progressIn, HoldsIn, Expanded}
+use Rattle.expansion.specs.Expand.{Build}
+use Rattle.expansion.specs.Working.{StepSoFar, onTo, stopAt, keptIn, lastlyIn, forbidClauseIn, forbidNamedIn, pairIn, expandIn}
+use Rattle.expansion.specs.Lasts.{lastsIn, lasts-read, lasts-put}
+use Rattle.expansion.specs.State.{buildIn, Holds, progressIn, HoldsIn, Expanded}
 
 -- ---- what a variable names is below its table's count
 
@@ -124,91 +126,91 @@ widen-full k r s e = ap (widened k) (sym e)
 pub ruleset widens = (widen-on, widen-full)
 
 module _ (g tr w h : List ℕ) (k : Work) (H : Holds g tr w k) where
-  fewer : (s : Size) (W : Linked) → more (graphIn h s) ≡ W → Growing h s → ((j : Graph) → W ≡ more j → length (graphIn g (k .size) .edges) ≤ length (j .edges)) → k .triples ≤ s .edges
+  fewer : (s : Size) (W : LinkedSoFar) → moreTo (graphIn h s) ≡ W → Growing h s → ((j : Graph) → W ≡ moreTo j → length (graphIn g (k .size) .edges) ≤ length (j .edges)) → k .triples ≤ s .edges
   fewer s W q P f =
       omega (arith, f (graphIn h s) (sym q), edges-count h s (P .stored), edges-count g (k .size) (H .growing .stored), H .few)
 
   -- the links ls went in
-  pub links-done : (ls : List Link) (r : Grown) (d : Progress) → Grew (linkAll ls (graphIn g (k .size))) h r → d ≡ widened k r → Expanded (kept (buildIn g tr w k) (linkAll ls (graphIn g (k .size)))) h tr w d
+  pub links-done : (ls : List Link) (r : Grown) (d : Progress) → Grew (linkAllIn ls (graphIn g (k .size))) h r → d ≡ widened k r → Expanded (keptIn (buildIn g tr w k) (linkAllIn ls (graphIn g (k .size)))) h tr w d
   links-done ls (G.On s) d R q =
       rw q
       (record {
-        is = ap (kept (buildIn g tr w k)) (R .is);
-        holds = record { growing = R .growing; triples = H .triples; few = fewer s (linkAll ls (graphIn g (k .size))) (R .is) (R .growing) (λ j e. edges-all ls (graphIn g (k .size)) j e) };
+        is = ap (keptIn (buildIn g tr w k)) (R .is);
+        holds = record { growing = R .growing; triples = H .triples; few = fewer s (linkAllIn ls (graphIn g (k .size))) (R .is) (R .growing) (λ j e. edges-all ls (graphIn g (k .size)) j e) };
       })
-  links-done ls (G.Full s) d R q = rw q (record { is = ap (kept (buildIn g tr w k)) (R .is); holds = R .growing })
+  links-done ls (G.Full s) d R q = rw q (record { is = ap (keptIn (buildIn g tr w k)) (R .is); holds = R .growing })
 
-  -- p, the last solvable + 1 under name n, was linked to s, which is the last one now
-  last-done : (p n s : ℕ) (l : List ℕ) (r : Grown) → Grew (forbidAll (graphIn g (k .size)) p s) h r → n < 128 → l ≡ set w (3072 + n) (s + 1) → Expanded (lastly (buildIn g tr w k) n s (forbidAll (graphIn g (k .size)) p s)) h tr l (widened k r)
+  -- p, the last solvable under name n as the table holds it, was linked to s, which is the last one now
+  last-done : (p n s : ℕ) (l : List ℕ) (r : Grown) → Grew (forbidAllIn (graphIn g (k .size)) (lastBy p) s) h r → n < 128 → l ≡ set w (3072 + n) (s + 1) → Expanded (lastlyIn (buildIn g tr w k) n s (forbidAllIn (graphIn g (k .size)) (lastBy p) s)) h tr l (widened k r)
   last-done p n s l (G.On z) R f q =
-      let m : lastIn l ≡ set (lastIn w) n (suc s) = rw (add-one s) at (last-put w l n (s + 1) q f) in
+      let m : lastsIn l ≡ set (lastsIn w) n (some s) = lasts-put w l n s q f in
       record {
         is = rw (← (R .is), m);
-        holds = record { growing = R .growing; triples = triples-put tr w l (k .triples) n (s + 1) (H .triples) q f; few = fewer z (forbidAll (graphIn g (k .size)) p s) (R .is) (R .growing) (λ j e. edges-forbid (graphIn g (k .size)) j p s e) };
+        holds = record { growing = R .growing; triples = triples-put tr w l (k .triples) n (s + 1) (H .triples) q f; few = fewer z (forbidAllIn (graphIn g (k .size)) (lastBy p) s) (R .is) (R .growing) (λ j e. edges-forbid (graphIn g (k .size)) j (lastBy p) s e) };
       }
   last-done p n s l (G.Full z) R f q = record { is = rw (← (R .is)); holds = R .growing }
 
 -- ---- the ways of a ForbidMultipleInstances: a, b its variables, o, u their origins
 
 module _ (T : Tables) (a b : ℕ) (o : Origin) (q : o ≡ originOf T a) (g tr w : List ℕ) (k : Work) (H : Holds g tr w k) where
-  pub forbid-skip : solvableIn o ≡ [] → Expanded (forbid T a b (buildIn g tr w k)) g tr w (P.On k)
-  unfolding forbid
+  pub forbid-skip : solvableIn o ≡ [] → Expanded (forbidClauseIn T a b (buildIn g tr w k)) g tr w (P.On k)
+  unfolding forbidClauseIn
   forbid-skip e = record { is = rw (← q, e); holds = H }
 
-  pub forbid-unnamed : (u : Origin) (n : ℕ) → u ≡ originOf T b → o ≡ O.Solvable n → nameIn u ≡ [] → Expanded (forbid T a b (buildIn g tr w k)) g tr w (P.On k)
-  unfolding forbid
+  pub forbid-unnamed : (u : Origin) (n : ℕ) → u ≡ originOf T b → o ≡ O.Solvable n → nameIn u ≡ [] → Expanded (forbidClauseIn T a b (buildIn g tr w k)) g tr w (P.On k)
+  unfolding forbidClauseIn
   forbid-unnamed u n z e f = record { is = rw (← q, ← z, e, f); holds = H }
 
   -- m′ is the name's number as an index
-  pub forbid-done : (u : Origin) (n m m′ p : ℕ) (h l : List ℕ) (r : Grown) (d : Progress) → u ≡ originOf T b → o ≡ O.Solvable n → u ≡ O.ForbidMultiple m → m′ ≡ m → m′ < 128 → p ≡ getD (lastIn w) m′ 0 → Grew (forbidAll (graphIn g (k .size)) p n) h r → l ≡ set w (3072 + m′) (n + 1) → d ≡ widened k r → Expanded (forbid T a b (buildIn g tr w k)) h tr l d
-  unfolding forbid
+  pub forbid-done : (u : Origin) (n m m′ p : ℕ) (h l : List ℕ) (r : Grown) (d : Progress) → u ≡ originOf T b → o ≡ O.Solvable n → u ≡ O.ForbidMultiple m → m′ ≡ m → m′ < 128 → p ≡ getD (lastIn w) m′ 0 → Grew (forbidAllIn (graphIn g (k .size)) (lastBy p) n) h r → l ≡ set w (3072 + m′) (n + 1) → d ≡ widened k r → Expanded (forbidClauseIn T a b (buildIn g tr w k)) h tr l d
+  unfolding forbidClauseIn
   forbid-done u n m m′ p h l r d z e f x y t R s v =
-      let D : Expanded (lastly (buildIn g tr w k) m′ n (forbidAll (graphIn g (k .size)) p n)) h tr l d = rw v (last-done g tr w h k H p m′ n l r R y s) in
-      record { is = D .is ∙ rw (← q, ← z, e, f, ← x, t); holds = D .holds }
+      let D : Expanded (lastlyIn (buildIn g tr w k) m′ n (forbidAllIn (graphIn g (k .size)) (lastBy p) n)) h tr l d = rw v (last-done g tr w h k H p m′ n l r R y s) in
+      record { is = D .is ∙ rw (← q, ← z, e, f, ← x, t, ← lasts-read w m′); holds = D .holds }
 
 pub ruleset forbids = (forbid-skip, forbid-unnamed, forbid-done)
 
 -- ---- the dispatch: c is a clause of the kind that the arm found
 
 module _ (T : Tables) (c : Clause) (g tr w g′ tr′ w′ : List ℕ) (k : Work) where
-  pub expand-root : c ≡ C.InstallRoot → Holds g tr w k → Expanded (expand T c (buildIn g tr w k)) g tr w (P.On k)
-  unfolding expand
+  pub expand-root : c ≡ C.InstallRoot → Holds g tr w k → Expanded (expandIn T c (buildIn g tr w k)) g tr w (P.On k)
+  unfolding expandIn
   expand-root e H = record { is = rw e; holds = H }
 
-  pub expand-learnt : c ≡ C.Learnt → Holds g tr w k → Expanded (expand T c (buildIn g tr w k)) g tr w (P.On k)
-  unfolding expand
+  pub expand-learnt : c ≡ C.Learnt → Holds g tr w k → Expanded (expandIn T c (buildIn g tr w k)) g tr w (P.On k)
+  unfolding expandIn
   expand-learnt e H = record { is = rw e; holds = H }
 
-  pub expand-any : (a b : ℕ) → c ≡ C.AnyOf a b → Holds g tr w k → Expanded (expand T c (buildIn g tr w k)) g tr w (P.On k)
-  unfolding expand
+  pub expand-any : (a b : ℕ) → c ≡ C.AnyOf a b → Holds g tr w k → Expanded (expandIn T c (buildIn g tr w k)) g tr w (P.On k)
+  unfolding expandIn
   expand-any a b e H = record { is = rw e; holds = H }
 
-  pub expand-excluded : (a r : ℕ) (u : Grown) (d : Progress) → c ≡ C.Excluded a r → Holds g tr w k → Grew (linkAll (excludedLinks T a r) (graphIn g (k .size))) g′ u → d ≡ widened k u → Expanded (expand T c (buildIn g tr w k)) g′ tr w d
-  unfolding expand
+  pub expand-excluded : (a r : ℕ) (u : Grown) (d : Progress) → c ≡ C.Excluded a r → Holds g tr w k → Grew (linkAllIn (excludedLinks T a r) (graphIn g (k .size))) g′ u → d ≡ widened k u → Expanded (expandIn T c (buildIn g tr w k)) g′ tr w d
+  unfolding expandIn
   expand-excluded a r u d e H R q = rw e (links-done g tr w g′ k H (excludedLinks T a r) u d R q)
 
-  pub expand-requires : (a q : ℕ) (u : Grown) (d : Progress) → c ≡ C.Requires a q → Holds g tr w k → Grew (linkAll (requiresOf T q (requirers T a)) (graphIn g (k .size))) g′ u → d ≡ widened k u → Expanded (expand T c (buildIn g tr w k)) g′ tr w d
-  unfolding expand
+  pub expand-requires : (a q : ℕ) (u : Grown) (d : Progress) → c ≡ C.Requires a q → Holds g tr w k → Grew (linkAllIn (requiresOf T q (requirers T a)) (graphIn g (k .size))) g′ u → d ≡ widened k u → Expanded (expandIn T c (buildIn g tr w k)) g′ tr w d
+  unfolding expandIn
   expand-requires a q u d e H R z = rw e (links-done g tr w g′ k H (requiresOf T q (requirers T a)) u d R z)
 
-  pub expand-lock : (a b : ℕ) (u : Grown) (d : Progress) → c ≡ C.Lock a b → Holds g tr w k → Grew (linkAll (lockLinks T a b) (graphIn g (k .size))) g′ u → d ≡ widened k u → Expanded (expand T c (buildIn g tr w k)) g′ tr w d
-  unfolding expand
+  pub expand-lock : (a b : ℕ) (u : Grown) (d : Progress) → c ≡ C.Lock a b → Holds g tr w k → Grew (linkAllIn (lockLinks T a b) (graphIn g (k .size))) g′ u → d ≡ widened k u → Expanded (expandIn T c (buildIn g tr w k)) g′ tr w d
+  unfolding expandIn
   expand-lock a b u d e H R q = rw e (links-done g tr w g′ k H (lockLinks T a b) u d R q)
 
-  pub expand-constrains : (a b v : ℕ) (u : Grown) (d : Progress) → c ≡ C.Constrains a b v → Holds g tr w k → Grew (linkAll (constrainsLinks T a b v) (graphIn g (k .size))) g′ u → d ≡ widened k u → Expanded (expand T c (buildIn g tr w k)) g′ tr w d
-  unfolding expand
+  pub expand-constrains : (a b v : ℕ) (u : Grown) (d : Progress) → c ≡ C.Constrains a b v → Holds g tr w k → Grew (linkAllIn (constrainsLinks T a b v) (graphIn g (k .size))) g′ u → d ≡ widened k u → Expanded (expandIn T c (buildIn g tr w k)) g′ tr w d
+  unfolding expandIn
   expand-constrains a b v u d e H R q = rw e (links-done g tr w g′ k H (constrainsLinks T a b v) u d R q)
 
-  pub expand-forbid : (a b : ℕ) (d : Progress) → c ≡ C.ForbidMultipleInstances a b → Expanded (forbid T a b (buildIn g tr w k)) g′ tr′ w′ d → Expanded (expand T c (buildIn g tr w k)) g′ tr′ w′ d
-  unfolding expand
+  pub expand-forbid : (a b : ℕ) (d : Progress) → c ≡ C.ForbidMultipleInstances a b → Expanded (forbidClauseIn T a b (buildIn g tr w k)) g′ tr′ w′ d → Expanded (expandIn T c (buildIn g tr w k)) g′ tr′ w′ d
+  unfolding expandIn
   expand-forbid a b d e R = rw e R
 
-  pub expand-parent : (a b v : ℕ) (d : Progress) → c ≡ C.ConstrainsParent a b v → Expanded (pair T Parent a b v (buildIn g tr w k)) g′ tr′ w′ d → Expanded (expand T c (buildIn g tr w k)) g′ tr′ w′ d
-  unfolding expand
+  pub expand-parent : (a b v : ℕ) (d : Progress) → c ≡ C.ConstrainsParent a b v → Expanded (pairIn T Parent a b v (buildIn g tr w k)) g′ tr′ w′ d → Expanded (expandIn T c (buildIn g tr w k)) g′ tr′ w′ d
+  unfolding expandIn
   expand-parent a b v d e R = rw e R
 
-  pub expand-candidate : (a b v : ℕ) (d : Progress) → c ≡ C.ConstrainsExcluded a b v → Expanded (pair T Candidate a b v (buildIn g tr w k)) g′ tr′ w′ d → Expanded (expand T c (buildIn g tr w k)) g′ tr′ w′ d
-  unfolding expand
+  pub expand-candidate : (a b v : ℕ) (d : Progress) → c ≡ C.ConstrainsExcluded a b v → Expanded (pairIn T Candidate a b v (buildIn g tr w k)) g′ tr′ w′ d → Expanded (expandIn T c (buildIn g tr w k)) g′ tr′ w′ d
+  unfolding expandIn
   expand-candidate a b v d e R = rw e R
 
 pub ruleset expands = (expand-root, expand-learnt, expand-any, expand-excluded, expand-requires, expand-lock, expand-constrains, expand-forbid, expand-parent, expand-candidate)

@@ -7,9 +7,11 @@ ghost use Rattle.index.specs.Index.{Loaded};
 ghost use Rattle.views.specs.Walks.{auxFrom};
 ghost use Rattle.triples.specs.Triple.{triple};
 ghost use Rattle.linking.specs.Links.{asList, parentReason, excludedReason};
-ghost use Rattle.linking.specs.Requiring.{anyNode};
-ghost use Rattle.expansion.specs.Expand.{once, onceAll, triplesOf, others, pair, forbid, expand};
-ghost use Rattle.expansion.specs.Pairing.{buildIn, Holds, Expanded, pairsFrom, firstOther, otherReason};
+ghost use Rattle.linking.specs.Parties.{anyNode};
+ghost use Rattle.expansion.specs.Expand.{triplesOf, others};
+ghost use Rattle.expansion.specs.Working.{onceIn, onceAllIn, pairIn, forbidClauseIn, expandIn};
+ghost use Rattle.expansion.specs.State.{buildIn, Holds, Expanded};
+ghost use Rattle.expansion.specs.Pairing.{pairsFrom, firstOther, otherReason};
 ghost use Rattle.expansion.specs.Forbidding.{widened};
 use linking::Grown;
 use linking::Party;
@@ -50,7 +52,7 @@ fn make_once(
     v: u16,
 ) -> Progress
     requires { ⌜ Holds (now g) (now tr) (now ls) k ⌝ }
-    ensures { λ r. ⌜ Expanded (once (buildIn (now (g .entry)) (now (tr .entry)) (now (ls .entry)) k) (triple p d v)) (now (g .exit)) (now (tr .exit)) (now (ls .exit)) r ⌝ }
+    ensures { λ r. ⌜ Expanded (onceIn (buildIn (now (g .entry)) (now (tr .entry)) (now (ls .entry)) k) (triple p d v)) (now (g .exit)) (now (tr .exit)) (now (ls .exit)) r ⌝ }
 {
     let t = triples::pack(p, d, v);
     let n = k.triples;
@@ -89,7 +91,7 @@ fn pair_party(
     r: Party,
 ) -> Progress
     requires { ⌜ Holds (now g) (now tr) (now ls) k ⌝ }
-    ensures { λ d. ⌜ Expanded (onceAll (triplesOf side n v (asList r)) (buildIn (now (g .entry)) (now (tr .entry)) (now (ls .entry)) k)) (now (g .exit)) (now (tr .exit)) (now (ls .exit)) d ⌝ }
+    ensures { λ d. ⌜ Expanded (onceAllIn (triplesOf side n v (asList r)) (buildIn (now (g .entry)) (now (tr .entry)) (now (ls .entry)) k)) (now (g .exit)) (now (tr .exit)) (now (ls .exit)) d ⌝ }
 {
     let Party::Node(m) = r else {
         return Progress::On(k);
@@ -132,7 +134,7 @@ fn pair_all(
 ) -> Progress
     requires { ⌜ Loaded (now file) (now ix) ⌝ }
     requires { ⌜ Holds (now g) (now tr) (now ls) k ⌝ }
-    ensures { λ d. ⌜ Expanded (onceAll (pairsFrom (tablesOf (now (file .entry))) side n v x) (buildIn (now (g .entry)) (now (tr .entry)) (now (ls .entry)) k)) (now (g .exit)) (now (tr .exit)) (now (ls .exit)) d ⌝ }
+    ensures { λ d. ⌜ Expanded (onceAllIn (pairsFrom (tablesOf (now (file .entry))) side n v x) (buildIn (now (g .entry)) (now (tr .entry)) (now (ls .entry)) k)) (now (g .exit)) (now (tr .exit)) (now (ls .exit)) d ⌝ }
 {
     let mut y = x;
     let mut m = k;
@@ -220,7 +222,7 @@ fn pair_others(
 ) -> Progress
     requires { ⌜ Loaded (now file) (now ix) ⌝ }
     requires { ⌜ Holds (now g) (now tr) (now ls) k ⌝ }
-    ensures { λ d. ⌜ Expanded (onceAll (triplesOf side n v (others (tablesOf (now (file .entry))) side b)) (buildIn (now (g .entry)) (now (tr .entry)) (now (ls .entry)) k)) (now (g .exit)) (now (tr .exit)) (now (ls .exit)) d ⌝ }
+    ensures { λ d. ⌜ Expanded (onceAllIn (triplesOf side n v (others (tablesOf (now (file .entry))) side b)) (buildIn (now (g .entry)) (now (tr .entry)) (now (ls .entry)) k)) (now (g .exit)) (now (tr .exit)) (now (ls .exit)) d ⌝ }
 {
     let x = first_other(file, ix, side, b);
     if aux_kept(file, ix, x) {
@@ -245,7 +247,7 @@ fn expand_pair(
 ) -> Progress
     requires { ⌜ Loaded (now file) (now ix) ⌝ }
     requires { ⌜ Holds (now g) (now tr) (now ls) k ⌝ }
-    ensures { λ d. ⌜ Expanded (pair (tablesOf (now (file .entry))) side a b v (buildIn (now (g .entry)) (now (tr .entry)) (now (ls .entry)) k)) (now (g .exit)) (now (tr .exit)) (now (ls .exit)) d ⌝ }
+    ensures { λ d. ⌜ Expanded (pairIn (tablesOf (now (file .entry))) side a b v (buildIn (now (g .entry)) (now (tr .entry)) (now (ls .entry)) k)) (now (g .exit)) (now (tr .exit)) (now (ls .exit)) d ⌝ }
 {
     let r = linking::named(file, ix, a);
     let Party::Node(n) = r else {
@@ -278,7 +280,7 @@ fn expand_forbid(
 ) -> Progress
     requires { ⌜ Loaded (now file) (now ix) ⌝ }
     requires { ⌜ Holds (now g) (now tr) (now ls) k ⌝ }
-    ensures { λ d. ⌜ Expanded (forbid (tablesOf (now (file .entry))) a b (buildIn (now (g .entry)) (now (tr .entry)) (now (ls .entry)) k)) (now (g .exit)) (now (tr .entry)) (now (ls .exit)) d ⌝ }
+    ensures { λ d. ⌜ Expanded (forbidClauseIn (tablesOf (now (file .entry))) a b (buildIn (now (g .entry)) (now (tr .entry)) (now (ls .entry)) k)) (now (g .exit)) (now (tr .entry)) (now (ls .exit)) d ⌝ }
 {
     let o = views::origin(file, ix, a);
     let Origin::Solvable(n) = o else {
@@ -308,7 +310,7 @@ pub fn expand(
 ) -> Progress
     requires { ⌜ Loaded (now file) (now ix) ⌝ }
     requires { ⌜ Holds (now g) (now tr) (now ls) k ⌝ }
-    ensures { λ d. ⌜ Expanded (expand (tablesOf (now (file .entry))) c (buildIn (now (g .entry)) (now (tr .entry)) (now (ls .entry)) k)) (now (g .exit)) (now (tr .exit)) (now (ls .exit)) d ⌝ }
+    ensures { λ d. ⌜ Expanded (expandIn (tablesOf (now (file .entry))) c (buildIn (now (g .entry)) (now (tr .entry)) (now (ls .entry)) k)) (now (g .exit)) (now (tr .exit)) (now (ls .exit)) d ⌝ }
 {
     let s = k.size;
     match c {

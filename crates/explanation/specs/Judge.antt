@@ -14,6 +14,7 @@ use Rattle.basis.specs.Members.{split}
 use Rattle.basis.specs.Store.{get-out}
 use Rattle.machine.specs.Machine.{Plan, skipped, report, repeats, below}
 use Rattle.plan.specs.Fields.{mergedIn, opensIn, leadIn, planIn}
+use Rattle.explanation.specs.Ends.{refuses}
 use Rattle.explanation.specs.Frames.{belowIn, branchIn}
 use Rattle.explanation.specs.declared.frames.Verdict.{Verdict}
 use Rattle.explanation.specs.declared.frames.Verdict.the-variants.{Skip, Repeat, Show}
@@ -41,16 +42,16 @@ flags-report seen rep l h f =
 -- the same of every kids table k
 pub record Skipped (p fr : List ℕ) (d n : ℕ) (seen seen′ : List ℕ) : Type 0 where
   pub same : seen′ ≡ seen
-  pub again : (k : List ℕ) → repeats (planIn p k) (branchIn fr d) n ≡ false
+  pub again : (k : List ℕ) → repeats (planIn p k) (branchIn fr d) n ≡ refuses Skip
   pub skip : (k rep : List ℕ) → Flags seen rep → skipped (planIn p k) rep n ≡ true
 
 pub record Repeated (p fr : List ℕ) (d n : ℕ) (seen seen′ : List ℕ) : Type 0 where
   pub same : seen′ ≡ seen
-  pub again : (k : List ℕ) → repeats (planIn p k) (branchIn fr d) n ≡ true
+  pub again : (k : List ℕ) → repeats (planIn p k) (branchIn fr d) n ≡ refuses Repeat
 
 pub record Showing (p fr : List ℕ) (d n : ℕ) (seen seen′ : List ℕ) : Type 0 where
   pub long : length seen′ ≡ length seen
-  pub again : (k : List ℕ) → repeats (planIn p k) (branchIn fr d) n ≡ false
+  pub again : (k : List ℕ) → repeats (planIn p k) (branchIn fr d) n ≡ refuses Show
   pub kept : (k rep : List ℕ) → Flags seen rep → skipped (planIn p k) rep n ≡ false
   pub then : (k rep : List ℕ) → Flags seen rep → Flags seen′ (report (planIn p k) n rep)
 

@@ -1,4 +1,5 @@
 pub mod Frames
+pub mod Ends
 pub mod Judge
 pub mod Stand
 pub mod Turned

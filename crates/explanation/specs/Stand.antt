@@ -81,13 +81,31 @@ pub record Stepped (t : Top) (g h : Indenter) : Type 0 where
   pub run : t .ke ≤ t .k → t .r < t .re → M.marksOf h ≡ pushed (leb (t .re) (t .r + 1)) (upper (2 * t .d) (M.marksOf g))
   pub none : t .ke ≤ t .k → t .re ≤ t .r → h ≡ g
 
-pub step-kid : (t : Top) (g h : Indenter) → t .k < t .ke → M.marksOf h ≡ pushed (leb (t .ke) (t .k + 1)) (upper (2 * t .d + 1) (M.marksOf g)) → h .top ≡ g .top → h .count ≤ 4160 → Stepped t g h
-step-kid t g h l m e c =
-    record { count = c; top = e; kid = λ q. m; run = λ q r. let z : ⊥ = omega arith in absurd z; none = λ q r. let z : ⊥ = omega arith in absurd z }
+module _ (t : Top) (ws vs : List ℕ) (n r : ℕ) (top : Bool) where
+  pub step-kid : t .k < t .ke → M.marksAt vs r ≡ pushed (leb (t .ke) (t .k + 1)) (upper (2 * t .d + 1) (M.marksAt ws n)) → r ≤ 4160
+      → Stepped t (indenterAt ws n top) (indenterAt vs r top)
+  unfolding M.marksOf
+  step-kid l m c =
+      record {
+        count = c;
+        top = refl;
+        kid = λ q. m;
+        run = λ q r. let z : ⊥ = omega arith in absurd z;
+        none = λ q r. let z : ⊥ = omega arith in absurd z;
+      }
 
-pub step-run : (t : Top) (g h : Indenter) → t .ke ≤ t .k → t .r < t .re → M.marksOf h ≡ pushed (leb (t .re) (t .r + 1)) (upper (2 * t .d) (M.marksOf g)) → h .top ≡ g .top → h .count ≤ 4160 → Stepped t g h
-step-run t g h l n m e c =
-    record { count = c; top = e; kid = λ q. let z : ⊥ = omega arith in absurd z; run = λ q r. m; none = λ q r. let z : ⊥ = omega arith in absurd z }
+  pub step-run : t .ke ≤ t .k → t .r < t .re → M.marksAt vs r ≡ pushed (leb (t .re) (t .r + 1)) (upper (2 * t .d) (M.marksAt ws n))
+      → r ≤ 4160
+      → Stepped t (indenterAt ws n top) (indenterAt vs r top)
+  unfolding M.marksOf
+  step-run l g m c =
+      record {
+        count = c;
+        top = refl;
+        kid = λ q. let z : ⊥ = omega arith in absurd z;
+        run = λ q r. m;
+        none = λ q r. let z : ⊥ = omega arith in absurd z;
+      }
 
 pub step-none : (t : Top) (g : Indenter) → t .ke ≤ t .k → t .re ≤ t .r → g .count ≤ 4160 → Stepped t g g
 step-none t g l n c =

@@ -35,7 +35,7 @@ use Rattle.explanation.specs.declared.frames.Top.{Top}
 use Rattle.explanation.specs.declared.frames.Verdict.{Verdict}
 use Rattle.explanation.specs.declared.frames.Verdict.the-variants.{Skip, Repeat, Show}
 use Rattle.explanation.specs.declared.turns.Step.{Step}
-use Rattle.explanation.specs.declared.turns.Step.the-variants.{On, Done, Loops, Full, Deep}
+use Rattle.explanation.specs.declared.turns.Step.the-variants.{On, Done, Loops, Full}
 
 -- ---- the outcomes
 
@@ -82,20 +82,11 @@ pub record TurnedFull (T : Tables) (p k : List ℕ) (g : Indenter) (t : Top) (fr
   pub at : u .at ≡ t .at + bytes
   pub over : length room < bytes + length line
 
--- the next package is shown, and all frames but one are in use
-pub record TurnedDeep (p k : List ℕ) (t : Top) (fr seen : List ℕ) : Type 0 where
-  pub node : ℕ
-  pub is : stackIn p k t fr ≡ stackAt (runsAt p k t fr) (node ∷ kidsAt p k t fr) (framesAt p k t fr)
-  pub again : repeats (planIn p k) (branchOf (framesAt p k t fr)) node ≡ false
-  pub kept : (rep : List ℕ) → Flags seen rep → skipped (planIn p k) rep node ≡ false
-  pub far : 2079 ≤ t .d
-
 unfoldable pub Turned : Tables → List ℕ → List ℕ → Indenter → Top → List ℕ → List ℕ → List ℕ → Top → Step → List ℕ → List ℕ → List ℕ → Type 0
 Turned T p k g t fr seen room u On fr′ seen′ left = TurnedOn T p k g t fr seen room u fr′ seen′ left
 Turned T p k g t fr seen room u Done fr′ seen′ left = TurnedDone p k t fr room left
 Turned T p k g t fr seen room u (Loops n) fr′ seen′ left = TurnedLoops p k t fr room n left
 Turned T p k g t fr seen room u Full fr′ seen′ left = TurnedFull T p k g t fr seen room u left
-Turned T p k g t fr seen room u Deep fr′ seen′ left = TurnedDeep p k t fr seen
 
 -- ---- lines as units
 
@@ -153,7 +144,6 @@ Shown T p k g t n fr room u On fr′ left = ShownOn T p k g t n fr room u fr′ 
 Shown T p k g t n fr room u Done fr′ left = ⊥
 Shown T p k g t n fr room u (Loops m) fr′ left = ⊥
 Shown T p k g t n fr room u Full fr′ left = ShownFull T p k g t n room u left
-Shown T p k g t n fr room u Deep fr′ left = 2079 ≤ t .d
 
 -- so many bytes and units of a package's lines are written, all of them unless f
 pub record SettledOn (p : List ℕ) (t : Top) (n : ℕ) (fr : List ℕ) (b c : ℕ) (f : Bool) (u : Top) (fr′ : List ℕ) : Type 0 where
@@ -169,7 +159,6 @@ Settled p t n fr b c f u On fr′ = SettledOn p t n fr b c f u fr′
 Settled p t n fr b c f u Done fr′ = ⊥
 Settled p t n fr b c f u (Loops m) fr′ = ⊥
 Settled p t n fr b c f u Full fr′ = SettledFull t b c f u
-Settled p t n fr b c f u Deep fr′ = ⊥
 
 pub settled-full : (t : Top) (b c : ℕ) (f : Bool) → f ≡ true → SettledFull t b c f (moved t b c)
 settled-full t b c f e = record { broken = e; stands = refl }
@@ -185,7 +174,6 @@ module _ (T : Tables) (p k : List ℕ) (g : Indenter) (t : Top) (n : ℕ) (fr ro
   show-settled u Done fr′ x = absurd x
   show-settled u (Loops m) fr′ x = absurd x
   show-settled u Full fr′ x = record { bytes = b; units = c; lines = rw (x .broken) at l; stands = x .stands }
-  show-settled u Deep fr′ x = absurd x
 
 -- ---- a package's turn
 
@@ -336,7 +324,6 @@ module _ (T : Tables) (p k : List ℕ) (g : Indenter) (t : Top) (n : ℕ) (fr se
     shows u Done fr′ left x = absurd x
     shows u (Loops m) fr′ left x = absurd x
     shows u Full fr′ left x = full u left x
-    shows u Deep fr′ left x = record { node = n; is = stack-kid; again = again; kept = λ rep f. s .kept k rep f; far = x }
 
   pub kid-show : (v : Verdict) (seen′ : List ℕ) (u : Top) (st : Step) (fr′ left : List ℕ) → Judged p fr (t .d) n seen seen′ v → v ≡ Show → Shown T p k g t n fr room u st fr′ left
       → Turned T p k g t fr seen room u st fr′ seen′ left
@@ -479,3 +466,15 @@ pub record Known (T : Tables) (p k : List ℕ) (t : Top) : Type 0 where
 
 pub known-at : (T : Tables) (p k : List ℕ) (t : Top) (n : ℕ) → Known T p k t → n ≡ kidAt k (t .k) → t .k < t .ke → textLength p n ≡ length (packageIn T p n)
 known-at T p k t n x e h = rw e (x .own h)
+
+-- ---- the bound of demand 3, as the frames need it: where the next kid is shown, there is a frame for it
+
+pub record Framed (p k fr seen : List ℕ) (t : Top) : Type 0 where
+  pub left : t .k < t .ke → repeats (planIn p k) (branchIn fr (t .d)) (kidAt k (t .k)) ≡ false
+      → ((rep : List ℕ) → Flags seen rep → skipped (planIn p k) rep (kidAt k (t .k)) ≡ false) → t .d < 2079
+
+pub framed-at : (p fr : List ℕ) (t : Top) (n : ℕ) (seen seen′ : List ℕ) (v : Verdict) → Judged p fr (t .d) n seen seen′ v → v ≡ Show
+    → (k : List ℕ) → Framed p k fr seen t → n ≡ kidAt k (t .k) → t .k < t .ke → t .d < 2079
+framed-at p fr t n seen seen′ v j q k x is lt =
+    let s : Showing p fr (t .d) n seen seen′ = rw q at j in
+    x .left lt (rw is at (s .again k)) (rw is at (s .kept k))

@@ -3,6 +3,7 @@ use mathlib.Core.Path.{_≡_, refl, sym, ap, subst, _∙_}
 use mathlib.Core.Logic.{inl, inr}
 use mathlib.Core.Bool.{Bool, true, false, cond, not}
 use mathlib.Core.List.{List, [], _∷_, _++_, append-nil}
+use mathlib.Core.Option.{Option, none, some}
 use Prim.Native.Nat.{ℕ, zero, suc, _+_, _*_, _-_, _≤_, _<_, max}
 use native.Mathlib.Nat.{zero-add}
 use native.Mathlib.Omega.{arith}
@@ -33,13 +34,14 @@ use Rattle.plan.specs.Texts.{packageIn}
 use Rattle.lines.specs.Said.{linesIn}
 use Rattle.lines.specs.SetLaws.{part-back}
 use Rattle.explanation.specs.Deep.{kid-within}
-use Rattle.explanation.specs.Frames.{ownerIn, framesIn, frames-length}
+use Rattle.explanation.specs.Ends.{answerAt, toldOf}
+use Rattle.explanation.specs.Frames.{ownerIn, framesIn, frames-length, frames-branch}
 use Rattle.explanation.specs.Judge.{Flags}
-use Rattle.explanation.specs.Stand.{stackIn, runsAt, kidsAt, framesAt, Small, measure, Held, Stepped, Level, level-step}
-use Rattle.explanation.specs.Turned.{Went, Turned, TurnedOn, TurnedDone, TurnedLoops, TurnedFull, TurnedDeep, Known}
+use Rattle.explanation.specs.Stand.{indenterAt, stackIn, runsAt, kidsAt, framesAt, Small, measure, Held, Stepped, Level, level-step}
+use Rattle.explanation.specs.Turned.{Went, Turned, TurnedOn, TurnedDone, TurnedLoops, TurnedFull, Known, Framed}
 use Rattle.explanation.specs.declared.frames.Top.{Top}
 use Rattle.explanation.specs.declared.turns.Step.{Step}
-use Rattle.explanation.specs.declared.turns.Step.the-variants.{On, Done, Loops, Full, Deep}
+use Rattle.explanation.specs.declared.turns.Step.the-variants.{On, Done, Loops, Full}
 use Rattle.explanation.specs.declared.walk.Told.{Told}
 
 -- what the walk asks of a packed plan: a kid's text is as long as the plan says, and the kids are counted, within the frames
@@ -127,13 +129,6 @@ answered-one T p k top out a b r q x y =
       x .room .leaves ∙ ap (λ (z : Result). over (z .text) out) e ∙ sym (y .room .leaves),
     )
 
--- the answer from where the walk stands
-abbrev pub answerAt : ℕ → ℕ → Top → Told
-answerAt number place t = record { number = number; place = place; bytes = t .at; units = t .units; depth = t .depth }
-
-pub looped : (p : List ℕ) (t : Top) (a : Told) (n m y : ℕ) → a ≡ answerAt 11 m t → m ≡ y → y ≡ solvableIn p n → a ≡ answerAt 11 (solvableIn p n) t
-looped p t a n m y ai mi yi = rw (ai, mi, yi)
-
 -- where the walk begins
 abbrev pub first : ℕ → ℕ → Top
 first a b = record { r = a; re = b; k = 0; ke = 0; d = 0; at = 0; units = 0; depth = 0 }
@@ -165,20 +160,21 @@ first-small p fr a b h i e =
       units = omega arith;
     }
 
-pub first-held : (p k fr : List ℕ) (a b : ℕ) (g : Indenter) → M.marksOf g ≡ [] → g .count ≡ 0 → Held p k fr (first a b) g
-unfolding framesIn M.upper
-first-held p k fr a b g m c =
+first-held : (p k fr : List ℕ) (a b : ℕ) (ws : List ℕ) (top : Bool) → Held p k fr (first a b) (indenterAt ws 0 top)
+unfolding framesIn M.upper M.marksOf M.marksAt
+first-held p k fr a b ws top =
     record {
       count = omega arith;
       levels = omega arith;
-      above = rw m;
+      above = refl;
       wide = λ z. let y : ⊥ = omega arith in absurd y;
       beside = λ z. let y : ⊥ = omega arith in absurd y;
     }
 
-pub walking-first : (T : Tables) (p k : List ℕ) (top : Bool) (fr seen out : List ℕ) (a b : ℕ) (g : Indenter) → Ready T p k → a ≡ runFirst p 0 → b ≡ runEnd p 0 → a < 2048 → b < 2048 → Flags seen []
-    → M.marksOf g ≡ [] → g .count ≡ 0 → g .top ≡ top → length fr ≡ 2080 → length seen ≡ 128 → Walking T p k top fr seen (first a b) g out out
-walking-first T p k top fr seen out a b g r ai bi al bl f m c e lf ls =
+pub walking-first : (T : Tables) (p k : List ℕ) (top : Bool) (fr seen out : List ℕ) (a b : ℕ) (ws : List ℕ) → Ready T p k
+    → a ≡ runFirst p 0 → b ≡ runEnd p 0 → a < 2048
+    → b < 2048 → Flags seen [] → length fr ≡ 2080 → length seen ≡ 128 → Walking T p k top fr seen (first a b) (indenterAt ws 0 top) out out
+walking-first T p k top fr seen out a b ws r ai bi al bl f lf ls =
     record {
       ready = r;
       so-far = first-so-far T p k top fr seen out a b ai bi f;
@@ -187,8 +183,8 @@ walking-first T p k top fr seen out a b g r ai bi al bl f m c e lf ls =
       same = refl;
       frames = lf;
       flags = ls;
-      held = first-held p k fr a b g m c;
-      top-is = e;
+      held = first-held p k fr a b ws top;
+      top-is = refl;
     }
 
 -- ---- the next kid was a kid
@@ -211,6 +207,30 @@ walking-known T p k top fr seen t g out₀ out x = so-far-known T p k top fr see
 
 pub walking-level : (T : Tables) (p k : List ℕ) (top : Bool) (fr seen : List ℕ) (t : Top) (g h : Indenter) (out₀ out : List ℕ) → Walking T p k top fr seen t g out₀ out → Stepped t g h → Level p k fr t h
 walking-level T p k top fr seen t g h out₀ out x sp = level-step p k fr t g h (x .held) sp (x .small)
+
+-- B1: no package is shown below as many opened ones as there are frames
+pub walking-framed : (T : Tables) (p k : List ℕ) (top : Bool) (fr seen : List ℕ) (t : Top) (g : Indenter) (out₀ out : List ℕ)
+    → Walking T p k top fr seen t g out₀ out → Framed p k fr seen t
+unfolding startIn stackIn
+walking-framed T p k top fr seen t g out₀ out x =
+    let s = x .so-far in
+    let r = x .ready in
+    let P = planIn p k in
+    let now = state (stackIn p k t fr) (s .rep) in
+    record {
+      left = λ h again kept.
+          let fit = rw (kids-more k (t .k) (t .ke) h) at
+          (turns-fit P (r .G) (r .U) (r .counted) (startIn p) now (s .es) (s .turns) (fits-start P (r .G) (r .U) (runsIn p 0))) in
+          let came = rw (kids-more k (t .k) (t .ke) h) at
+          (came-turns P (λ n. Unit {0}) (λ x n i. tt) (startIn p) now (s .es) (s .turns) (came-start P (λ n. Unit {0}) (runsIn p 0))) in
+          let b = kid-within P (r .G) (r .U) (kidAt k (t .k)) (kidMarks (runsAt p k t fr) (kidsAt p k t fr) (framesAt p k t fr))
+          (branchOf (framesAt p k t fr)) (s .rep) (fit .0) (came .0 .0) (kept (s .rep) (s .flags))
+          (rw (frames-branch p k fr (t .d)) again) in
+          let l = branch-length (framesAt p k t fr) in
+          let m = frames-length p k fr (t .d) in
+          let f = r .small in
+          omega arith;
+    }
 
 -- ---- the room: the rest from at on was lent, and comes back as left
 
@@ -316,9 +336,6 @@ module _ (T : Tables) (p k : List ℕ) (top : Bool) (fr seen : List ℕ) (t : To
         room = came-back (d .same);
       }
 
-  pub walk-done : (a : Told) → st ≡ Done → a ≡ answerAt 0 0 t → Answered T p k top out₀ (back out (t .at) left) a
-  walk-done a e ai = rw ai (done-at e)
-
   loops-at : (n : ℕ) → st ≡ Loops n → Answered T p k top out₀ (back out (t .at) left) (answerAt 11 (solvableIn p n) t)
   unfolding Turned
   loops-at n e =
@@ -329,9 +346,6 @@ module _ (T : Tables) (p k : List ℕ) (top : Bool) (fr seen : List ℕ) (t : To
             n (d .stops) (s .tally) refl in-room;
         room = came-back (d .same);
       }
-
-  pub walk-loops : (a : Told) (n : ℕ) → st ≡ Loops n → a ≡ answerAt 11 (solvableIn p n) t → Answered T p k top out₀ (back out (t .at) left) a
-  walk-loops a n e ai = rw ai (loops-at n e)
 
   r : Ready T p k
   r = x .ready
@@ -356,19 +370,16 @@ module _ (T : Tables) (p k : List ℕ) (top : Bool) (fr seen : List ℕ) (t : To
         room = w;
       }
 
-  pub walk-full : (a : Told) → st ≡ Full → a ≡ answerAt 10 (u .units) u → Answered T p k top out₀ (back out (t .at) left) a
-  walk-full a e ai = rw ai (full-at e)
+  some-same : {A : Type 0} {x y : A} → _≡_ {A = Option A} (some x) (some y) → x ≡ y
+  some-same e = cc
 
-  -- B1: no package is shown so deep
-  pub walk-deep : (a : Told) → st ≡ Deep → Answered T p k top out₀ (back out (t .at) left) a
-  unfolding startIn Turned
-  walk-deep a e =
-      let d : TurnedDeep p k t fr seen = rw e at q in
-      let fit = rw (d .is) at
-      (turns-fit P (r .G) (r .U) (r .counted) (startIn p) (state (stackIn p k t fr) (s .rep)) (s .es) (s .turns) (fits-start P (r .G) (r .U) (runsIn p 0))) in
-      let came = rw (d .is) at
-      (came-turns P (λ n. Unit {0}) (λ x n i. tt) (startIn p) (state (stackIn p k t fr) (s .rep)) (s .es) (s .turns) (came-start P (λ n. Unit {0}) (runsIn p 0))) in
-      let b = kid-within P (r .G) (r .U) (d .node) (kidMarks (runsAt p k t fr) (kidsAt p k t fr) (framesAt p k t fr)) (branchOf (framesAt p k t fr)) (s .rep)
-      (fit .0) (came .0 .0) (d .kept (s .rep) (s .flags)) (d .again) in
-      let z : ⊥ = (let l = branch-length (framesAt p k t fr) in let m = frames-length p k fr (t .d) in let f = d .far in let g = r .small in omega arith) in
-      absurd z
+  none-some : {A X : Type 0} {x : A} → _≡_ {A = Option A} none (some x) → X
+  none-some e = let z : _≡_ {A = ℕ} 0 1 = cc in let y : ⊥ = omega arith in absurd y
+
+  -- a turn that ends the walk gives the answer of its case
+  pub walk-ends : (y : Step) (a : Told) → st ≡ y → toldOf p y t u ≡ some a → Answered T p k top out₀ (back out (t .at) left) a
+  unfolding toldOf
+  walk-ends On a e i = none-some i
+  walk-ends Done a e i = rw (← some-same i) (done-at e)
+  walk-ends (Loops n) a e i = rw (← some-same i) (loops-at n e)
+  walk-ends Full a e i = rw (← some-same i) (full-at e)

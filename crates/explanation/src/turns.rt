@@ -5,7 +5,7 @@ use super::frames::enter;
 use super::frames::judge;
 use super::frames::pop;
 use lines::sets::Part;
-use texts::Indenter;
+use texts::marks::put_level;
 ghost use mathlib.Core.Path.{_≡_};
 ghost use mathlib.Core.List.{List, _∷_};
 ghost use Prim.Native.Nat.{ℕ, _+_, _≤_, _<_};
@@ -19,16 +19,15 @@ ghost use Rattle.texts.specs.Marks.{marksOf};
 ghost use Rattle.plan.specs.Fields.{textLength, runsFrom};
 ghost use Rattle.plan.specs.Texts.{packageIn};
 ghost use Rattle.explanation.specs.Stand.{indenterAt, nextKid, nextRun, Small, Level, Stepped, runsAt, kidsAt, framesAt};
-ghost use Rattle.explanation.specs.Turned.{Settled, Shown, Known, Turned};
+ghost use Rattle.explanation.specs.Turned.{Settled, Shown, Known, Framed, Turned};
 
-// How a turn ends: the walk goes on, it is done, this package would be opened below itself (11), the next line does not fit (10), or
-// a package is too deep to be shown, which never happens.
+// How a turn ends: the walk goes on, it is done (0), this package would be opened below itself (11), or the next line does not fit (10);
+// `toldOf` (specs/Ends.antt) lists the answers.
 pub enum Step {
     On,
     Done,
     Loops(usize),
     Full,
-    Deep,
 }
 
 pub struct Move {
@@ -84,18 +83,12 @@ fn show(
     requires { ⌜ Loaded (now file) (now ix) ⌝ }
     requires { ⌜ Small (now p) (now fr) t ⌝ }
     requires { ⌜ length (now fr) ≡ 2080 ⌝ }
-    requires { ⌜ (t .k < t .ke) × (n < 128) ⌝ }
+    requires { ⌜ (t .k < t .ke) × ((n < 128) × (t .d < 2079)) ⌝ }
     requires { ⌜ t .at + length (now out) < 18446744073709551616 ⌝ }
     requires { ⌜ (count ≤ 4160) × (marksOf (indenterAt (now levels) count top) ≡ kidMarks (runsAt (now p) (now k) t (now fr)) (kidsAt (now p) (now k) t (now fr)) (framesAt (now p) (now k) t (now fr))) ⌝ }
     requires { ⌜ textLength (now p) n ≡ length (packageIn (tablesOf (now file)) (now p) n) ⌝ }
     ensures { λ r. ⌜ Shown (tablesOf (now (file .entry))) (now (p .entry)) (now (k .entry)) (indenterAt (now (levels .entry)) count top) t n (now (fr .entry)) (now (out .entry)) (r .top) (r .step) (now (fr .exit)) (now (out .exit)) ⌝ }
 {
-    if 2079 <= t.d {
-        return Move {
-            top: t,
-            step: Step::Deep,
-        };
-    }
     let s = lines::sets::package_lines(file, ix, p, k, out, levels, count, top, n);
     settled(p, fr, t, n, s)
 }
@@ -138,6 +131,7 @@ fn kid_turn(
     requires { ⌜ t .at + length (now out) < 18446744073709551616 ⌝ }
     requires { ⌜ (count ≤ 4160) × (marksOf (indenterAt (now levels) count top) ≡ kidMarks (runsAt (now p) (now k) t (now fr)) (kidsAt (now p) (now k) t (now fr)) (framesAt (now p) (now k) t (now fr))) ⌝ }
     requires { ⌜ Known (tablesOf (now file)) (now p) (now k) t ⌝ }
+    requires { ⌜ Framed (now p) (now k) (now fr) (now seen) t ⌝ }
     ensures { λ r. ⌜ Turned (tablesOf (now (file .entry))) (now (p .entry)) (now (k .entry)) (indenterAt (now (levels .entry)) count top) t (now (fr .entry)) (now (seen .entry)) (now (out .entry)) (r .top) (r .step) (now (fr .exit)) (now (seen .exit)) (now (out .exit)) ⌝ }
 {
     let n = plan::kid_at(k, t.k);
@@ -240,6 +234,7 @@ pub fn turn(
     requires { ⌜ t .at + length (now out) < 18446744073709551616 ⌝ }
     requires { ⌜ Level (now p) (now k) (now fr) t (indenterAt (now levels) count top) ⌝ }
     requires { ⌜ Known (tablesOf (now file)) (now p) (now k) t ⌝ }
+    requires { ⌜ Framed (now p) (now k) (now fr) (now seen) t ⌝ }
     ensures { λ r. ⌜ Turned (tablesOf (now (file .entry))) (now (p .entry)) (now (k .entry)) (indenterAt (now (levels .entry)) count top) t (now (fr .entry)) (now (seen .entry)) (now (out .entry)) (r .top) (r .step) (now (fr .exit)) (now (seen .exit)) (now (out .exit)) ⌝ }
 {
     if t.k < t.ke {
@@ -261,17 +256,18 @@ pub fn turn(
     }
 }
 
-// The indenter of the next entry: back at its level, with its mark.
-pub fn level(g: Indenter, t: Top) -> Indenter
-    requires { ⌜ (g .count ≤ 4160) × (t .d ≤ 2079) ⌝ }
-    requires { ⌜ (t .k < 2048) × (t .r < 2048) ⌝ }
-    ensures { λ h. ⌜ Stepped t g h ⌝ }
+// The levels of the next entry in the lent marks: back at its level, with its mark; `top` is the option. The answer is how many are held.
+pub fn level(levels: &mut [u64; 65], count: usize, top: bool, t: Top) -> usize
+    requires { ⌜ (count ≤ 4160) × (length (now levels) ≡ 65) ⌝ }
+    requires { ⌜ (t .d ≤ 2079) × ((t .k < 2048) × (t .r < 2048)) ⌝ }
+    ensures { λ r. ⌜ Stepped t (indenterAt (now (levels .entry)) count top) (indenterAt (now (levels .exit)) r top) ⌝ }
+    ensures { λ r. ⌜ length (now (levels .exit)) ≡ 65 ⌝ }
 {
     if t.k < t.ke {
-        return g.at_level(2 * t.d + 1, t.ke <= t.k + 1);
+        return put_level(levels, count, 2 * t.d + 1, t.ke <= t.k + 1);
     }
     if t.r < t.re {
-        return g.at_level(2 * t.d, t.re <= t.r + 1);
+        return put_level(levels, count, 2 * t.d, t.re <= t.r + 1);
     }
-    g
+    count
 }

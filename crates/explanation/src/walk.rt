@@ -3,15 +3,16 @@ use super::frames::Top;
 use super::turns::Step;
 use super::turns::level;
 use super::turns::turn;
-use texts::Indenter;
 ghost use mathlib.Core.Path.{_≡_};
 ghost use mathlib.Core.List.{[]};
+ghost use mathlib.Core.Option.{some};
 ghost use lib.ListN.{length};
 ghost use Rattle.records.specs.Read.{tablesOf};
 ghost use Rattle.index.specs.Index.{Loaded};
-ghost use Rattle.plan.specs.Fields.{solvableIn};
+ghost use Rattle.explanation.specs.Ends.{answerAt, toldOf};
 ghost use Rattle.explanation.specs.Judge.{Flags};
-ghost use Rattle.explanation.specs.Walk.{Ready, Answered, answerAt};
+ghost use Rattle.explanation.specs.Walk.{Ready, Answered};
+ghost use Rattle.explanation.specs.declared.turns.Step.the-variants.{Done, Loops, Full};
 
 // "An answer holds number, place, bytes, units, depth".
 pub struct Told {
@@ -35,15 +36,29 @@ fn answer(number: u64, place: usize, t: Top) -> Told
     }
 }
 
+// The walk is done; it stood at t before the turn and stands at u.
+fn done(p: &[u64; 1280], t: Top, u: Top) -> Told
+    ensures { λ r. ⌜ toldOf (now (p .entry)) Done t u ≡ some r ⌝ }
+{
+    answer(0, 0, t)
+}
+
 // Package n would be opened below itself.
-fn looped(p: &[u64; 1280], n: usize, t: Top) -> Told
-    ensures { λ r. ⌜ r ≡ answerAt 11 (solvableIn (now (p .entry)) n) t ⌝ }
+fn looped(p: &[u64; 1280], n: usize, t: Top, u: Top) -> Told
+    ensures { λ r. ⌜ toldOf (now (p .entry)) (Loops n) t u ≡ some r ⌝ }
 {
     let place = basis::wide16(plan::solvable(p, n));
     answer(11, place, t)
 }
 
-// The walk over lent frames and flags.
+// The next line does not fit.
+fn full(p: &[u64; 1280], t: Top, u: Top) -> Told
+    ensures { λ r. ⌜ toldOf (now (p .entry)) Full t u ≡ some r ⌝ }
+{
+    answer(10, u.units, u)
+}
+
+// The walk over lent frames, flags and marks.
 fn walk_plan(
     file: &[u8],
     ix: &[u16; 10432],
@@ -51,16 +66,17 @@ fn walk_plan(
     k: &[u16; 1024],
     fr: &mut [u32; 2080],
     seen: &mut [u8; 128],
+    levels: &mut [u64; 65],
     out: &mut [u8],
     top: bool,
 ) -> Told
     requires { ⌜ Loaded (now file) (now ix) ⌝ }
     requires { ⌜ Ready (tablesOf (now file)) (now p) (now k) ⌝ }
-    requires { ⌜ (length (now fr) ≡ 2080) × (length (now seen) ≡ 128) ⌝ }
+    requires { ⌜ (length (now fr) ≡ 2080) × ((length (now seen) ≡ 128) × (length (now levels) ≡ 65)) ⌝ }
     requires { ⌜ Flags (now seen) [] ⌝ }
     ensures { λ r. ⌜ Answered (tablesOf (now (file .entry))) (now (p .entry)) (now (k .entry)) top (now (out .entry)) (now (out .exit)) r ⌝ }
 {
-    let mut g = Indenter::new(top);
+    let mut count: usize = 0;
     let mut t = Top {
         r: plan::run_first(p, 0),
         re: plan::run_end(p, 0),
@@ -72,7 +88,7 @@ fn walk_plan(
         depth: 0,
     };
     loop {
-        g = level(g, t);
+        count = level(levels, count, top, t);
         let at = t.at;
         let m = turn(
             file,
@@ -82,29 +98,25 @@ fn walk_plan(
             fr,
             seen,
             &mut out[at..],
-            &g.levels,
-            g.count,
-            g.top,
+            levels,
+            count,
+            top,
             t,
         );
         let s = m.step;
+        let u = m.top;
         match s {
             Step::On => {
-                let u = m.top;
                 t = u;
             }
             Step::Done => {
-                return answer(0, 0, t);
+                return done(p, t, u);
             }
             Step::Loops(n) => {
-                return looped(p, n, t);
+                return looped(p, n, t, u);
             }
             Step::Full => {
-                let u = m.top;
-                return answer(10, u.units, u);
-            }
-            Step::Deep => {
-                return answer(10, 0, t);
+                return full(p, t, u);
             }
         }
     }
@@ -125,5 +137,6 @@ pub fn explain_plan(
 {
     let mut fr = [0u32; 2080];
     let mut seen = [0u8; 128];
-    walk_plan(file, ix, p, k, &mut fr, &mut seen, out, top)
+    let mut levels = [0u64; 65];
+    walk_plan(file, ix, p, k, &mut fr, &mut seen, &mut levels, out, top)
 }

@@ -19,48 +19,51 @@ use Rattle.store.specs.Graph.{Graph, startGraph, settle, unreached}
 use Rattle.store.specs.Table.{graphIn, Stored, Growing, taken, taken-growing, taken-graph}
 use Rattle.links.specs.Build.{Chains}
 use Rattle.reach.specs.Queue.{lowestOf}
-use Rattle.triples.specs.Hashed.{Triples, lastIn, madeIn, triples-none, made-none, last-none, clear-fresh, Clear}
+use Rattle.triples.specs.Hashed.{Triples, madeIn, triples-none, made-none, clear-fresh, Clear}
 use Rattle.expansion.specs.declared.Work.{Work}
 use Rattle.expansion.specs.declared.Progress.{Progress}
 use Rattle.expansion.specs.declared.Progress.the-variants as P
-use Rattle.expansion.specs.Expand.{Build, Step, on, stop, startBuild, expand}
-use Rattle.expansion.specs.Pairing.{buildIn, Holds, progressIn, HoldsIn, Expanded}
+use Rattle.expansion.specs.Expand.{Build, startBuild}
+use Rattle.expansion.specs.Working.{StepSoFar, onTo, stopAt, expandIn}
+use Rattle.expansion.specs.Lasts.{lasts-none}
+use Rattle.expansion.specs.State.{buildIn, Holds, progressIn, HoldsIn, Expanded}
 use Rattle.graph.specs.declared.Turn.{Turn}
 use Rattle.graph.specs.declared.Turn.the-variants as U
 use Rattle.graph.specs.declared.Drawing.{Drawing}
 use Rattle.graph.specs.declared.Drawing.the-variants as D
 use Rattle.graph.specs.declared.Core.{Core}
 use Rattle.graph.specs.declared.Core.the-variants as O
-use Rattle.graph.specs.Graphs.{isLearnt, Turned, go, halt, expanded, coreTurn, handed, turnAt, Built, built, stopped, buildFrom, buildOf, Outcome, drawn, refused, finished, graphOf, leftOf}
+use Rattle.graph.specs.Graphs.{isLearnt, handed, Built, built, stopped, buildOf, Outcome, drawn, refused, finished, graphOf}
+use Rattle.graph.specs.Working.{TurnedSoFar, goTo, haltAt, expandedIn, coreTurnIn, turnAtIn, BuiltSoFar, builtTo, stoppedAt, buildFromIn, buildOfIn, leftOf, forgetBuilt, forget-build}
 
 -- ---- one clause
 
-abbrev pub turnIn : List ℕ → List ℕ → List ℕ → Turn → Turned
-turnIn g tr w (U.On k) = go (buildIn g tr w k)
-turnIn g tr w (U.Refused q s) = halt q (graphIn g s)
+abbrev pub turnIn : List ℕ → List ℕ → List ℕ → Turn → TurnedSoFar
+turnIn g tr w (U.On k) = goTo (buildIn g tr w k)
+turnIn g tr w (U.Refused q s) = haltAt q (graphIn g s)
 
 abbrev pub TurnHolds : List ℕ → List ℕ → List ℕ → Turn → Type 0
 TurnHolds g tr w (U.On k) = Holds g tr w k
 TurnHolds g tr w (U.Refused q s) = Growing g s
 
 -- the tables and answer r hold X
-pub record Turns (X : Turned) (g tr w : List ℕ) (r : Turn) : Type 0 where
+pub record Turns (X : TurnedSoFar) (g tr w : List ℕ) (r : Turn) : Type 0 where
   pub is : turnIn g tr w r ≡ X
   pub holds : TurnHolds g tr w r
 
 module _ (T : Tables) (c : Clause) (g tr w : List ℕ) (k : Work) (b : Bool) (q : b ≡ isLearnt c) where
-  pub core-learnt : b ≡ true → Holds g tr w k → Turns (coreTurn T c (buildIn g tr w k)) g tr w (U.Refused 7 (k .size))
-  core-learnt e H = record { is = rw ((sym q ∙ e), coreTurn); holds = H .growing }
+  pub core-learnt : b ≡ true → Holds g tr w k → Turns (coreTurnIn T c (buildIn g tr w k)) g tr w (U.Refused 7 (k .size))
+  core-learnt e H = record { is = rw ((sym q ∙ e), coreTurnIn); holds = H .growing }
 
-  module _ (h us m : List ℕ) (d : Progress) (e : b ≡ false) (R : Expanded (expand T c (buildIn g tr w k)) h us m d) where
-    turned : coreTurn T c (buildIn g tr w k) ≡ expanded (progressIn h us m d)
-    turned = rw ((sym q ∙ e), coreTurn) (ap expanded (sym (R .is)))
+  module _ (h us m : List ℕ) (d : Progress) (e : b ≡ false) (R : Expanded (expandIn T c (buildIn g tr w k)) h us m d) where
+    turned : coreTurnIn T c (buildIn g tr w k) ≡ expandedIn (progressIn h us m d)
+    turned = rw ((sym q ∙ e), coreTurnIn) (ap expandedIn (sym (R .is)))
 
-    pub core-on : (n : Work) → d ≡ P.On n → Turns (coreTurn T c (buildIn g tr w k)) h us m (U.On n)
-    core-on n f = record { is = sym (turned ∙ ap (λ (p : Progress). expanded (progressIn h us m p)) f); holds = rw f at (R .holds) }
+    pub core-on : (n : Work) → d ≡ P.On n → Turns (coreTurnIn T c (buildIn g tr w k)) h us m (U.On n)
+    core-on n f = record { is = sym (turned ∙ ap (λ (p : Progress). expandedIn (progressIn h us m p)) f); holds = rw f at (R .holds) }
 
-    pub core-full : (z : Size) → d ≡ P.Full z → Turns (coreTurn T c (buildIn g tr w k)) h us m (U.Refused 8 z)
-    core-full z f = record { is = sym (turned ∙ ap (λ (p : Progress). expanded (progressIn h us m p)) f); holds = rw f at (R .holds) }
+    pub core-full : (z : Size) → d ≡ P.Full z → Turns (coreTurnIn T c (buildIn g tr w k)) h us m (U.Refused 8 z)
+    core-full z f = record { is = sym (turned ∙ ap (λ (p : Progress). expandedIn (progressIn h us m p)) f); holds = rw f at (R .holds) }
 
 pub ruleset cores = (core-learnt, core-on, core-full)
 
@@ -78,71 +81,71 @@ pub clauses-most : (file ix : List ℕ) (n : ℕ) → Loaded file ix → n ≡ l
 clauses-most file ix n L e = omega (arith, loaded-valid file ix L .within Clauses)
 
 module _ (T : Tables) (i : ℕ) (g tr w : List ℕ) (k : Work) (b : Bool) (q : b ≡ coreAt T i) where
-  pub turn-out : b ≡ false → Holds g tr w k → Turns (turnAt T i (buildIn g tr w k)) g tr w (U.On k)
-  unfolding turnAt
-  turn-out e H = record { is = rw ((sym q ∙ e), turnAt); holds = H }
+  pub turn-out : b ≡ false → Holds g tr w k → Turns (turnAtIn T i (buildIn g tr w k)) g tr w (U.On k)
+  unfolding turnAtIn
+  turn-out e H = record { is = rw ((sym q ∙ e), turnAtIn); holds = H }
 
-  pub turn-in : (c : Clause) (n : Work) (h us m : List ℕ) (d : Turn) → b ≡ true → c ≡ clauseOf T i → n ≡ handWork k i → Turns (coreTurn T c (buildIn g tr w n)) h us m d → Turns (turnAt T i (buildIn g tr w k)) h us m d
-  unfolding turnAt
+  pub turn-in : (c : Clause) (n : Work) (h us m : List ℕ) (d : Turn) → b ≡ true → c ≡ clauseOf T i → n ≡ handWork k i → Turns (coreTurnIn T c (buildIn g tr w n)) h us m d → Turns (turnAtIn T i (buildIn g tr w k)) h us m d
+  unfolding turnAtIn
   turn-in c n h us m d e f o R =
       let z : buildIn g tr w n ≡ handed i (buildIn g tr w k) = ap (buildIn g tr w) o ∙ hand-build g tr w k i in
-      record { is = R .is ∙ ap (coreTurn T c) z ∙ rw ((sym q ∙ e), turnAt) (ap (λ (x : Clause). coreTurn T x (handed i (buildIn g tr w k))) f); holds = R .holds }
+      record { is = R .is ∙ ap (coreTurnIn T c) z ∙ rw ((sym q ∙ e), turnAtIn) (ap (λ (x : Clause). coreTurnIn T x (handed i (buildIn g tr w k))) f); holds = R .holds }
 
 pub ruleset turns = (turn-out, turn-in)
 
 -- ---- all clauses
 
-abbrev pub coreIn : List ℕ → List ℕ → List ℕ → Core → Built
-coreIn g tr w (O.Whole k) = built (buildIn g tr w k)
-coreIn g tr w (O.Refused q i s) = stopped q i (graphIn g s)
+abbrev pub coreIn : List ℕ → List ℕ → List ℕ → Core → BuiltSoFar
+coreIn g tr w (O.Whole k) = builtTo (buildIn g tr w k)
+coreIn g tr w (O.Refused q i s) = stoppedAt q i (graphIn g s)
 
 abbrev pub CoreHolds : List ℕ → List ℕ → List ℕ → Core → Type 0
 CoreHolds g tr w (O.Whole k) = Holds g tr w k
 CoreHolds g tr w (O.Refused q i s) = Growing g s
 
-pub record Builds (X : Built) (g tr w : List ℕ) (r : Core) : Type 0 where
+pub record Builds (X : BuiltSoFar) (g tr w : List ℕ) (r : Core) : Type 0 where
   pub is : coreIn g tr w r ≡ X
   pub holds : CoreHolds g tr w r
 
 -- the clauses from number i on, of n, lead to X
-pub record Left (X : Built) (T : Tables) (n i : ℕ) (g tr w : List ℕ) (k : Work) : Type 0 where
-  pub left : buildFrom (n - i) T i (buildIn g tr w k) ≡ X
+pub record Left (X : BuiltSoFar) (T : Tables) (n i : ℕ) (g tr w : List ℕ) (k : Work) : Type 0 where
+  pub left : buildFromIn (n - i) T i (buildIn g tr w k) ≡ X
   pub holds : Holds g tr w k
   pub low : i ≤ n
 
-abbrev onward : ℕ → Tables → ℕ → Turned → Built
-onward n T i (halt q g) = stopped q i g
-onward n T i (go b) = buildFrom n T (suc i) b
+abbrev onward : ℕ → Tables → ℕ → TurnedSoFar → BuiltSoFar
+onward n T i (haltAt q g) = stoppedAt q i g
+onward n T i (goTo b) = buildFromIn n T (suc i) b
 
-same-onward : (n : ℕ) (T : Tables) (i : ℕ) (t : Turned) → elim t [ halt k g ↦ stopped k i g | go d ↦ buildFrom n T (suc i) d ] ≡ onward n T i t
-same-onward n T i (halt q g) = refl
-same-onward n T i (go b) = refl
+same-onward : (n : ℕ) (T : Tables) (i : ℕ) (t : TurnedSoFar) → elim t [ haltAt k g ↦ stoppedAt k i g | goTo d ↦ buildFromIn n T (suc i) d ] ≡ onward n T i t
+same-onward n T i (haltAt q g) = refl
+same-onward n T i (goTo b) = refl
 
-build-suc : (n m : ℕ) (T : Tables) (i : ℕ) (b : Build) → m ≡ suc n → buildFrom m T i b ≡ onward n T i (turnAt T i b)
-unfolding buildFrom
-build-suc n m T i b e = rw e (same-onward n T i (turnAt T i b))
+build-suc : (n m : ℕ) (T : Tables) (i : ℕ) (b : Build) → m ≡ suc n → buildFromIn m T i b ≡ onward n T i (turnAtIn T i b)
+unfolding buildFromIn
+build-suc n m T i b e = rw e (same-onward n T i (turnAtIn T i b))
 
-pub left-start : (T : Tables) (n : ℕ) (g tr w : List ℕ) (k : Work) → Holds g tr w k → Left (buildFrom n T 0 (buildIn g tr w k)) T n 0 g tr w k
+pub left-start : (T : Tables) (n : ℕ) (g tr w : List ℕ) (k : Work) → Holds g tr w k → Left (buildFromIn n T 0 (buildIn g tr w k)) T n 0 g tr w k
 left-start T n g tr w k H = let z : n - 0 ≡ n = omega arith in record { left = rw z; holds = H; low = omega arith }
 
-module _ (X : Built) (T : Tables) (n i : ℕ) (g tr w h us m : List ℕ) (k : Work) (d : Turn) (L : Left X T n i g tr w k) (l : i < n) (R : Turns (turnAt T i (buildIn g tr w k)) h us m d) where
+module _ (X : BuiltSoFar) (T : Tables) (n i : ℕ) (g tr w h us m : List ℕ) (k : Work) (d : Turn) (L : Left X T n i g tr w k) (l : i < n) (R : Turns (turnAtIn T i (buildIn g tr w k)) h us m d) where
   rest : onward (n - (i + 1)) T i (turnIn h us m d) ≡ X
   rest = ap (onward (n - (i + 1)) T i) (R .is) ∙ sym (build-suc (n - (i + 1)) (n - i) T i (buildIn g tr w k) (omega arith)) ∙ L .left
 
   pub left-next : (j : Work) → d ≡ U.On j → Left X T n (i + 1) h us m j
   left-next j e =
-      let z : buildFrom (n - (i + 1)) T (suc i) (buildIn h us m j) ≡ X = ap (λ (t : Turn). onward (n - (i + 1)) T i (turnIn h us m t)) (sym e) ∙ rest in
-      record { left = ap (λ (x : ℕ). buildFrom (n - (i + 1)) T x (buildIn h us m j)) (add-one i) ∙ z; holds = rw e at (R .holds); low = omega arith }
+      let z : buildFromIn (n - (i + 1)) T (suc i) (buildIn h us m j) ≡ X = ap (λ (t : Turn). onward (n - (i + 1)) T i (turnIn h us m t)) (sym e) ∙ rest in
+      record { left = ap (λ (x : ℕ). buildFromIn (n - (i + 1)) T x (buildIn h us m j)) (add-one i) ∙ z; holds = rw e at (R .holds); low = omega arith }
 
   -- p is the clause's number, wider
   pub left-stop : (q p : ℕ) (z : Size) → d ≡ U.Refused q z → p ≡ i → Builds X h us m (O.Refused q p z)
   left-stop q p z e f = rw f (record { is = ap (λ (t : Turn). onward (n - (i + 1)) T i (turnIn h us m t)) (sym e) ∙ rest; holds = rw e at (R .holds) })
 
-pub left-end : (X : Built) (T : Tables) (n i : ℕ) (g tr w : List ℕ) (k : Work) → Left X T n i g tr w k → n ≤ i → Builds X g tr w (O.Whole k)
-unfolding buildFrom
+pub left-end : (X : BuiltSoFar) (T : Tables) (n i : ℕ) (g tr w : List ℕ) (k : Work) → Left X T n i g tr w k → n ≤ i → Builds X g tr w (O.Whole k)
+unfolding buildFromIn
 left-end X T n i g tr w k L h =
     let z : n - i ≡ 0 = omega arith in
-    record { is = ap (λ (m : ℕ). buildFrom m T i (buildIn g tr w k)) (sym z) ∙ L .left; holds = L .holds }
+    record { is = ap (λ (m : ℕ). buildFromIn m T i (buildIn g tr w k)) (sym z) ∙ L .left; holds = L .holds }
 
 pub ruleset lefts = (left-start, left-next, left-stop, left-end)
 
@@ -202,25 +205,27 @@ start-holds g tr w s P h e =
 start-build : (g tr w : List ℕ) (s : Size) → graphIn g s ≡ startGraph → w ≡ replicate 3456 0 → buildIn g tr w (record { size = s; triples = 0 }) ≡ startBuild
 start-build g tr w s q e =
     let C : Clear w = rw e clear-fresh in
-    rw (q, made-none tr, last-none w C)
+    rw (q, made-none tr, lasts-none w C)
 
-module _ (T : Tables) (n : ℕ) (g tr w h us m : List ℕ) (s : Size) (r : Core) (a : n ≡ length (T .clauses)) (q : graphIn g s ≡ startGraph) (e : w ≡ replicate 3456 0) (R : Builds (buildFrom n T 0 (buildIn g tr w (record { size = s; triples = 0 }))) h us m r) where
-  whole : coreIn h us m r ≡ buildOf T
-  unfolding buildOf
-  whole = R .is ∙ ap (λ (x : ℕ). buildFrom x T 0 (buildIn g tr w (record { size = s; triples = 0 }))) a ∙ ap (buildFrom (length (T .clauses)) T 0) (start-build g tr w s q e)
+module _ (T : Tables) (n : ℕ) (g tr w h us m : List ℕ) (s : Size) (r : Core) (a : n ≡ length (T .clauses)) (q : graphIn g s ≡ startGraph) (e : w ≡ replicate 3456 0) (R : Builds (buildFromIn n T 0 (buildIn g tr w (record { size = s; triples = 0 }))) h us m r) where
+  whole : coreIn h us m r ≡ buildOfIn T
+  unfolding buildOfIn
+  whole = R .is ∙ ap (λ (x : ℕ). buildFromIn x T 0 (buildIn g tr w (record { size = s; triples = 0 }))) a ∙ ap (buildFromIn (length (T .clauses)) T 0) (start-build g tr w s q e)
 
   pub build-refused : (k i : ℕ) (z : Size) → r ≡ O.Refused k i z → Drew (graphOf T) (leftOf T) h m (D.Refused k i z)
   unfolding graphOf leftOf
   build-refused k i z f =
-      let y : buildOf T ≡ stopped k i (graphIn h z) = sym whole ∙ ap (coreIn h us m) f in
+      let y : buildOfIn T ≡ stoppedAt k i (graphIn h z) = sym whole ∙ ap (coreIn h us m) f in
       let P : Growing h z = rw f at (R .holds) in
-      record { is = rw (y, graphOf); holds = rw (y, leftOf); stored = P .stored; chained = tt }
+      let x : buildOf T ≡ stopped k i = sym (forget-build T) ∙ ap forgetBuilt y in
+      record { is = rw (x, graphOf); holds = rw (y, leftOf); stored = P .stored; chained = tt }
 
   pub build-whole : (k : Work) (j v : List ℕ) (d : Drawing) → r ≡ O.Whole k → Drew (finished (settle (graphIn h (k .size)))) (settle (graphIn h (k .size))) j v d → Drew (graphOf T) (leftOf T) j v d
   unfolding graphOf leftOf
   build-whole k j v d f F =
-      let y : buildOf T ≡ built (buildIn h us m k) = sym whole ∙ ap (coreIn h us m) f in
-      record { is = F .is ∙ rw (y, graphOf); holds = F .holds ∙ rw (y, leftOf); stored = F .stored; chained = F .chained }
+      let y : buildOfIn T ≡ builtTo (buildIn h us m k) = sym whole ∙ ap (coreIn h us m) f in
+      let x : buildOf T ≡ built (buildIn h us m k) = sym (forget-build T) ∙ ap forgetBuilt y in
+      record { is = F .is ∙ rw (x, graphOf); holds = F .holds ∙ rw (y, leftOf); stored = F .stored; chained = F .chained }
 
   pub whole-growing : (k : Work) → r ≡ O.Whole k → Growing h (k .size)
   whole-growing k f = let H : Holds h us m k = rw f at (R .holds) in H .growing

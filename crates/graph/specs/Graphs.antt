@@ -23,19 +23,19 @@ isLearnt (C.ConstrainsParent a b c) = false
 isLearnt (C.ConstrainsExcluded a b c) = false
 isLearnt (C.AnyOf a b) = false
 
--- what one clause leads to in `coreTurn`: a refusal's number comes with the graph so far
+-- what one clause leads to in `coreTurn`: the build goes on; or a refusal's number, 7 or 8
 pub data Turned : Type 0 where
   go : Build → Turned
-  halt : ℕ → Graph → Turned
+  halt : ℕ → Turned
 
 -- 8: "node 129 or edge 1,025 would be added"
 abbrev pub expanded : Step → Turned
 expanded (on b) = go b
-expanded (stop g) = halt 8 g
+expanded stop = halt 8
 
 -- 7: "Learnt in the core" (`unreachable!()`, conflict.rs, line 186)
 abbrev pub coreTurn : Tables → Clause → Build → Turned
-coreTurn T c b = elim (isLearnt c) [ true ↦ halt 7 (b .graph) | false ↦ expanded (expand T c b) ]
+coreTurn T c b = elim (isLearnt c) [ true ↦ halt 7 | false ↦ expanded (expand T c b) ]
 
 -- document 02, order 3: "the number of the core clause that added it" is the clause's number among all clauses, as the places of 7 and 8
 -- are. A triple made before adds nothing (`once`), so "a shared triple keeps the first one's"
@@ -47,16 +47,16 @@ unfoldable pub turnAt : Tables → ℕ → Build → Turned
 unfolding clauseOf clauseIn expand
 turnAt T i b = elim (coreAt T i) [ false ↦ go b | true ↦ coreTurn T (clauseOf T i) (handed i b) ]
 
--- what `buildOf` gives: the graph of the whole core, or a refusal with its number, its place and the graph so far
+-- what `buildOf` gives: the graph of the whole core, or a refusal with its number and its place
 pub data Built : Type 0 where
   built : Build → Built
-  stopped : ℕ → ℕ → Graph → Built
+  stopped : ℕ → ℕ → Built
 
 -- n clauses from number i on, in `buildOf`
 unfoldable pub buildFrom : ℕ → Tables → ℕ → Build → Built
 unfolding turnAt
 buildFrom zero T i b = built b
-buildFrom (suc n) T i b = elim (turnAt T i b) [ halt k g ↦ stopped k i g | go d ↦ buildFrom n T (suc i) d ]
+buildFrom (suc n) T i b = elim (turnAt T i b) [ halt k ↦ stopped k i | go d ↦ buildFrom n T (suc i) d ]
 
 -- "Core clauses go in file order, as in the Rust" (the loop of `Conflict::graph`, conflict.rs, line 165 on)
 unfoldable pub buildOf : Tables → Built
@@ -76,9 +76,4 @@ finished g = elim (unreached g) [ none ↦ drawn g | some n ↦ refused 9 n ]
 -- `Conflict::graph` (conflict.rs, lines 44 to 378): the core, the removal of unresolved (line 359), reachability
 unfoldable pub graphOf : Tables → Outcome
 unfolding buildOf finished settle
-graphOf T = elim (buildOf T) [ stopped k i g ↦ refused k i | built b ↦ finished (settle (b .graph)) ]
-
--- the graph that building leaves: the drawn one; for 7 and 8 the graph so far; for 9 the one that is not reached as a whole
-unfoldable pub leftOf : Tables → Graph
-unfolding buildOf settle
-leftOf T = elim (buildOf T) [ stopped k i g ↦ g | built b ↦ settle (b .graph) ]
+graphOf T = elim (buildOf T) [ stopped k i ↦ refused k i | built b ↦ finished (settle (b .graph)) ]

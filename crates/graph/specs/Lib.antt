@@ -1,4 +1,5 @@
 pub mod Graphs
+pub mod Working
 pub mod Drawing
 pub mod Files
 pub mod Exact

@@ -7,8 +7,9 @@ ghost use Rattle.records.specs.Read.{tablesOf};
 ghost use Rattle.index.specs.Index.{Loaded, Blank};
 ghost use Rattle.store.specs.Graph.{settle};
 ghost use Rattle.store.specs.Table.{graphIn, Growing};
-ghost use Rattle.expansion.specs.Pairing.{buildIn, Holds};
-ghost use Rattle.graph.specs.Graphs.{isLearnt, coreTurn, turnAt, buildFrom, finished, graphOf, leftOf};
+ghost use Rattle.expansion.specs.State.{buildIn, Holds};
+ghost use Rattle.graph.specs.Graphs.{isLearnt, finished, graphOf};
+ghost use Rattle.graph.specs.Working.{coreTurnIn, turnAtIn, buildFromIn, leftOf};
 ghost use Rattle.graph.specs.Drawing.{handWork, Turns, Builds, Drew};
 ghost use Rattle.graph.specs.Files.{Makes, madeOf};
 use expansion::Progress;
@@ -76,7 +77,7 @@ fn core_turn(
 ) -> Turn
     requires { ⌜ Loaded (now file) (now ix) ⌝ }
     requires { ⌜ Holds (now g) (now tr) (now ls) k ⌝ }
-    ensures { λ r. ⌜ Turns (coreTurn (tablesOf (now (file .entry))) c (buildIn (now (g .entry)) (now (tr .entry)) (now (ls .entry)) k)) (now (g .exit)) (now (tr .exit)) (now (ls .exit)) r ⌝ }
+    ensures { λ r. ⌜ Turns (coreTurnIn (tablesOf (now (file .entry))) c (buildIn (now (g .entry)) (now (tr .entry)) (now (ls .entry)) k)) (now (g .exit)) (now (tr .exit)) (now (ls .exit)) r ⌝ }
 {
     if is_learnt(c) {
         let s = k.size;
@@ -119,7 +120,7 @@ fn turn_at(
     requires { ⌜ Loaded (now file) (now ix) ⌝ }
     requires { ⌜ Holds (now g) (now tr) (now ls) k ⌝ }
     requires { ⌜ i < 1024 ⌝ }
-    ensures { λ r. ⌜ Turns (turnAt (tablesOf (now (file .entry))) i (buildIn (now (g .entry)) (now (tr .entry)) (now (ls .entry)) k)) (now (g .exit)) (now (tr .exit)) (now (ls .exit)) r ⌝ }
+    ensures { λ r. ⌜ Turns (turnAtIn (tablesOf (now (file .entry))) i (buildIn (now (g .entry)) (now (tr .entry)) (now (ls .entry)) k)) (now (g .exit)) (now (tr .exit)) (now (ls .exit)) r ⌝ }
 {
     if views::in_core(file, ix, i) {
         let c = views::clause(file, ix, i);
@@ -142,7 +143,7 @@ fn build_core(
     requires { ⌜ Loaded (now file) (now ix) ⌝ }
     requires { ⌜ Holds (now g) (now tr) (now ls) k ⌝ }
     requires { ⌜ n ≤ 1024 ⌝ }
-    ensures { λ r. ⌜ Builds (buildFrom n (tablesOf (now (file .entry))) 0 (buildIn (now (g .entry)) (now (tr .entry)) (now (ls .entry)) k)) (now (g .exit)) (now (tr .exit)) (now (ls .exit)) r ⌝ }
+    ensures { λ r. ⌜ Builds (buildFromIn n (tablesOf (now (file .entry))) 0 (buildIn (now (g .entry)) (now (tr .entry)) (now (ls .entry)) k)) (now (g .exit)) (now (tr .exit)) (now (ls .exit)) r ⌝ }
 {
     let mut m = k;
     let mut i: usize = 0;

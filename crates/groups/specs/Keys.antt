@@ -1,4 +1,4 @@
--- The keys of a node's outgoing (d true) or incoming (d false) edges, walked along its chain: one set of laws for both.
+-- The keys of a node's outgoing (d true) or incoming (d false) edges, as codes, walked along its chain: one set of laws for both.
 use mathlib.Core.Path.{_≡_, refl, sym, ap, _∙_}
 use mathlib.Core.Bool.{Bool, true, false, cond, _&&_, true≢false, false≢true}
 use mathlib.Core.List.{List, [], _∷_, map, reverse}
@@ -11,17 +11,18 @@ use Rattle.basis.specs.Lists.{all, filter}
 use Rattle.basis.specs.Members.{split}
 use Rattle.store.specs.declared.Edge.{Edge}
 use Rattle.store.specs.declared.Size.{Size}
-use Rattle.store.specs.Graph.{Graph, out, into, tryRequires}
+use Rattle.store.specs.Graph.{Graph, out, into}
+use Rattle.store.specs.Words.{requirementCode}
 use Rattle.store.specs.Table.{graphIn, edgeIn, Stored, edges-count}
 use Rattle.links.specs.Build.{Chains}
 use Rattle.links.specs.Walk.{Out, Into, firstOut, nextOut, firstIn, nextIn, outLeft, intoLeft, out-start, out-all, out-next, out-less, out-cons, out-end, into-start, into-all, into-next, into-less, into-cons, into-end}
 use Rattle.groups.specs.Small.{filter-short}
-use Rattle.groups.specs.Groups.{outKey, inKey, outKeys, inKeys}
-use Rattle.groups.specs.Multi.{bump, count, evenly, Rest, rest-none, rest-both, sameKeys, even-is, ended-same, long-apart}
+use Rattle.groups.specs.Codes.{outCode, inCode, outCodes, inCodes}
+use Rattle.groups.specs.Multi.{bump, count, evenly, Rest, rest-none, rest-both, sameCodes, even-is, ended-same, long-apart}
 
 unfoldable pub keysIn : Graph → Bool → ℕ → List ℕ
-keysIn G true n = outKeys G n
-keysIn G false n = inKeys G n
+keysIn G true n = outCodes G n
+keysIn G false n = inCodes G n
 
 -- in the tables: the first of a chain, the next, an edge's key, the keys that are left
 unfoldable pub firstKey : List ℕ → Bool → ℕ → ℕ
@@ -33,12 +34,12 @@ nextKey ls true e = nextOut ls e
 nextKey ls false e = nextIn ls e
 
 unfoldable pub keyAt : List ℕ → Bool → ℕ → ℕ
-keyAt g true e = outKey (edgeIn g e)
-keyAt g false e = inKey (edgeIn g e)
+keyAt g true e = outCode (edgeIn g e)
+keyAt g false e = inCode (edgeIn g e)
 
 unfoldable pub keysLeft : List ℕ → Bool → ℕ → ℕ → List ℕ
-keysLeft g true n e = map outKey (outLeft g n e)
-keysLeft g false n e = map inKey (intoLeft g n e)
+keysLeft g true n e = map outCode (outLeft g n e)
+keysLeft g false n e = map inCode (intoLeft g n e)
 
 -- e is 0 or one more than an edge of n's chain
 pub record Way (g ls : List ℕ) (d : Bool) (n e : ℕ) : Type 0 where
@@ -47,9 +48,9 @@ pub record Way (g ls : List ℕ) (d : Bool) (n e : ℕ) : Type 0 where
   pub into-way : d ≡ false → Into g size ls n e
 
 pub way-all : (g : List ℕ) (s : Size) (ls : List ℕ) (d : Bool) (n r : ℕ) → Chains g s ls → n < s .nodes → r ≡ firstKey ls d n → keysLeft g d n r ≡ keysIn (graphIn g s) d n
-unfolding firstKey keysLeft keysIn outKeys inKeys
-way-all g s ls true n r c h q = ap (map outKey) (out-all g s ls n r c h q)
-way-all g s ls false n r c h q = ap (map inKey) (into-all g s ls n r c h q)
+unfolding firstKey keysLeft keysIn outCodes inCodes
+way-all g s ls true n r c h q = ap (map outCode) (out-all g s ls n r c h q)
+way-all g s ls false n r c h q = ap (map inCode) (into-all g s ls n r c h q)
 
 pub way-start : (g : List ℕ) (s : Size) (ls : List ℕ) (d : Bool) (n r : ℕ) → Chains g s ls → n < s .nodes → r ≡ firstKey ls d n → Way g ls d n r
 unfolding firstKey
@@ -68,13 +69,13 @@ way-less g ls false n e r w p q = into-less g (w .size) ls n e r (w .into-way re
 
 way-cons : (g ls : List ℕ) (d : Bool) (n e r : ℕ) → Way g ls d n e → 0 < e → r ≡ nextKey ls d (e - 1) → keysLeft g d n e ≡ keyAt g d (e - 1) ∷ keysLeft g d n r
 unfolding nextKey keysLeft keyAt
-way-cons g ls true n e r w p q = ap (map outKey) (out-cons g (w .size) ls n e r (w .out-way refl) p q)
-way-cons g ls false n e r w p q = ap (map inKey) (into-cons g (w .size) ls n e r (w .into-way refl) p q)
+way-cons g ls true n e r w p q = ap (map outCode) (out-cons g (w .size) ls n e r (w .out-way refl) p q)
+way-cons g ls false n e r w p q = ap (map inCode) (into-cons g (w .size) ls n e r (w .into-way refl) p q)
 
 way-end : (g : List ℕ) (d : Bool) (n e : ℕ) → e ≤ 0 → keysLeft g d n e ≡ []
 unfolding keysLeft
-way-end g true n e h = ap (map outKey) (out-end g n e h)
-way-end g false n e h = ap (map inKey) (into-end g n e h)
+way-end g true n e h = ap (map outCode) (out-end g n e h)
+way-end g false n e h = ap (map inCode) (into-end g n e h)
 
 -- ---- reads
 
@@ -94,11 +95,13 @@ pub next-in-is : (ls : List ℕ) (d : Bool) (n r : ℕ) → d ≡ false → r �
 unfolding nextKey
 next-in-is ls d n r e q = rw e q
 
-pub key-out-is : (g : List ℕ) (d : Bool) (e q t u : ℕ) → d ≡ true → q ≡ tryRequires (edgeIn g e .weight) → t ≡ u → u ≡ edgeIn g e .target → q * 256 + t ≡ keyAt g d e
+pub key-out-is : (g : List ℕ) (d : Bool) (e q t u : ℕ) → d ≡ true
+    → q ≡ requirementCode (edgeIn g e .weight) → t ≡ u → u ≡ edgeIn g e .target → q * 256 + t ≡ keyAt g d e
 unfolding keyAt
 key-out-is g d e q t u z p i r = rw (z, p, i, r)
 
-pub key-in-is : (g : List ℕ) (d : Bool) (e q t u : ℕ) → d ≡ false → q ≡ tryRequires (edgeIn g e .weight) → t ≡ u → u ≡ edgeIn g e .source → q * 256 + t ≡ keyAt g d e
+pub key-in-is : (g : List ℕ) (d : Bool) (e q t u : ℕ) → d ≡ false
+    → q ≡ requirementCode (edgeIn g e .weight) → t ≡ u → u ≡ edgeIn g e .source → q * 256 + t ≡ keyAt g d e
 unfolding keyAt
 key-in-is g d e q t u z p i r = rw (z, p, i, r)
 
@@ -203,7 +206,7 @@ even-end g s d m n e Z i l = sym (sym i ∙ rw (way-end g d m e l))
 
 -- the whole comparison
 unfoldable pub sameIn : Graph → Bool → ℕ → ℕ → Bool
-sameIn G d m n = sameKeys (keysIn G d m) (keysIn G d n)
+sameIn G d m n = sameCodes (keysIn G d m) (keysIn G d n)
 
 module _ (g : List ℕ) (s : Size) (ls : List ℕ) (d : Bool) (m n a b : ℕ) (S : Skipped g ls d m n (keysIn (graphIn g s) d m) (keysIn (graphIn g s) d n) a b) where
   -- m's end first: then n's have to end as well
@@ -245,7 +248,7 @@ module _ (G : Graph) (m n : ℕ) (u : Bool) (k : u ≡ sameIn G false m n) where
 -- ---- a chain has at most 1,024 edges
 
 pub keys-few : (g : List ℕ) (s : Size) (S : Stored g s) (d : Bool) (n : ℕ) → length (keysIn (graphIn g s) d n) ≤ 1024
-unfolding keysIn outKeys inKeys out into
+unfolding keysIn outCodes inCodes out into
 keys-few g s S true n =
     rw length-map (omega (arith, filter-short (λ (e : Edge). eqb (e .source) n) (reverse (graphIn g s .edges)), length-reverse (graphIn g s .edges), edges-count g s S, S .edges-most))
 keys-few g s S false n =

@@ -19,10 +19,11 @@ use Rattle.store.specs.declared.Size.{Size}
 use Rattle.store.specs.Graph.{Graph, nodeAt, isSolvable}
 use Rattle.store.specs.Table.{graphIn, nodeIn, Stored, nodes-count, node-in}
 use Rattle.links.specs.Build.{Chains}
-use Rattle.groups.specs.Small.{both, eq-refl, filter-same}
+use Rattle.groups.specs.Small.{both, eq-refl, keys-refl, filter-same}
 use Rattle.groups.specs.Groups.{sort, outKeys, inKeys, mergesBy, titleOf, matesBy, headOr, leadBy}
 use Rattle.groups.specs.Counts.{Alike, alike, same-row}
-use Rattle.groups.specs.Multi.{sameKeys}
+use Rattle.groups.specs.Codes.{stored-ends, in-same, out-same}
+use Rattle.groups.specs.Multi.{sameCodes}
 use Rattle.groups.specs.Keys.{keysIn, sameIn, sameEdges}
 use Rattle.groups.specs.Prints.{printOf, Printed}
 use Rattle.groups.specs.Laws.Prints.{print-sorted, twinsTo, alone}
@@ -65,7 +66,7 @@ filter-none p (x ∷ l) h = rw (h x, filter) (filter-none p l h)
 module _ (title : ℕ → List ℕ) (G : Graph) where
   merges-self : (n : ℕ) → isSolvable (nodeAt G n) ≡ true → mergesBy title G n n ≡ true
   unfolding mergesBy
-  merges-self n e = rw (e, eq-refl (title n), eq-refl (sort (inKeys G n)), eq-refl (sort (outKeys G n)))
+  merges-self n e = rw (e, eq-refl (title n), keys-refl (sort (inKeys G n)), keys-refl (sort (outKeys G n)))
 
   lead-least : (n m : ℕ) → m < length (G .nodes) → mergesBy title G m n ≡ true → (mergesBy title G (leadBy title G n) n ≡ true) × (leadBy title G n ≤ m)
   unfolding leadBy matesBy
@@ -168,19 +169,6 @@ fitsOf G ids leads m n = eqb (getD leads m 0) m && mergesBy (titleIn ids) G m n
 pub is-solvable : (t x : Bool) → t ≡ true → t ≡ x → x ≡ true
 is-solvable t x e q = sym q ∙ e
 
-module _ (r x : ConflictNode) where
-  pub no-root : r ≡ N.Root → r ≡ x → false ≡ isSolvable x
-  no-root e q = rw (← q, e)
-
-  pub is-it : (t : ℕ) → r ≡ N.Solvable t → r ≡ x → true ≡ isSolvable x
-  is-it t e q = rw (← q, e)
-
-  pub no-unresolved : r ≡ N.UnresolvedDependency → r ≡ x → false ≡ isSolvable x
-  no-unresolved e q = rw (← q, e)
-
-  pub no-reason : (t : ℕ) → r ≡ N.Excluded t → r ≡ x → false ≡ isSolvable x
-  no-reason t e q = rw (← q, e)
-
 module _ (g : List ℕ) (s : Size) (ls ids prints leads : List ℕ) (n : ℕ) (R : Ready g s ls ids prints leads n) where
   count-is : length (graphIn g s .nodes) ≡ s .nodes
   count-is = nodes-count g s (R .chains .stored)
@@ -238,10 +226,21 @@ module _ (g : List ℕ) (s : Size) (ls ids prints leads : List ℕ) (n : ℕ) (R
 
       -- the full comparison decides
       pub fits-edges : (r t : Bool) → r ≡ sameEdges (graphIn g s) m n → v ≡ true → t ≡ true → t ≡ alikeOf ids prints leads m n → isSolvable (nodeIn g n) ≡ true → r ≡ fitsOf (graphIn g s) ids leads m n
-      unfolding fitsOf sameEdges sameIn sameKeys keysIn mergesBy titleIn
+      unfolding fitsOf sameEdges sameIn sameCodes keysIn mergesBy titleIn
       fits-edges r t q w z a i =
           let cheap = alike-all ids prints leads m n (sym a ∙ z) in
-          rw (q, cheap .lead, sym (kind-is m m-node) ∙ sym k ∙ w, sym (kind-is n (R .node)) ∙ i, cheap .id, eq-eqb (getD ids n 0) (getD ids n 0) refl, eqList)
+          let E = stored-ends g s in
+          rw (
+            q,
+            cheap .lead,
+            sym (kind-is m m-node) ∙ sym k ∙ w,
+            sym (kind-is n (R .node)) ∙ i,
+            cheap .id,
+            eq-eqb (getD ids n 0) (getD ids n 0) refl,
+            eqList,
+            in-same (graphIn g s) E m n,
+            out-same (graphIn g s) E m n,
+          )
 
   -- ---- the search
 

@@ -2,6 +2,7 @@ pub mod Small
 pub mod Groups
 pub mod Samples
 pub mod Counts
+pub mod Codes
 pub mod Multi
 pub mod Keys
 pub mod Prints

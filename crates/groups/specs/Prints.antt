@@ -5,10 +5,10 @@ use mathlib.Core.List.{List, [], _∷_}
 use Prim.Native.Nat.{ℕ, _+_, _*_, _%_, _^_, _<_}
 use lib.ListN.{length, getD}
 use Rattle.store.specs.Graph.{Graph}
-use Rattle.groups.specs.Groups.{outKeys, inKeys}
+use Rattle.groups.specs.Codes.{outCodes, inCodes}
 
--- "numbers made from their edges": of an edge's key (requirement or none, other end) and its direction, d where it goes out. They
--- are squares, since sums of multiples are equal as soon as two edges swap their ends; odd and even tell the directions apart.
+-- "numbers made from their edges": of the code of an edge's key (requirement or none, other end) and its direction, d where it goes
+-- out. They are squares, since sums of multiples are equal as soon as two edges swap their ends; odd and even tell the directions apart.
 unfoldable pub mixOf : Bool → ℕ → ℕ
 mixOf true k = (2 * k + 1) * (2 * k + 1) % 2 ^ 32
 mixOf false k = (2 * k + 2) * (2 * k + 2) % 2 ^ 32
@@ -20,8 +20,8 @@ totalOf d (k ∷ l) = mixOf d k + totalOf d l
 
 -- a node's fingerprint: its outgoing and its incoming edges
 unfoldable pub printOf : Graph → ℕ → ℕ
-unfolding totalOf outKeys inKeys
-printOf G n = (totalOf true (outKeys G n) + totalOf false (inKeys G n)) % 2 ^ 32
+unfolding totalOf outCodes inCodes
+printOf G n = (totalOf true (outCodes G n) + totalOf false (inCodes G n)) % 2 ^ 32
 
 -- a table that holds every node's
 pub record Printed (G : Graph) (prints : List ℕ) : Type 0 where

@@ -10,20 +10,7 @@ ghost use Rattle.links.specs.Build.{Chains};
 ghost use Rattle.groups.specs.Groups.{leadBy};
 ghost use Rattle.groups.specs.Prints.{Printed};
 ghost use Rattle.groups.specs.Leads.{titleIn, leadsTo, Ready, alikeOf, fitsOf};
-use store::ConflictNode;
 use store::Size;
-
-fn solvable_at(g: &[u64; 1152], n: usize) -> bool
-    ensures { λ r. ⌜ r ≡ isSolvable (nodeIn (now (g .entry)) n) ⌝ }
-{
-    let x = store::node_at(g, n);
-    match x {
-        ConflictNode::Root => false,
-        ConflictNode::Solvable(_) => true,
-        ConflictNode::UnresolvedDependency => false,
-        ConflictNode::Excluded(_) => false,
-    }
-}
 
 // What costs little: the same fingerprint, the same name, and m a first member.
 fn alike(ids: &[u16; 128], prints: &[u32; 128], leads: &[u16; 128], m: usize, n: usize) -> bool
@@ -58,7 +45,7 @@ fn fits(
 {
     let t = alike(ids, prints, leads, m, n);
     if t {
-        let v = solvable_at(g, m);
+        let v = store::solvable_at(g, m);
         if v {
             return crate::keys::same_edges(g, s, ls, m, n);
         }
@@ -109,7 +96,7 @@ fn lead_of(
     if c == 0 {
         return n;
     }
-    let t = solvable_at(g, n);
+    let t = store::solvable_at(g, n);
     if t {
         return first_fit(g, s, ls, ids, prints, leads, n);
     }

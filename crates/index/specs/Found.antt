@@ -102,9 +102,6 @@ module _ (file ix : List ℕ) (l : Loaded file ix) where
   pub set-name : (k n i : ℕ) (x : ℕ) → x ≡ (at (recordsOf file) i) .b → i ≡ recordNo 384 256 ix k → k ≡ n → x ≡ (at (tablesOf file .versionSets) n) .b
   set-name = through file ix (l .based) (λ r. r .b) VersionSets (λ j. refl)
 
-  pub candidate-a : (k n i : ℕ) (x : ℕ) → x ≡ (at (recordsOf file) i) .a → i ≡ recordNo 896 1024 ix k → k ≡ n → x ≡ (at (tablesOf file .candidates) n) .a
-  candidate-a = through file ix (l .based) (λ r. r .a) Candidates (λ j. refl)
-
   pub candidate-b : (k n i : ℕ) (x : ℕ) → x ≡ (at (recordsOf file) i) .b → i ≡ recordNo 896 1024 ix k → k ≡ n → x ≡ (at (tablesOf file .candidates) n) .b
   candidate-b = through file ix (l .based) (λ r. r .b) Candidates (λ j. refl)
 
@@ -114,20 +111,11 @@ module _ (file ix : List ℕ) (l : Loaded file ix) where
   pub variable-c : (k n i : ℕ) (x : ℕ) → x ≡ (at (recordsOf file) i) .c → i ≡ recordNo 1984 1024 ix k → k ≡ n → x ≡ (at (tablesOf file .variables) n) .c
   variable-c = through file ix (l .based) (λ r. r .c) Variables (λ j. refl)
 
-  pub clause-kind : (k n i : ℕ) (x : ℕ) → x ≡ (at (recordsOf file) i) .kind → i ≡ recordNo 4032 1024 ix k → k ≡ n → x ≡ (at (tablesOf file .clauses) n) .kind
-  clause-kind = through file ix (l .based) (λ r. r .kind) Clauses (λ j. refl)
-
-  pub clause-first : (k n i : ℕ) (x : ℕ) → x ≡ (at (recordsOf file) i) .first → i ≡ recordNo 4032 1024 ix k → k ≡ n → x ≡ (at (tablesOf file .clauses) n) .first
-  clause-first = through file ix (l .based) (λ r. r .first) Clauses (λ j. refl)
-
   pub clause-a : (k n i : ℕ) (x : ℕ) → x ≡ (at (recordsOf file) i) .a → i ≡ recordNo 4032 1024 ix k → k ≡ n → x ≡ (at (tablesOf file .clauses) n) .a
   clause-a = through file ix (l .based) (λ r. r .a) Clauses (λ j. refl)
 
   pub clause-b : (k n i : ℕ) (x : ℕ) → x ≡ (at (recordsOf file) i) .b → i ≡ recordNo 4032 1024 ix k → k ≡ n → x ≡ (at (tablesOf file .clauses) n) .b
   clause-b = through file ix (l .based) (λ r. r .b) Clauses (λ j. refl)
-
-  pub clause-c : (k n i : ℕ) (x : ℕ) → x ≡ (at (recordsOf file) i) .c → i ≡ recordNo 4032 1024 ix k → k ≡ n → x ≡ (at (tablesOf file .clauses) n) .c
-  clause-c = through file ix (l .based) (λ r. r .c) Clauses (λ j. refl)
 
 -- ---- the clause that assigned a variable
 

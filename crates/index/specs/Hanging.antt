@@ -19,7 +19,8 @@ use Rattle.records.specs.Read.{readOf, good, tablesOf}
 use Rattle.index.specs.Promise.{Valid, promise}
 use Rattle.index.specs.Index.{base, Based, Loaded, Blank, Hangs, indexOf, numbered, noPlaces, linkOf, hung, recordNo, keyIn, candidateLay, partnerLay, candidateKey, partnerKey, candidatesHung, partnersHung}
 use Rattle.index.specs.Found.{found}
-use Rattle.index.specs.Loading.{below-chains, numbers-hold}
+use Rattle.index.specs.Regions.{below-chains}
+use Rattle.index.specs.Loading.{numbers-hold}
 
 -- ---- one item at the head of its chain
 

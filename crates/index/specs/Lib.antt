@@ -3,6 +3,8 @@ pub mod Promise
 pub mod Index
 pub mod Found
 pub mod Filling
+pub mod Regions
+pub mod More
 pub mod Loading
 pub mod Hanging
 pub mod Load

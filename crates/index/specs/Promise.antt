@@ -25,7 +25,8 @@ use Rattle.records.specs.declared.Shape.{Shape}
 use Rattle.records.specs.Shapes.{Rec, cut, recordsOf, limit, shapeOf}
 use Rattle.records.specs.Tables.{Tables, noTables, tableOf, put, at, noRec}
 use Rattle.records.specs.Read.{shown, zeros, firstGood, fieldGood, namedGood, numberGood, allows, originGood, good, readOf}
-use Rattle.index.specs.Steps.{Passed, Steps, read-accepted, isIn, table-put, its-table, each-table, each-kind}
+use Rattle.records.specs.Steps.{Passed}
+use Rattle.index.specs.Steps.{Steps, read-accepted, isIn, table-put, its-table, each-table, each-kind}
 
 -- ---- the promise
 

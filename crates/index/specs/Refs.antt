@@ -1,15 +1,20 @@
--- The promise by clauses and by origins: what a crate above may know of the numbers that an accessor hands out.
-use mathlib.Core.Path.{_≡_, refl}
-use mathlib.Core.Bool.{true}
-use mathlib.Core.Option.{some}
-use Prim.Native.Nat.{ℕ, zero, suc, _≤_, _<_}
+-- Every number that the graph part follows is below the length of its table. The theorem is `references`, at the end: what a clause
+-- names, what a variable stands for, the clause that assigned it, candidates, partners and names. So what the definitions of `Views`
+-- say past the end of a table is never looked at.
+use mathlib.Core.Path.{_≡_, refl, ap}
+use mathlib.Core.Bool.{Bool, true, false, not, _&&_, _||_}
+use mathlib.Core.List.{List, [], _∷_, map}
+use mathlib.Core.Option.{Option, none, some}
+use Prim.Native.Nat.{ℕ, zero, suc, _<_}
 use native.Mathlib.Omega.{arith}
 use lib.ListN.{length, List·getD-eq-default}
 use lib.Dec.{ltb, eqb}
-use borrow.Author.Tests.{eqb-true, eqb-false, ltb-true, ltb-false}
-use Rattle.basis.specs.Members.{split}
+use borrow.Author.Tests.{eqb-true, eq-eqb, ltb-true, ltb-false}
+use Rattle.basis.specs.Lists.{all, filter, first}
+use Rattle.basis.specs.Members.{split, clash, All}
 use Rattle.records.specs.declared.Table.{Table}
-use Rattle.records.specs.declared.Table.the-variants.{Names, Solvables, VersionSets, Requirements, Reasons, Variables, Clauses}
+use Rattle.records.specs.declared.Table.the-variants.{Names, Solvables, VersionSets, Requirements, Candidates, Reasons, Variables, Assigned}
+use Rattle.records.specs.declared.Table.the-variants.{Clauses}
 use Rattle.records.specs.declared.Allowed.{Allowed}
 use Rattle.records.specs.declared.Allowed.the-variants as A
 use Rattle.records.specs.declared.Slot.{Slot}
@@ -19,42 +24,14 @@ use Rattle.records.specs.declared.Origin.{Origin}
 use Rattle.records.specs.declared.Origin.the-variants.{Root, Solvable, ForbidMultiple, RequiresGate, ConstrainsAuxiliary, Other}
 use Rattle.records.specs.declared.Clause.{Clause}
 use Rattle.records.specs.declared.Clause.the-variants as C
-use Rattle.records.specs.Shapes.{Rec, limit, shapeOf}
+use Rattle.records.specs.Shapes.{Rec, shapeOf, kinds}
 use Rattle.records.specs.Tables.{Tables, tableOf, at, noRec}
 use Rattle.records.specs.Read.{allows}
-use Rattle.records.specs.Views.{originBy, originOf, clauseIn, clauseOf}
-use Rattle.index.specs.Steps.{each-table, each-kind}
+use Rattle.records.specs.Steps.{both-left, both-right}
+use Rattle.records.specs.Views.{originBy, originOf, clauseIn, clauseOf, inCore, assignedBy, candidatesOf, gatePartners, auxPartners}
+use Rattle.records.specs.Views.{solvableName, setName}
+use Rattle.index.specs.Steps.{tableNo, each-kind, same-table, onShape, shape-has}
 use Rattle.index.specs.Promise.{Valid, Sound, Right}
-
--- ---- every field is small
-
-largest : (t : Table) → limit t ≤ 1024
-largest = each-table (λ t. limit t ≤ 1024) (omega arith) (omega arith) (omega arith) (omega arith) (omega arith) (omega arith) (omega arith) (omega arith) (omega arith)
-
-right-small : (T : Tables) → Valid T → (i : ℕ) → i < 1024 → (s : Slot) (r : Rec) (x : ℕ) → Right T i s r x → x < 1024
-right-small T v i h S.Unused r x e = omega arith
-right-small T v i h S.Own r x e = omega arith
-right-small T v i h (S.Names t) r x e = omega (arith, v .within t, largest t)
-right-small T v i h (S.Variable o) r x e = omega (arith, v .within Variables, e .0)
-right-small T v i h S.Origin r x e = omega arith
-right-small T v i h S.Named r x e =
-    split (eqb (r .b) 1)
-    (λ q. omega (arith, v .within Solvables, e .0 (eqb-true (r .b) 1 q)))
-    (λ q. split (eqb (r .b) 2)
-    (λ p. omega (arith, v .within Names, e .1 (eqb-true (r .b) 2 p)))
-    (λ p. omega (arith, e .2 (eqb-false (r .b) 1 q) (eqb-false (r .b) 2 p))))
-right-small T v i h S.Unassigned r x e = omega (arith, v .within Variables)
-
--- a, b and c of each record of each table
-pub fields-small : (T : Tables) → Valid T → (t : Table) (i : ℕ) → i < length (tableOf t T)
-    → (at (tableOf t T) i .a < 1024) × (at (tableOf t T) i .b < 1024) × (at (tableOf t T) i .c < 1024)
-fields-small T v t i h =
-    let s : Sound T t i (at (tableOf t T) i) = v .sound t i h in
-    let l : i < 1024 = omega (arith, v .within t, largest t) in (
-      right-small T v i l (s .shape .a) (at (tableOf t T) i) (at (tableOf t T) i .a) (s .right-a),
-      right-small T v i l (s .shape .b) (at (tableOf t T) i) (at (tableOf t T) i .b) (s .right-b),
-      right-small T v i l (s .shape .c) (at (tableOf t T) i) (at (tableOf t T) i .c) (s .right-c),
-    )
 
 -- ---- a clause
 
@@ -91,15 +68,18 @@ slots-21 : (s : Shape) → shapeOf 21 ≡ some s → (s .a ≡ S.Variable A.Solv
 unfolding shapeOf
 slots-21 s e = (cc, cc)
 
-slots-22 : (s : Shape) → shapeOf 22 ≡ some s → (s .a ≡ S.Variable A.SolvableOrRoot) × (s .b ≡ S.Variable A.Solvable) × (s .c ≡ S.Names VersionSets)
+slots-22 : (s : Shape) → shapeOf 22 ≡ some s
+    → (s .a ≡ S.Variable A.SolvableOrRoot) × (s .b ≡ S.Variable A.Solvable) × (s .c ≡ S.Names VersionSets)
 unfolding shapeOf
 slots-22 s e = (cc, cc, cc)
 
-slots-23 : (s : Shape) → shapeOf 23 ≡ some s → (s .a ≡ S.Variable A.SolvableOrRoot) × (s .b ≡ S.Variable A.Auxiliary) × (s .c ≡ S.Names VersionSets)
+slots-23 : (s : Shape) → shapeOf 23 ≡ some s
+    → (s .a ≡ S.Variable A.SolvableOrRoot) × (s .b ≡ S.Variable A.Auxiliary) × (s .c ≡ S.Names VersionSets)
 unfolding shapeOf
 slots-23 s e = (cc, cc, cc)
 
-slots-24 : (s : Shape) → shapeOf 24 ≡ some s → (s .a ≡ S.Variable A.Solvable) × (s .b ≡ S.Variable A.Auxiliary) × (s .c ≡ S.Names VersionSets)
+slots-24 : (s : Shape) → shapeOf 24 ≡ some s
+    → (s .a ≡ S.Variable A.Solvable) × (s .b ≡ S.Variable A.Auxiliary) × (s .c ≡ S.Names VersionSets)
 unfolding shapeOf
 slots-24 s e = (cc, cc, cc)
 
@@ -176,8 +156,61 @@ clause-right T v i =
 
 variable-slots : (k : ℕ) (s : Shape) → shapeOf k ≡ some s → s .table ≡ Variables → (s .b ≡ S.Origin) × (s .c ≡ S.Named)
 variable-slots =
-    each-kind (λ o. (s : Shape) → o ≡ some s → s .table ≡ Variables → (s .b ≡ S.Origin) × (s .c ≡ S.Named))
-    (λ s e h. (cc, cc), (λ s e h. (cc, cc), (λ s e h. (cc, cc), (λ s e h. (cc, cc), (λ s e h. (cc, cc), (λ s e h. (cc, cc), (λ s e h. (cc, cc), (λ s e h. (cc, cc), (λ s e h. (cc, cc), (λ s e h. (cc, cc), (λ s e h. (cc, cc), (λ s e h. (cc, cc), (λ s e h. (cc, cc), (λ s e h. (cc, cc), (λ s e h. (cc, cc), (λ s e h. (cc, cc), (λ s e h. (cc, cc), (λ s e h. (cc, cc), tt))))))))))))))))))
+    each-kind (λ o. (s : Shape) → o ≡ some s → s .table ≡ Variables → (s .b ≡ S.Origin) × (s .c ≡ S.Named)) (
+      λ s e h. (cc, cc),
+      (
+        λ s e h. (cc, cc),
+        (
+          λ s e h. (cc, cc),
+          (
+            λ s e h. (cc, cc),
+            (
+              λ s e h. (cc, cc),
+              (
+                λ s e h. (cc, cc),
+                (
+                  λ s e h. (cc, cc),
+                  (
+                    λ s e h. (cc, cc),
+                    (
+                      λ s e h. (cc, cc),
+                      (
+                        λ s e h. (cc, cc),
+                        (
+                          λ s e h. (cc, cc),
+                          (
+                            λ s e h. (cc, cc),
+                            (
+                              λ s e h. (cc, cc),
+                              (
+                                λ s e h. (cc, cc),
+                                (
+                                  λ s e h. (cc, cc),
+                                  (
+                                    λ s e h. (cc, cc),
+                                    (
+                                      λ s e h. (cc, cc),
+                                      (
+                                        λ s e h. (cc, cc),
+                                        tt,
+                                      ),
+                                    ),
+                                  ),
+                                ),
+                              ),
+                            ),
+                          ),
+                        ),
+                      ),
+                    ),
+                  ),
+                ),
+              ),
+            ),
+          ),
+        ),
+      ),
+    )
     (λ s e h. (cc, cc))
 
 -- the number that an origin names
@@ -209,15 +242,144 @@ origin-right T w v =
     (λ q. variable-named T v (at (T .variables) v) (w .sound Variables v (ltb-true v (length (T .variables)) q)))
     (λ q. rw (List·getD-eq-default (T .variables) noRec {n = v} (ltb-false v (length (T .variables)) q)) tt)
 
--- what a slot's origins are, as answers
-pub solvable-is : (T : Tables) (x : ℕ) → Var T A.Solvable x → originOf T x ≡ Solvable (at (T .variables) x .c)
-unfolding originOf
-solvable-is T x h = rw (eqb-true (at (T .variables) x .b) 1 (h .1))
+-- ---- the records of a table, one by one
 
-pub forbid-is : (T : Tables) (x : ℕ) → Var T A.ForbidMultiple x → originOf T x ≡ ForbidMultiple (at (T .variables) x .c)
-unfolding originOf
-forbid-is T x h = rw (eqb-true (at (T .variables) x .b) 2 (h .1))
+-- what holds at each place holds of each record
+all-at : (P : Rec → Type 0) (xs : List Rec) → ((i : ℕ) → i < length xs → P (at xs i)) → All P xs
+all-at P [] h = tt
+all-at P (x ∷ xs) h = (h 0 (omega arith), all-at P xs (λ i l. h (suc i) (omega arith)))
 
-pub auxiliary-is : (T : Tables) (x : ℕ) → Var T A.Auxiliary x → originOf T x ≡ ConstrainsAuxiliary
-unfolding originOf
-auxiliary-is T x h = rw (eqb-true (at (T .variables) x .b) 4 (h .1))
+some-same : (x g : Rec) → some x ≡ some g → x ≡ g
+some-same x g e = cc
+
+-- of the first that passes
+first-has : (P : Rec → Type 0) (p : Rec → Bool) (xs : List Rec) → All P xs → (g : Rec) → first p xs ≡ some g → P g
+first-has P p [] a g e = clash (cc)
+first-has P p (x ∷ xs) a g e =
+    split (p x)
+    (λ q. rw (some-same x g (rw (q, first) at e)) at (a .0))
+    (λ q. first-has P p xs (a .1) g (rw (q, first) at e))
+
+-- of what all that pass name
+named-has : (P : Rec → Type 0) (Q : ℕ → Type 0) (p : Rec → Bool) (f : Rec → ℕ) (xs : List Rec) → All P xs
+    → ((r : Rec) → P r → p r ≡ true → Q (f r)) → All Q (map f (filter p xs))
+named-has P Q p f [] a h = tt
+named-has P Q p f (x ∷ xs) a h =
+    let rest = named-has P Q p f xs (a .1) h in
+    split (p x) (λ q. rw (q, filter) (h x (a .0) q, rest)) (λ q. rw (q, filter) rest)
+
+-- ---- field b of the records of table t names a record of table u, if each shape of t says so
+
+abbrev namesIn : Table → Slot → Bool
+namesIn u S.Unused = false
+namesIn u S.Own = false
+namesIn u (S.Names t) = eqb (tableNo t) (tableNo u)
+namesIn u (S.Variable o) = false
+namesIn u S.Origin = false
+namesIn u S.Named = false
+namesIn u S.Unassigned = false
+
+abbrev asksB : Table → Table → Shape → Bool
+asksB t u x = not (eqb (tableNo (x .table)) (tableNo t)) || namesIn u (x .b)
+
+names-in : (T : Tables) (i : ℕ) (u : Table) (s : Slot) (r : Rec) (x : ℕ) → namesIn u s ≡ true → Right T i s r x → x < length (tableOf u T)
+names-in T i u S.Unused r x e h = clash (cc)
+names-in T i u S.Own r x e h = clash (cc)
+names-in T i u (S.Names t) r x e h = rw (same-table t u (eqb-true (tableNo t) (tableNo u) e)) at h
+names-in T i u (S.Variable o) r x e h = clash (cc)
+names-in T i u S.Origin r x e h = clash (cc)
+names-in T i u S.Named r x e h = clash (cc)
+names-in T i u S.Unassigned r x e h = clash (cc)
+
+b-below : (t u : Table) → all (λ x. onShape (asksB t u) (x .1)) kinds ≡ true
+    → (T : Tables) (i : ℕ) (r : Rec) → Sound T t i r → r .b < length (tableOf u T)
+b-below t u c T i r h =
+    let m : eqb (tableNo (h .shape .table)) (tableNo t) ≡ true = eq-eqb _ _ (ap tableNo (h .mine)) in
+    names-in T i u (h .shape .b) r (r .b) (rw m at (shape-has (asksB t u) c (r .kind) (h .shape) (h .known))) (h .right-b)
+
+-- ---- the theorem
+
+pub record References (T : Tables) : Type 0 where
+  -- what a clause names, its variables with an origin that is allowed there
+  pub clauses : (i : ℕ) → Refs T (clauseOf T i)
+  -- the solvable or the name that a variable stands for
+  pub origins : (v : ℕ) → Named T (originOf T v)
+  -- the clause that assigned a variable
+  pub assigned : (v i : ℕ) → assignedBy T v ≡ some i → i < length (T .clauses)
+  -- the candidates of a requirement
+  pub candidates : (q : ℕ) → All (λ s. s < length (T .solvables)) (candidatesOf T q)
+  -- the partners of a gate and of an auxiliary
+  pub gates : (v : ℕ) → All (λ x. x < length (T .variables)) (gatePartners T v)
+  pub parents : (v : ℕ) → All (λ x. x < length (T .variables)) (auxPartners T 23 v)
+  pub excluded : (v : ℕ) → All (λ x. x < length (T .variables)) (auxPartners T 24 v)
+  -- the name of a solvable and of a version set
+  pub solvable-names : (s : ℕ) → s < length (T .solvables) → solvableName T s < length (T .names)
+  pub set-names : (v : ℕ) → v < length (T .versionSets) → setName T v < length (T .names)
+
+module _ (T : Tables) (v : Valid T) where
+  -- each record of a table is sound, at some place
+  abbrev SoundIn : Table → Rec → Type 0
+  SoundIn t r = (i : ℕ) × Sound T t i r
+
+  all-sound : (t : Table) → All (SoundIn t) (tableOf t T)
+  all-sound t = all-at (SoundIn t) (tableOf t T) (λ i l. (i, v .sound t i l))
+
+  assigned-below : (x i : ℕ) → assignedBy T x ≡ some i → i < length (T .clauses)
+  unfolding assignedBy
+  assigned-below x i e = by (first (λ g. eqb (g .a) x) (T .assigned)) refl e
+    where
+      by : (o : Option Rec) → first (λ g. eqb (g .a) x) (T .assigned) ≡ o
+          → elim o as (λ _. Option ℕ) [ none ↦ none | some g ↦ some (g .b) ] ≡ some i → i < length (T .clauses)
+      by none q h = clash (cc)
+      by (some g) q h =
+          let s : SoundIn Assigned g = first-has (SoundIn Assigned) (λ y. eqb (y .a) x) (T .assigned) (all-sound Assigned) g q in
+          let z : g .b ≡ i = number-same (g .b) i h in
+          rw z at (b-below Assigned Clauses refl T (s .0) g (s .1))
+        where
+          number-same : (m n : ℕ) → some m ≡ some n → m ≡ n
+          number-same m n e = cc
+
+  candidates-below : (q : ℕ) → All (λ s. s < length (T .solvables)) (candidatesOf T q)
+  unfolding candidatesOf
+  candidates-below q =
+      named-has (SoundIn Candidates) (λ s. s < length (T .solvables)) (λ r. eqb (r .a) q) (λ r. r .b) (T .candidates) (all-sound Candidates)
+      (λ r s e. b-below Candidates Solvables refl T (s .0) r (s .1))
+
+  -- the kind of a partner
+  partner-kind : (r : Rec) (k : ℕ) (c : Bool) → inCore r && (eqb (r .kind) k && c) ≡ true → r .kind ≡ k
+  partner-kind r k c e = eqb-true (r .kind) k (both-left (eqb (r .kind) k) c (both-right (inCore r) (eqb (r .kind) k && c) e))
+
+  gates-below : (x : ℕ) → All (λ y. y < length (T .variables)) (gatePartners T x)
+  unfolding gatePartners
+  gates-below x =
+      named-has (SoundIn Clauses) (λ y. y < length (T .variables)) (λ r. inCore r && (eqb (r .kind) 25 && eqb (r .a) x)) (λ r. r .b)
+      (T .clauses) (all-sound Clauses)
+      (λ r s e. refs-25 T (s .0) r (s .1) (partner-kind r 25 (eqb (r .a) x) e) .1 .0)
+
+  parents-below : (x : ℕ) → All (λ y. y < length (T .variables)) (auxPartners T 23 x)
+  unfolding auxPartners
+  parents-below x =
+      named-has (SoundIn Clauses) (λ y. y < length (T .variables)) (λ r. inCore r && (eqb (r .kind) 23 && eqb (r .b) x)) (λ r. r .a)
+      (T .clauses) (all-sound Clauses)
+      (λ r s e. refs-23 T (s .0) r (s .1) (partner-kind r 23 (eqb (r .b) x) e) .0 .0)
+
+  excluded-below : (x : ℕ) → All (λ y. y < length (T .variables)) (auxPartners T 24 x)
+  unfolding auxPartners
+  excluded-below x =
+      named-has (SoundIn Clauses) (λ y. y < length (T .variables)) (λ r. inCore r && (eqb (r .kind) 24 && eqb (r .b) x)) (λ r. r .a)
+      (T .clauses) (all-sound Clauses)
+      (λ r s e. refs-24 T (s .0) r (s .1) (partner-kind r 24 (eqb (r .b) x) e) .0 .0)
+
+  pub references : References T
+  references =
+      record {
+        clauses = clause-right T v;
+        origins = origin-right T v;
+        assigned = assigned-below;
+        candidates = candidates-below;
+        gates = gates-below;
+        parents = parents-below;
+        excluded = excluded-below;
+        solvable-names = λ s l. b-below Solvables Names refl T s (at (T .solvables) s) (v .sound Solvables s l);
+        set-names = λ x l. b-below VersionSets Names refl T x (at (T .versionSets) x) (v .sound VersionSets x l);
+      }

@@ -6,16 +6,18 @@ use mathlib.Core.List.{List, [], _∷_, _++_, append-assoc, append-nil}
 use mathlib.Core.Option.{Option, none, some}
 use Prim.Native.Nat.{ℕ, zero, suc, _%_, _≤_}
 use lib.ListN.{length}
-use lib.Dec.{eqb, ltb, leb}
+use lib.Dec.{eqb, leb}
 use borrow.Author.Tests.{eqb-true, leb-true}
-use Rattle.basis.specs.Lists.{snoc, filter}
+use Rattle.basis.specs.Lists.{snoc, filter, all}
 use Rattle.basis.specs.Members.{split, clash, All}
 use Rattle.records.specs.declared.Table.{Table}
-use Rattle.records.specs.declared.Table.the-variants.{Names, Solvables, VersionSets, Requirements, Candidates, Reasons, Variables, Assigned, Clauses}
+use Rattle.records.specs.declared.Table.the-variants.{Names, Solvables, VersionSets, Requirements, Candidates, Reasons, Variables, Assigned}
+use Rattle.records.specs.declared.Table.the-variants.{Clauses}
 use Rattle.records.specs.declared.Shape.{Shape}
-use Rattle.records.specs.Shapes.{Rec, recordsOf, limit, kinds, rowAt, shapeOf}
+use Rattle.records.specs.Shapes.{Rec, recordsOf, kinds, rowAt, shapeOf}
 use Rattle.records.specs.Tables.{Tables, noTables, tableOf, put}
-use Rattle.records.specs.Read.{shapeGood, numbersGood, originsGood, refusalIn, Reading, good, bad, readFrom, readOf}
+use Rattle.records.specs.Read.{refusalIn, Reading, good, bad, readFrom, readOf}
+use Rattle.records.specs.Steps.{Passed, passed}
 
 -- the tables by number, and one proof for each of them
 abbrev pub tableNo : Table → ℕ
@@ -29,7 +31,8 @@ tableNo Variables = 6
 tableNo Assigned = 7
 tableNo Clauses = 8
 
-pub each-table {ℓ} : (P : Table → Type ℓ) → P Names → P Solvables → P VersionSets → P Requirements → P Candidates → P Reasons → P Variables → P Assigned → P Clauses → (t : Table) → P t
+pub each-table {ℓ} : (P : Table → Type ℓ) → P Names → P Solvables → P VersionSets → P Requirements → P Candidates
+    → P Reasons → P Variables → P Assigned → P Clauses → (t : Table) → P t
 each-table P a b c d e f g h i Names = a
 each-table P a b c d e f g h i Solvables = b
 each-table P a b c d e f g h i VersionSets = c
@@ -48,14 +51,6 @@ tableNoOf k = elim (shapeOf k) [ none ↦ 9 | some s ↦ tableNo (s .table) ]
 abbrev pub isIn : Table → Rec → Bool
 isIn t r = eqb (tableNoOf (r .kind)) (tableNo t)
 
--- the record r passes at the tables T: its shape is s, and 3, 6, 4, 5 are not given
-pub record Passed (T : Tables) (r : Rec) (s : Shape) : Type 0 where
-  pub known : shapeOf (r .kind) ≡ some s
-  pub shaped : shapeGood s r ≡ true
-  pub room : ltb (length (tableOf (s .table) T)) (limit (s .table)) ≡ true
-  pub numbered : numbersGood T s r ≡ true
-  pub allowed : originsGood T s r ≡ true
-
 -- the records rs pass one after the other, from the tables T on, and leave the tables U
 abbrev pub Steps : Tables → List Rec → Tables → Type 0
 Steps T [] U = T ≡ U
@@ -63,34 +58,23 @@ Steps T (r ∷ rs) U = (s : Shape) × Passed T r s × Steps (put (s .table) r T)
 
 -- ---- from the answer to the steps
 
-pub record Four (a b c d : Bool) : Type 0 where
-  pub one : a ≡ true
-  pub two : b ≡ true
-  pub three : c ≡ true
-  pub four : d ≡ true
-
-no-refusal : (a b c d : Bool) → _≡_ {A = ℕ} (cond a (cond b (cond c (cond d 0 5) 4) 6) 3) 0 → Four a b c d
-no-refusal true true true true e = record { one = refl; two = refl; three = refl; four = refl }
-no-refusal true true true false e = clash (cc)
-no-refusal true true false d e = clash (cc)
-no-refusal true false c d e = clash (cc)
-no-refusal false b c d e = clash (cc)
-
-passed : (T : Tables) (r : Rec) (s : Shape) → shapeOf (r .kind) ≡ some s → refusalIn T s r ≡ 0 → Passed T r s
-passed T r s k e =
-    let f = no-refusal (shapeGood s r) (ltb (length (tableOf (s .table) T)) (limit (s .table))) (numbersGood T s r) (originsGood T s r) e in
-    record { known = k; shaped = f .one; room = f .two; numbered = f .three; allowed = f .four }
-
 pub read-steps : (rs : List Rec) (i : ℕ) (T U : Tables) → readFrom rs i T ≡ good U → Steps T rs U
 unfolding readFrom
 read-steps [] i T U e = cc
 read-steps (r ∷ rs) i T U e = go (λ W h. read-steps rs (suc i) W U h) (shapeOf (r .kind)) refl e
   where
-    then : ((W : Tables) → readFrom rs (suc i) W ≡ good U → Steps W rs U) → (s : Shape) → shapeOf (r .kind) ≡ some s → (n : ℕ) → refusalIn T s r ≡ n → elim n as (λ _. Reading) [ zero ↦ readFrom rs (suc i) (put (s .table) r T) | suc m ↦ bad (suc m) i ] ≡ good U → Steps T (r ∷ rs) U
+    then : ((W : Tables) → readFrom rs (suc i) W ≡ good U → Steps W rs U) → (s : Shape) → shapeOf (r .kind) ≡ some s
+        → (n : ℕ) → refusalIn T s r ≡ n
+        → elim n as (λ _. Reading) [ zero ↦ readFrom rs (suc i) (put (s .table) r T) | suc m ↦ bad (suc m) i ] ≡ good U → Steps T (r ∷ rs) U
     then more s k zero q h = (s, passed T r s k q, more (put (s .table) r T) h)
     then more s k (suc m) q h = clash (cc)
 
-    go : ((W : Tables) → readFrom rs (suc i) W ≡ good U → Steps W rs U) → (o : Option Shape) → shapeOf (r .kind) ≡ o → elim o as (λ _. Reading) [ none ↦ bad 2 i | some s ↦ elim (refusalIn T s r) [ zero ↦ readFrom rs (suc i) (put (s .table) r T) | suc n ↦ bad (suc n) i ] ] ≡ good U → Steps T (r ∷ rs) U
+    go : ((W : Tables) → readFrom rs (suc i) W ≡ good U → Steps W rs U) → (o : Option Shape) → shapeOf (r .kind) ≡ o
+        → elim o as (λ _. Reading) [
+          | none ↦ bad 2 i
+          | some s ↦ elim (refusalIn T s r) [ zero ↦ readFrom rs (suc i) (put (s .table) r T) | suc n ↦ bad (suc n) i ]
+        ] ≡ good U
+        → Steps T (r ∷ rs) U
     go more none k h = clash (cc)
     go more (some s) k h = then more s k (refusalIn T s r) refl h
 
@@ -104,14 +88,21 @@ pub read-accepted : (file : List ℕ) (T : Tables) → readOf file ≡ good T �
 unfolding readOf
 read-accepted file T e = go (eqb (length file % 32) 0) refl (leb (length file) 65536) refl e
   where
-    go : (a : Bool) → eqb (length file % 32) 0 ≡ a → (b : Bool) → leb (length file) 65536 ≡ b → cond (a && b) (readFrom (recordsOf file) 0 noTables) (bad 1 0) ≡ good T → Accepted file T
-    go true p true q h = record { short = leb-true (length file) 65536 q; whole = eqb-true (length file % 32) 0 p; steps = read-steps (recordsOf file) 0 noTables T h }
+    go : (a : Bool) → eqb (length file % 32) 0 ≡ a → (b : Bool) → leb (length file) 65536 ≡ b
+        → cond (a && b) (readFrom (recordsOf file) 0 noTables) (bad 1 0) ≡ good T → Accepted file T
+    go true p true q h =
+        record {
+          short = leb-true (length file) 65536 q;
+          whole = eqb-true (length file % 32) 0 p;
+          steps = read-steps (recordsOf file) 0 noTables T h;
+        }
     go true p false q h = clash (cc)
     go false p b q h = clash (cc)
 
 -- ---- a table is the list of the records of its kinds
 
-put-in : (r : Rec) (T : Tables) (u t : Table) → tableOf u (put t r T) ≡ cond (eqb (tableNo t) (tableNo u)) (snoc (tableOf u T) r) (tableOf u T)
+put-in : (r : Rec) (T : Tables) (u t : Table)
+    → tableOf u (put t r T) ≡ cond (eqb (tableNo t) (tableNo u)) (snoc (tableOf u T) r) (tableOf u T)
 put-in r T =
     each-table (λ u. (t : Table) → tableOf u (put t r T) ≡ cond (eqb (tableNo t) (tableNo u)) (snoc (tableOf u T) r) (tableOf u T))
     (each-table _ refl refl refl refl refl refl refl refl refl)
@@ -128,7 +119,8 @@ pub table-known : (k : ℕ) (s : Shape) → shapeOf k ≡ some s → tableNoOf k
 unfolding tableNoOf
 table-known k s e = rw (e, tableNoOf)
 
-pub table-put : (u : Table) (r : Rec) (s : Shape) (T : Tables) → shapeOf (r .kind) ≡ some s → tableOf u (put (s .table) r T) ≡ cond (isIn u r) (snoc (tableOf u T) r) (tableOf u T)
+pub table-put : (u : Table) (r : Rec) (s : Shape) (T : Tables) → shapeOf (r .kind) ≡ some s
+    → tableOf u (put (s .table) r T) ≡ cond (isIn u r) (snoc (tableOf u T) r) (tableOf u T)
 table-put u r s T e = rw (table-known (r .kind) s e) (put-in r T u (s .table))
 
 pub tables-are : (u : Table) (rs : List Rec) (T U : Tables) → Steps T rs U → tableOf u U ≡ tableOf u T ++ filter (isIn u) rs
@@ -137,14 +129,16 @@ tables-are u (r ∷ rs) T U p =
     let ih = tables-are u rs (put (p .0 .table) r T) U (p .2) in
     let q = table-put u r (p .0) T (p .1 .known) in
     split (isIn u r)
-    (λ t. rw (t, filter) (ih ∙ ap (λ (l : List Rec). l ++ filter (isIn u) rs) (rw t at q) ∙ append-assoc (tableOf u T) (r ∷ []) (filter (isIn u) rs)))
+    (λ t. rw (t, filter)
+    (ih ∙ ap (λ (l : List Rec). l ++ filter (isIn u) rs) (rw t at q) ∙ append-assoc (tableOf u T) (r ∷ []) (filter (isIn u) rs)))
     (λ t. rw (t, filter) (ih ∙ ap (λ (l : List Rec). l ++ filter (isIn u) rs) (rw t at q)))
 
 nothing-yet : (u : Table) → tableOf u noTables ≡ []
 nothing-yet = each-table (λ u. tableOf u noTables ≡ []) refl refl refl refl refl refl refl refl refl
 
 pub table-is : (u : Table) (file : List ℕ) (T : Tables) → Accepted file T → tableOf u T ≡ filter (isIn u) (recordsOf file)
-table-is u file T a = tables-are u (recordsOf file) noTables T (a .steps) ∙ ap (λ (l : List Rec). l ++ filter (isIn u) (recordsOf file)) (nothing-yet u)
+table-is u file T a =
+    tables-are u (recordsOf file) noTables T (a .steps) ∙ ap (λ (l : List Rec). l ++ filter (isIn u) (recordsOf file)) (nothing-yet u)
 
 -- ---- tables with equal numbers are equal
 
@@ -185,3 +179,19 @@ no-kind k a = row-none k kinds a
 pub each-kind : (P : Option Shape → Type 0) → All (λ x. P (x .1)) kinds → P none → (k : ℕ) → P (shapeOf k)
 unfolding shapeOf
 each-kind P a z k = each-row P kinds a z k
+
+-- a test that each of the 18 shapes passes, which is shown by computing, the shape of any kind passes
+abbrev pub onShape : (Shape → Bool) → Option Shape → Bool
+onShape p none = true
+onShape p (some s) = p s
+
+each-passes : (p : Shape → Bool) (xs : List (ℕ × Option Shape)) → all (λ x. onShape p (x .1)) xs ≡ true
+    → All (λ x. (s : Shape) → x .1 ≡ some s → p s ≡ true) xs
+each-passes p [] e = tt
+each-passes p (x ∷ xs) e =
+    split (onShape p (x .1))
+    (λ q. (λ s z. rw z at q, each-passes p xs (rw (q, all) at e)))
+    (λ q. clash (cc (rw (q, all) at e)))
+
+pub shape-has : (p : Shape → Bool) → all (λ x. onShape p (x .1)) kinds ≡ true → (k : ℕ) (s : Shape) → shapeOf k ≡ some s → p s ≡ true
+shape-has p e k s = each-kind (λ o. (s : Shape) → o ≡ some s → p s ≡ true) (each-passes p kinds e) (λ s z. clash (cc)) k s

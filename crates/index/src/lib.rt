@@ -245,7 +245,7 @@ pub fn load(file: &[u8], ix: &mut [u16; 10432]) -> Answer
     ensures { λ r. ⌜ r ≡ answerOf (readOf (now (file .entry))) ⌝ }
     ensures { λ r. ⌜ Held r (now (file .entry)) (now (ix .entry)) (now (ix .exit)) ⌝ }
 {
-    let r = records::read(file);
+    let r = arms::read(file);
     let Answer::Accepted(c) = r else {
         return r;
     };

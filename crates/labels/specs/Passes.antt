@@ -13,10 +13,10 @@ use lib.Dec.{eqb, ltb}
 use borrow.Author.Tests.{eq-eqb, ne-eqb}
 use Rattle.basis.specs.Lists.{any}
 use Rattle.basis.specs.Members.{In}
-use Rattle.store.specs.declared.ConflictNode.{ConflictNode}
 use Rattle.store.specs.declared.ConflictNode.the-variants as N
 use Rattle.store.specs.declared.Size.{Size}
-use Rattle.store.specs.Graph.{Graph, out, into, nodeAt, isUnresolved, isExcluded, tryRequires}
+use Rattle.store.specs.Graph.{Graph, out, into, nodeAt, isUnresolved, isExcluded}
+use Rattle.store.specs.Words.{requirementCode}
 use Rattle.store.specs.Table.{graphIn, edgeIn, nodeIn, Stored, nodes-count, node-in}
 use Rattle.links.specs.Build.{Chains}
 use Rattle.links.specs.Walk.{Out, Into, firstOut, nextOut, firstIn, nextIn, outLeft, intoLeft, out-start, out-next, out-less, out-all, out-cons, out-end, into-start, into-next, into-less, into-all, into-cons, into-end}
@@ -67,12 +67,16 @@ scan-whole : (g : List ℕ) (s : Size) (ls ms : List ℕ) (n r : ℕ) → Chains
 unfolding scanLeft verdictOf
 scan-whole g s ls ms n r c h q = rw (out-all g s ls n r c h q)
 
-pub scan-next : (g ls ms : List ℕ) (n e : ℕ) (o x : Scan) (Z : Verdict) (k r : ℕ) → scanLeft g n ms e o ≡ Z → Going g ls n e → 0 < e → (k ≡ 0 → ⊥) → k ≡ tryRequires (edgeIn g (e - 1) .weight) → x ≡ stepOf o k (instAt ms (edgeIn g (e - 1) .target)) (missAt ms (edgeIn g (e - 1) .target)) → r ≡ nextOut ls (e - 1) → scanLeft g n ms r x ≡ Z
+pub scan-next : (g ls ms : List ℕ) (n e : ℕ) (o x : Scan) (Z : Verdict) (k r : ℕ)
+    → scanLeft g n ms e o ≡ Z → Going g ls n e → 0 < e → (k ≡ 0 → ⊥) → k ≡ requirementCode (edgeIn g (e - 1) .weight)
+    → x ≡ stepOf o k (instAt ms (edgeIn g (e - 1) .target)) (missAt ms (edgeIn g (e - 1) .target))
+    → r ≡ nextOut ls (e - 1) → scanLeft g n ms r x ≡ Z
 unfolding scanLeft verdict
 scan-next g ls ms n e o x Z k r i w p z qk qx qr = sym (sym i ∙ rw (out-cons g (w .size) ls n e r (w .on) p qr, ← qk, ne-eqb k 0 z, verdict, qx, ← qk))
 
 module _ (g : List ℕ) (s : Size) (ls ms : List ℕ) (n f e : ℕ) (o : Scan) (i : scanLeft g n ms e o ≡ scanLeft g n ms f scanStart) (c : Chains g s ls) (h : n < s .nodes) (qf : f ≡ firstOut ls n) where
-  pub scan-stop : (k : ℕ) → k ≡ 0 → k ≡ tryRequires (edgeIn g (e - 1) .weight) → Going g ls n e → 0 < e → refused ≡ verdictOf (graphIn g s) ms n
+  pub scan-stop : (k : ℕ) → k ≡ 0 → k ≡ requirementCode (edgeIn g (e - 1) .weight) → Going g ls n e → 0 < e
+      → refused ≡ verdictOf (graphIn g s) ms n
   unfolding scanLeft verdict
   scan-stop k z qk w p =
       (rw (out-cons g (w .size) ls n e (nextOut ls (e - 1)) (w .on) p refl, ← qk, eq-eqb k 0 z, verdict) at i) ∙ scan-whole g s ls ms n f c h qf
@@ -212,20 +216,6 @@ inst-via ms t v e = rw e
 pub miss-via : (ms : List ℕ) (t v : ℕ) → v ≡ getD ms t 0 → ltb 1 v ≡ missAt ms t
 unfolding missAt
 miss-via ms t v e = rw e
-
--- what a pattern found the node to be
-module _ (r x : ConflictNode) where
-  pub no-root : r ≡ N.Root → r ≡ x → false ≡ isUnresolved x
-  no-root e q = rw (← q, e)
-
-  pub no-solvable : (t : ℕ) → r ≡ N.Solvable t → r ≡ x → false ≡ isUnresolved x
-  no-solvable t e q = rw (← q, e)
-
-  pub is-it : r ≡ N.UnresolvedDependency → r ≡ x → true ≡ isUnresolved x
-  is-it e q = rw (← q, e)
-
-  pub no-reason : (t : ℕ) → r ≡ N.Excluded t → r ≡ x → false ≡ isUnresolved x
-  no-reason t e q = rw (← q, e)
 
 pub step-via : (x o : Scan) (k t u : ℕ) (ms : List ℕ) (i m : Bool) → x ≡ stepOf o k i m → i ≡ instAt ms t → m ≡ missAt ms t → t ≡ u → x ≡ stepOf o k (instAt ms u) (missAt ms u)
 step-via x o k t u ms i m e p q z = rw (← z, ← p, ← q) e

@@ -11,7 +11,8 @@ use Rattle.basis.specs.Members.{split}
 use Rattle.store.specs.declared.ConflictEdge.{ConflictEdge}
 use Rattle.store.specs.declared.ConflictEdge.the-variants as W
 use Rattle.store.specs.declared.Edge.{Edge}
-use Rattle.store.specs.Graph.{tryRequires, isConflict}
+use Rattle.store.specs.Graph.{isConflict}
+use Rattle.store.specs.Words.{requirementCode}
 use Rattle.labels.specs.declared.passes.Scan.{Scan}
 use Rattle.labels.specs.declared.passes.Verdict.{Verdict}
 use Rattle.labels.specs.Labels.{conflicts}
@@ -41,9 +42,9 @@ unfoldable pub verdict : (ℕ → Bool) → (ℕ → Bool) → Scan → List Edg
 unfolding stepOf
 verdict p q o [] = scanEnd o
 verdict p q o (e ∷ es) =
-    elim (eqb (tryRequires (e .weight)) 0) [
+    elim (eqb (requirementCode (e .weight)) 0) [
       | true ↦ refused
-      | false ↦ verdict p q (stepOf o (tryRequires (e .weight)) (p (e .target)) (q (e .target))) es
+      | false ↦ verdict p q (stepOf o (requirementCode (e .weight)) (p (e .target)) (q (e .target))) es
     ]
 
 -- ---- the same for one test

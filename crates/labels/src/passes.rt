@@ -5,15 +5,14 @@ ghost use mathlib.Core.Bool.{_&&_, _||_, cond};
 ghost use Prim.Native.Nat.{_<_};
 ghost use lib.ListN.{set};
 ghost use Rattle.basis.specs.Lists.{any};
-ghost use Rattle.store.specs.Graph.{into, isUnresolved};
-ghost use Rattle.store.specs.Table.{graphIn, edgeIn, nodeIn, Stored};
+ghost use Rattle.store.specs.Graph.{into};
+ghost use Rattle.store.specs.Table.{graphIn, edgeIn, Stored};
 ghost use Rattle.links.specs.Build.{Chains};
 ghost use Rattle.labels.specs.Labels.{orderOf, excludes, hasUnresolved};
 ghost use Rattle.labels.specs.Scan.{stepOf};
 ghost use Rattle.labels.specs.Marks.{bitsOf, instAt, missAt, nodeMark, anew, marksAlong};
 ghost use Rattle.labels.specs.Frames.{Listed};
 ghost use Rattle.labels.specs.Passes.{verdictOf, installing};
-use store::ConflictNode;
 use store::Size;
 
 // One pass along a node's outgoing edges. `key` is 1 + the requirement of the run that is open, 0 before the first.
@@ -146,25 +145,13 @@ fn excluded_into(g: &[u64; 1152], s: Size, ls: &[u16; 3456], n: usize) -> bool
     false
 }
 
-fn unresolved_at(g: &[u64; 1152], n: usize) -> bool
-    ensures { λ r. ⌜ r ≡ isUnresolved (nodeIn (now (g .entry)) n) ⌝ }
-{
-    let x = store::node_at(g, n);
-    match x {
-        ConflictNode::Root => false,
-        ConflictNode::Solvable(_) => false,
-        ConflictNode::UnresolvedDependency => true,
-        ConflictNode::Excluded(_) => false,
-    }
-}
-
 fn can_install(g: &[u64; 1152], s: Size, ls: &[u16; 3456], n: usize, every: bool) -> bool
     requires { ⌜ Chains (now g) s (now ls) ⌝ }
     requires { ⌜ n < s .nodes ⌝ }
     ensures { λ r. ⌜ r ≡ installing (now (g .entry)) s (now (ls .entry)) n every ⌝ }
 {
     if every {
-        let u = unresolved_at(g, n);
+        let u = store::unresolved_at(g, n);
         if u {
             return false;
         }
@@ -204,7 +191,7 @@ pub fn mark_start(g: &[u64; 1152], s: Size, marks: &mut [u16; 128])
     ensures { λ _. ⌜ now (marks .exit) ≡ cond (hasUnresolved (graphIn (now (g .entry)) s)) (set (now (marks .entry)) 1 2) (now (marks .entry)) ⌝ }
 {
     if 1 < s.nodes {
-        let u = unresolved_at(g, 1);
+        let u = store::unresolved_at(g, 1);
         if u {
             marks[1] = 2;
             return;

@@ -18,7 +18,7 @@ use Rattle.machine.specs.Fit.{concat-append}
 use Rattle.texts.specs.Wrote.{Wrote}
 use Rattle.texts.specs.Laws.Wrote.{wrote-none, wrote-length, behind}
 use Rattle.texts.specs.Indent.{indent}
-use Rattle.texts.specs.Marks.{marksOf, pushed}
+use Rattle.texts.specs.Marks.{marksOf, pushed, lastSet}
 use Rattle.texts.specs.Levels.{marks-count, pushed-below}
 use Rattle.texts.specs.declared.Indenter.{Indenter}
 use Rattle.plan.specs.Fields.{setAt, setsFrom, sets-none, sets-more, setsIn, setsFirst, setsEnd, tagIn}
@@ -54,13 +54,38 @@ module _ (g : Indenter) (name set : List ℕ) where
     pub set-full : length o - (a + 69) - length name < length set → Tried (setPieces g name set) o o 0
     set-full h = let l = set-size in tried-full (setPieces g name set) o (omega arith)
 
--- one level further, with its mark
-pub turn-tried : (T : Tables) (k : List ℕ) (g h : Indenter) (b : Bool) (v i : ℕ) (o d : List ℕ) (r : ℕ) → Tried (setSaid T (h .top) (marksOf h) v) o d r
-    → marksOf h ≡ pushed b (marksOf g) → h .top ≡ g .top → v ≡ setAt k i → g .count < 4160 → Tried (setSaid T (g .top) (b ∷ marksOf g) (setAt k i)) o d r
-turn-tried T k g h b v i o d r t m q e c =
-    let l : length (marksOf g) < 4160 = let z = marks-count g in omega arith in
-    let n : marksOf h ≡ b ∷ marksOf g = m ∙ pushed-below b (marksOf g) l in
-    rw (n, q, e) at t
+-- ---- one level further
+
+-- the levels above a line's own
+unfoldable pub parents : List Bool → List Bool
+parents [] = []
+parents (m ∷ ms) = ms
+
+-- a level that is pushed has siblings remaining
+pushed-is : (g h : Indenter) → marksOf h ≡ pushed false (marksOf g) → g .count < 4160 → marksOf h ≡ false ∷ marksOf g
+pushed-is g h m c = m ∙ pushed-below false (marksOf g) (let z = marks-count g in omega arith)
+
+pub pushed-own : (g h : Indenter) → marksOf h ≡ pushed false (marksOf g) → g .count < 4160 → marksOf h ≡ false ∷ parents (marksOf h)
+unfolding parents
+pushed-own g h m c = rw (pushed-is g h m c)
+
+-- the final line has the last mark, the others as it was pushed
+pub turn-last : (T : Tables) (k : List ℕ) (g h : Indenter) (v i f : ℕ) (o d : List ℕ) (r : ℕ)
+    → Tried (setSaid T (h .top) (marksOf h) v) o d r
+    → marksOf h ≡ lastSet (marksOf g) → h .top ≡ g .top → v ≡ setAt k i → marksOf g ≡ false ∷ parents (marksOf g) → i ≤ f
+    → Tried (setSaid T (g .top) (leb i f ∷ parents (marksOf g)) (setAt k i)) o d r
+turn-last T k g h v i f o d r t m q e p l =
+    let n : marksOf h ≡ true ∷ parents (marksOf g) = m ∙ ap lastSet p in
+    rw (le-leb i f l) (rw (n, q, e) at t)
+
+pub turn-others : (T : Tables) (k : List ℕ) (g : Indenter) (v i f : ℕ) (o d : List ℕ) (r : ℕ)
+    → Tried (setSaid T (g .top) (marksOf g) v) o d r
+    → v ≡ setAt k i → marksOf g ≡ false ∷ parents (marksOf g) → f < i
+    → Tried (setSaid T (g .top) (leb i f ∷ parents (marksOf g)) (setAt k i)) o d r
+turn-others T k g v i f o d r t e p l =
+    let s : setSaid T (g .top) (marksOf g) v ≡ setSaid T (g .top) (false ∷ parents (marksOf g)) (setAt k i) =
+    rw e (ap (λ (ms : List Bool). setSaid T (g .top) ms (setAt k i)) p) in
+    rw (lt-leb i f l) (rw s at t)
 
 -- ---- lines that are written one by one
 
@@ -141,10 +166,11 @@ module _ (T : Tables) (top : Bool) (ms : List Bool) (k : List ℕ) where
       sets-full z =
           done-full whole (setsSaid T top ms (setsFrom k i e)) o d n u w (setSaid T top (leb (e - 1) i ∷ ms) (setAt k (e - 1))) (setsSaid T top ms (setsFrom k i (e - 1))) (sets-first i e h) x m t z
 
-pub sets-of : (T : Tables) (p k : List ℕ) (top : Bool) (ms : List Bool) (n a b : ℕ) (o d : List ℕ) (y u : ℕ) (f : Bool) → Lined (setsSaid T top ms (setsFrom k a b)) o d y u f
-    → a ≡ setsFirst p n → b ≡ setsEnd p n → Lined (setsSaid T top ms (setsIn p k n)) o d y u f
-unfolding setsIn
-sets-of T p k top ms n a b o d y u f l ai bi = rw (ai, bi) at l
+pub sets-of : (T : Tables) (p k : List ℕ) (g h : Indenter) (n a b : ℕ) (o d : List ℕ) (y u : ℕ) (f : Bool)
+    → Lined (setsSaid T (h .top) (parents (marksOf h)) (setsFrom k a b)) o d y u f → marksOf h ≡ pushed false (marksOf g) → h .top ≡ g .top
+    → g .count < 4160 → a ≡ setsFirst p n → b ≡ setsEnd p n → Lined (setsSaid T (g .top) (marksOf g) (setsIn p k n)) o d y u f
+unfolding setsIn parents
+sets-of T p k g h n a b o d y u f l m t c ai bi = rw (pushed-is g h m c, t, ai, bi) at l
 
 -- ---- all lines of a package
 

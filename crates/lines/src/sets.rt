@@ -4,6 +4,7 @@ use texts::Indenter;
 use texts::wordings;
 use texts::writers::put;
 ghost use mathlib.Core.Path.{_≡_};
+ghost use mathlib.Core.Bool.{false};
 ghost use mathlib.Core.List.{_∷_};
 ghost use Prim.Native.Nat.{_+_, _≤_, _<_};
 ghost use lib.ListN.{length};
@@ -17,7 +18,7 @@ ghost use Rattle.plan.specs.Fields.{textLength, setAt, setsFrom, setsIn};
 ghost use Rattle.plan.specs.Texts.{packageIn};
 ghost use Rattle.lines.specs.Said.{setSaid, setsSaid, packageAll};
 ghost use Rattle.lines.specs.Tried.{Tried, Lined};
-ghost use Rattle.lines.specs.SetLaws.{setPieces, joinedPart};
+ghost use Rattle.lines.specs.SetLaws.{setPieces, parents, joinedPart};
 
 // How far the lines of an entry came: bytes and lines written, and whether the next did not fit.
 pub struct Part {
@@ -69,7 +70,7 @@ fn set_line(file: &[u8], ix: &[u16; 10432], out: &mut [u8], g: Indenter, v: u16)
     try_set(out, g, name, set)
 }
 
-// The line of version set i under "would constrain"; that of the first place comes last.
+// The line of version set i under "would constrain"; that of the first place comes last, and has the last mark.
 fn set_turn(
     file: &[u8],
     ix: &[u16; 10432],
@@ -80,15 +81,18 @@ fn set_turn(
     i: usize,
 ) -> usize
     requires { ⌜ Loaded (now file) (now ix) ⌝ }
-    requires { ⌜ g .count < 4160 ⌝ }
-    ensures { λ r. ⌜ Tried (setSaid (tablesOf (now (file .entry))) (g .top) (leb i first ∷ marksOf g) (setAt (now (k .entry)) i)) (now (out .entry)) (now (out .exit)) r ⌝ }
+    requires { ⌜ (g .count ≤ 4160) × (marksOf g ≡ false ∷ parents (marksOf g)) ⌝ }
+    ensures { λ r. ⌜ Tried (setSaid (tablesOf (now (file .entry))) (g .top) (leb i first ∷ parents (marksOf g)) (setAt (now (k .entry)) i)) (now (out .entry)) (now (out .exit)) r ⌝ }
 {
-    let h = g.push_level_with_order(i <= first);
     let v = plan::set_at(k, i);
-    set_line(file, ix, out, h, v)
+    if i <= first {
+        let h = g.set_last();
+        return set_line(file, ix, out, h, v);
+    }
+    set_line(file, ix, out, g, v)
 }
 
-// The lines of the version sets from the end down to the first.
+// The lines of the version sets from the end down to the first; their level is pushed.
 fn set_lines(
     file: &[u8],
     ix: &[u16; 10432],
@@ -99,8 +103,8 @@ fn set_lines(
     end: usize,
 ) -> Part
     requires { ⌜ Loaded (now file) (now ix) ⌝ }
-    requires { ⌜ g .count < 4160 ⌝ }
-    ensures { λ r. ⌜ Lined (setsSaid (tablesOf (now (file .entry))) (g .top) (marksOf g) (setsFrom (now (k .entry)) first end)) (now (out .entry)) (now (out .exit)) (r .bytes) (r .units) (r .full) ⌝ }
+    requires { ⌜ (g .count ≤ 4160) × (marksOf g ≡ false ∷ parents (marksOf g)) ⌝ }
+    ensures { λ r. ⌜ Lined (setsSaid (tablesOf (now (file .entry))) (g .top) (parents (marksOf g)) (setsFrom (now (k .entry)) first end)) (now (out .entry)) (now (out .exit)) (r .bytes) (r .units) (r .full) ⌝ }
     ensures { λ r. do ⌜ (r .bytes ≤ (← ⟦out.len()⟧ .entry)) × (r .units ≤ r .bytes) ⌝ }
 {
     let mut e = end;
@@ -127,7 +131,7 @@ fn set_lines(
     }
 }
 
-// The lines under package n, which "would constrain".
+// The lines under package n, which "would constrain": one level is pushed for all of them (lines 1130 to 1144).
 fn sets_of(
     file: &[u8],
     ix: &[u16; 10432],
@@ -144,7 +148,8 @@ fn sets_of(
 {
     let first = plan::sets_first(p, n);
     let end = plan::sets_end(p, n);
-    set_lines(file, ix, k, out, g, first, end)
+    let h = g.push_level();
+    set_lines(file, ix, k, out, h, first, end)
 }
 
 // The lines under a package, counted with its own of b bytes.

@@ -9,17 +9,17 @@ use Rattle.store.specs.Table.{graphIn, Stored}
 use Rattle.store.specs.Exact.{table-one, size-one}
 use Rattle.linking.specs.declared.Grown.{Grown}
 use Rattle.linking.specs.declared.Grown.the-variants as G
-use Rattle.linking.specs.Links.{Linked, more, short}
+use Rattle.linking.specs.Working.{LinkedSoFar, moreTo, shortAt}
 use Rattle.linking.specs.Growth.{grownIn, Grew}
 
-pub grew-one : (W : Linked) (g h : List ℕ) (r q : Grown) → Grew W g r → Grew W h q → (r ≡ q) × (g ≡ h)
+pub grew-one : (W : LinkedSoFar) (g h : List ℕ) (r q : Grown) → Grew W g r → Grew W h q → (r ≡ q) × (g ≡ h)
 grew-one W g h (G.On s) (G.On t) R Q =
-    let z : more (graphIn g s) ≡ more (graphIn h t) = R .is ∙ sym (Q .is) in
+    let z : moreTo (graphIn g s) ≡ moreTo (graphIn h t) = R .is ∙ sym (Q .is) in
     let e : graphIn g s ≡ graphIn h t = cc in
     (ap G.On (size-one g h s t (R .growing .stored) (Q .growing .stored) e), table-one g h s t (R .growing .stored) (Q .growing .stored) e)
 grew-one W g h (G.Full s) (G.Full t) R Q =
-    let z : short (graphIn g s) ≡ short (graphIn h t) = R .is ∙ sym (Q .is) in
+    let z : shortAt (graphIn g s) ≡ shortAt (graphIn h t) = R .is ∙ sym (Q .is) in
     let e : graphIn g s ≡ graphIn h t = cc in
     (ap G.Full (size-one g h s t (R .growing .stored) (Q .growing .stored) e), table-one g h s t (R .growing .stored) (Q .growing .stored) e)
-grew-one W g h (G.On s) (G.Full t) R Q = let z : more (graphIn g s) ≡ short (graphIn h t) = R .is ∙ sym (Q .is) in clash (cc)
-grew-one W g h (G.Full s) (G.On t) R Q = let z : short (graphIn g s) ≡ more (graphIn h t) = R .is ∙ sym (Q .is) in clash (cc)
+grew-one W g h (G.On s) (G.Full t) R Q = let z : moreTo (graphIn g s) ≡ shortAt (graphIn h t) = R .is ∙ sym (Q .is) in clash (cc)
+grew-one W g h (G.Full s) (G.On t) R Q = let z : shortAt (graphIn g s) ≡ moreTo (graphIn h t) = R .is ∙ sym (Q .is) in clash (cc)

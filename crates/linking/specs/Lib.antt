@@ -1,5 +1,7 @@
 pub mod Links
+pub mod Working
 pub mod Growth
+pub mod Parties
 pub mod Requiring
 pub mod Fan
 pub mod Direct

@@ -2,7 +2,7 @@
 -- edges in order.
 use mathlib.Core.List.{List, [], _∷_, _++_, map}
 use mathlib.Core.Option.{Option, none, some}
-use Prim.Native.Nat.{ℕ, zero, suc}
+use Prim.Native.Nat.{ℕ}
 use Rattle.basis.specs.Lists.{concatMap, orElse}
 use Rattle.records.specs.declared.Origin.{Origin}
 use Rattle.records.specs.declared.Origin.the-variants as O
@@ -149,16 +149,16 @@ pub record Link : Type 0 where
 abbrev pub link : ConflictNode → ConflictNode → ConflictEdge → Link
 link x y w = record { source = x; target = y; weight = w }
 
--- the graph with all links, or 8, "node 129 or edge 1,025 would be added", and the graph as far as it came
+-- the graph with all links, or 8, "node 129 or edge 1,025 would be added"
 pub data Linked : Type 0 where
   more : Graph → Linked
-  short : Graph → Linked
+  short : Linked
 
 -- the links one after another, each by `addLink`
 unfoldable pub linkAll : List Link → Graph → Linked
 unfolding addLink addNode addEdge
 linkAll [] g = more g
-linkAll (l ∷ rest) g = elim (addLink g (l .source) (l .target) (l .weight)) [ full h ↦ short h | added i h ↦ linkAll rest h ]
+linkAll (l ∷ rest) g = elim (addLink g (l .source) (l .target) (l .weight)) [ full ↦ short | added i h ↦ linkAll rest h ]
 
 -- "an edge per candidate in table order, or one to unresolved if there are none"
 abbrev pub requireLink : ℕ → ConflictNode → ℕ → Link
@@ -190,12 +190,12 @@ unfoldable pub constrainsLinks : Tables → ℕ → ℕ → ℕ → List Link
 unfolding partyOf
 constrainsLinks T a b v = concatMap (λ n. map (λ m. link n m (W.Conflict (K.Constrains v))) (nodesOf T b)) (nodesOf T a)
 
--- "links the previous solvable under that forbidden name to this one": 1 + the previous one, or 0
-abbrev pub previousLinks : ℕ → ℕ → List Link
-previousLinks zero s = []
-previousLinks (suc p) s = link (N.Solvable p) (N.Solvable s) (W.Conflict K.ForbidMultipleInstances) ∷ []
+-- "links the previous solvable under that forbidden name to this one", if there is one
+abbrev pub previousLinks : Option ℕ → ℕ → List Link
+previousLinks none s = []
+previousLinks (some p) s = link (N.Solvable p) (N.Solvable s) (W.Conflict K.ForbidMultipleInstances) ∷ []
 
 -- the node is added even where there is no link (conflict.rs, line 247)
-unfoldable pub forbidAll : Graph → ℕ → ℕ → Linked
+unfoldable pub forbidAll : Graph → Option ℕ → ℕ → Linked
 unfolding addNode linkAll
-forbidAll g p s = elim (addNode g (N.Solvable s)) [ full h ↦ short h | added i h ↦ linkAll (previousLinks p s) h ]
+forbidAll g p s = elim (addNode g (N.Solvable s)) [ full ↦ short | added i h ↦ linkAll (previousLinks p s) h ]

@@ -6,10 +6,12 @@ ghost use Rattle.records.specs.Read.{tablesOf};
 ghost use Rattle.index.specs.Index.{Loaded};
 ghost use Rattle.store.specs.Table.{graphIn, Growing};
 ghost use Rattle.views.specs.Walks.{candidatesFrom, gatesFrom};
-ghost use Rattle.linking.specs.Links.{link, linkAll, forbidAll, partyOf, asList, requiresOf, requirers, gateReason, excludedLinks, lockLinks, constrainsLinks};
+ghost use Rattle.linking.specs.Links.{link, partyOf, asList, requiresOf, requirers, gateReason, excludedLinks, lockLinks, constrainsLinks};
+ghost use Rattle.linking.specs.Working.{linkAllIn, forbidAllIn, lastBy};
 ghost use Rattle.linking.specs.Growth.{Grew};
 ghost use Rattle.linking.specs.Fan.{fanAll};
-ghost use Rattle.linking.specs.Requiring.{isNode, anyNode, candidateLinks, requireOf, gateLinks, gateOf};
+ghost use Rattle.linking.specs.Parties.{isNode, anyNode};
+ghost use Rattle.linking.specs.Requiring.{candidateLinks, requireOf, gateLinks, gateOf};
 use records::Clause;
 use records::Origin;
 use store::ConflictCause;
@@ -38,7 +40,7 @@ fn link_one(
     w: ConflictEdge,
 ) -> Grown
     requires { ⌜ Growing (now g) s ⌝ }
-    ensures { λ r. ⌜ Grew (linkAll (link x y w ∷ []) (graphIn (now (g .entry)) s)) (now (g .exit)) r ⌝ }
+    ensures { λ r. ⌜ Grew (linkAllIn (link x y w ∷ []) (graphIn (now (g .entry)) s)) (now (g .exit)) r ⌝ }
 {
     let a = store::link(g, s, x, y, w);
     match a {
@@ -50,7 +52,7 @@ fn link_one(
 // The node of solvable n, and the link from the one before it under its name: p is one more than that, or 0.
 pub fn add_forbidden(g: &mut [u64; 1152], s: Size, p: u16, n: u16) -> Grown
     requires { ⌜ Growing (now g) s ⌝ }
-    ensures { λ r. ⌜ Grew (forbidAll (graphIn (now (g .entry)) s) p n) (now (g .exit)) r ⌝ }
+    ensures { λ r. ⌜ Grew (forbidAllIn (graphIn (now (g .entry)) s) (lastBy p) n) (now (g .exit)) r ⌝ }
 {
     let a = store::add_node(g, s, ConflictNode::Solvable(n));
     match a {
@@ -137,7 +139,7 @@ fn link_some(
     requires { ⌜ Loaded (now file) (now ix) ⌝ }
     requires { ⌜ Growing (now g) s ⌝ }
     requires { ⌜ 0 < x ⌝ }
-    ensures { λ r. ⌜ Grew (linkAll (candidateLinks (tablesOf (now (file .entry))) q p x) (graphIn (now (g .entry)) s)) (now (g .exit)) r ⌝ }
+    ensures { λ r. ⌜ Grew (linkAllIn (candidateLinks (tablesOf (now (file .entry))) q p x) (graphIn (now (g .entry)) s)) (now (g .exit)) r ⌝ }
 {
     let a = store::add_node(g, s, p);
     match a {
@@ -161,7 +163,7 @@ fn link_candidates(
 ) -> Grown
     requires { ⌜ Loaded (now file) (now ix) ⌝ }
     requires { ⌜ Growing (now g) s ⌝ }
-    ensures { λ r. ⌜ Grew (linkAll (candidateLinks (tablesOf (now (file .entry))) q p x) (graphIn (now (g .entry)) s)) (now (g .exit)) r ⌝ }
+    ensures { λ r. ⌜ Grew (linkAllIn (candidateLinks (tablesOf (now (file .entry))) q p x) (graphIn (now (g .entry)) s)) (now (g .exit)) r ⌝ }
 {
     if x == 0 {
         return Grown::On(s);
@@ -180,7 +182,7 @@ fn require(
 ) -> Grown
     requires { ⌜ Loaded (now file) (now ix) ⌝ }
     requires { ⌜ Growing (now g) s ⌝ }
-    ensures { λ r. ⌜ Grew (linkAll (requireOf (tablesOf (now (file .entry))) q p) (graphIn (now (g .entry)) s)) (now (g .exit)) r ⌝ }
+    ensures { λ r. ⌜ Grew (linkAllIn (requireOf (tablesOf (now (file .entry))) q p) (graphIn (now (g .entry)) s)) (now (g .exit)) r ⌝ }
 {
     let x = views::first_candidate(file, ix, q);
     if x == 0 {
@@ -206,7 +208,7 @@ fn require_party(
 ) -> Grown
     requires { ⌜ Loaded (now file) (now ix) ⌝ }
     requires { ⌜ Growing (now g) s ⌝ }
-    ensures { λ d. ⌜ Grew (linkAll (requiresOf (tablesOf (now (file .entry))) q (asList r)) (graphIn (now (g .entry)) s)) (now (g .exit)) d ⌝ }
+    ensures { λ d. ⌜ Grew (linkAllIn (requiresOf (tablesOf (now (file .entry))) q (asList r)) (graphIn (now (g .entry)) s)) (now (g .exit)) d ⌝ }
 {
     let Party::Node(p) = r else {
         return Grown::On(s);
@@ -242,7 +244,7 @@ fn link_gate(
 ) -> Grown
     requires { ⌜ Loaded (now file) (now ix) ⌝ }
     requires { ⌜ Growing (now g) s ⌝ }
-    ensures { λ r. ⌜ Grew (linkAll (gateLinks (tablesOf (now (file .entry))) q x) (graphIn (now (g .entry)) s)) (now (g .exit)) r ⌝ }
+    ensures { λ r. ⌜ Grew (linkAllIn (gateLinks (tablesOf (now (file .entry))) q x) (graphIn (now (g .entry)) s)) (now (g .exit)) r ⌝ }
 {
     let mut y = x;
     let mut t = s;
@@ -289,7 +291,7 @@ fn expand_gate(
 ) -> Grown
     requires { ⌜ Loaded (now file) (now ix) ⌝ }
     requires { ⌜ Growing (now g) s ⌝ }
-    ensures { λ r. ⌜ Grew (linkAll (requiresOf (tablesOf (now (file .entry))) q (gateOf (tablesOf (now (file .entry))) v)) (graphIn (now (g .entry)) s)) (now (g .exit)) r ⌝ }
+    ensures { λ r. ⌜ Grew (linkAllIn (requiresOf (tablesOf (now (file .entry))) q (gateOf (tablesOf (now (file .entry))) v)) (graphIn (now (g .entry)) s)) (now (g .exit)) r ⌝ }
 {
     let x = views::first_gate(file, ix, v);
     if gate_kept(file, ix, x) {
@@ -309,7 +311,7 @@ pub fn expand_requires(
 ) -> Grown
     requires { ⌜ Loaded (now file) (now ix) ⌝ }
     requires { ⌜ Growing (now g) s ⌝ }
-    ensures { λ r. ⌜ Grew (linkAll (requiresOf (tablesOf (now (file .entry))) q (requirers (tablesOf (now (file .entry))) a)) (graphIn (now (g .entry)) s)) (now (g .exit)) r ⌝ }
+    ensures { λ r. ⌜ Grew (linkAllIn (requiresOf (tablesOf (now (file .entry))) q (requirers (tablesOf (now (file .entry))) a)) (graphIn (now (g .entry)) s)) (now (g .exit)) r ⌝ }
 {
     let o = views::origin(file, ix, a);
     match o {
@@ -332,7 +334,7 @@ pub fn expand_excluded(
 ) -> Grown
     requires { ⌜ Loaded (now file) (now ix) ⌝ }
     requires { ⌜ Growing (now g) s ⌝ }
-    ensures { λ d. ⌜ Grew (linkAll (excludedLinks (tablesOf (now (file .entry))) a r) (graphIn (now (g .entry)) s)) (now (g .exit)) d ⌝ }
+    ensures { λ d. ⌜ Grew (linkAllIn (excludedLinks (tablesOf (now (file .entry))) a r) (graphIn (now (g .entry)) s)) (now (g .exit)) d ⌝ }
 {
     let o = views::origin(file, ix, a);
     let Origin::Solvable(n) = o else {
@@ -358,7 +360,7 @@ pub fn expand_lock(
 ) -> Grown
     requires { ⌜ Loaded (now file) (now ix) ⌝ }
     requires { ⌜ Growing (now g) s ⌝ }
-    ensures { λ d. ⌜ Grew (linkAll (lockLinks (tablesOf (now (file .entry))) a b) (graphIn (now (g .entry)) s)) (now (g .exit)) d ⌝ }
+    ensures { λ d. ⌜ Grew (linkAllIn (lockLinks (tablesOf (now (file .entry))) a b) (graphIn (now (g .entry)) s)) (now (g .exit)) d ⌝ }
 {
     let o = views::origin(file, ix, a);
     let Origin::Solvable(locked) = o else {
@@ -390,7 +392,7 @@ pub fn expand_constrains(
 ) -> Grown
     requires { ⌜ Loaded (now file) (now ix) ⌝ }
     requires { ⌜ Growing (now g) s ⌝ }
-    ensures { λ d. ⌜ Grew (linkAll (constrainsLinks (tablesOf (now (file .entry))) a b v) (graphIn (now (g .entry)) s)) (now (g .exit)) d ⌝ }
+    ensures { λ d. ⌜ Grew (linkAllIn (constrainsLinks (tablesOf (now (file .entry))) a b v) (graphIn (now (g .entry)) s)) (now (g .exit)) d ⌝ }
 {
     let x = named(file, ix, a);
     let Party::Node(n) = x else {

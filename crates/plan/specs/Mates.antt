@@ -1,7 +1,7 @@
 -- What the groups of a graph are to one who knows each node's lead only: its members are the nodes of the same lead.
 use mathlib.Core.Path.{_≡_, refl, sym, ap, _∙_}
 use mathlib.Core.Logic.{inl, inr}
-use mathlib.Core.Bool.{Bool, true, false, cond, _&&_, false≢true, true≢false}
+use mathlib.Core.Bool.{Bool, true, false, cond, false≢true, true≢false}
 use mathlib.Core.List.{List, [], _∷_, map}
 use Prim.Native.Nat.{ℕ, zero, suc, _+_, _<_, _≤_}
 use native.Mathlib.Nat.{not-suc-le-zero}
@@ -9,25 +9,18 @@ use native.Mathlib.Omega.{arith}
 use lib.ListN.{length, getD}
 use lib.Dec.{eqb, ltb}
 use borrow.Author.Tests.{eqb-true, eqb-false, eq-eqb, ne-eqb, lt-ltb}
-use Rattle.basis.specs.Lists.{filter, has, eqList, upto}
+use Rattle.basis.specs.Lists.{filter, has, upto}
 use Rattle.basis.specs.Members.{In, Distinct, split, either, in-filter, filter-in, in-has, has-in}
 use Rattle.records.specs.Tables.{Tables}
 use Rattle.records.specs.Views.{nameText, solvableName}
 use Rattle.store.specs.Graph.{Graph, nodeAt, isSolvable}
 use Rattle.groups.specs.Groups.{sort, outKeys, inKeys, mergesBy, titleOf, matesBy, mates}
+use Rattle.groups.specs.Small.{both, eq-refl, keys-refl}
 use Rattle.groups.specs.Counts.{same-mates}
 use Rattle.plan.specs.Plan.{Shown, shownOf, groupOf, isMerged, leadOf}
 use Rattle.plan.specs.Display.{membersOf}
 
 -- ---- small laws
-
-eq-refl : (l : List ℕ) → eqList l l ≡ true
-eq-refl [] = refl
-eq-refl (x ∷ l) = rw (eq-eqb x x refl, eqList) (eq-refl l)
-
-both : (a b : Bool) → a && b ≡ true → (a ≡ true) × (b ≡ true)
-both true b e = (refl, e)
-both false b e = absurd (false≢true e)
 
 pub map-upto : {A : Type 0} (f : ℕ → A) (c a i : ℕ) (d : A) → i < c → getD (map f (upto c a)) i d ≡ f (a + i)
 map-upto f zero a i d h = absurd (not-suc-le-zero h)
@@ -125,7 +118,8 @@ module _ (T : Tables) (G : Graph) where
   unfolding mates matesBy mergesBy
   self n h s =
       filter-in (λ k. mergesBy (titleOf name G) G k n) n (upto (length (G .nodes)) 0)
-      (rw (s, eq-refl (titleOf name G n), eq-refl (sort (inKeys G n)), eq-refl (sort (outKeys G n)))) (upto-in (length (G .nodes)) 0 n (omega arith) (omega arith))
+      (rw (s, eq-refl (titleOf name G n), keys-refl (sort (inKeys G n)), keys-refl (sort (outKeys G n))))
+      (upto-in (length (G .nodes)) 0 n (omega arith) (omega arith))
 
   mates-distinct : (n : ℕ) → Distinct (mates name G n)
   unfolding mates matesBy

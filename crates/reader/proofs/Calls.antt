@@ -31,12 +31,10 @@ use denote.Triple.Clauses.{ensured, lasts}
 use Rattle.records.specs.Shapes.{recordsOf}
 use Rattle.records.specs.Tables.{at}
 use Rattle.records.specs.Read.{shown}
-use Rattle.reader.specs.Place.{nextPlace}
 use Rattle.reader.specs.declared.Reader.{Reader}
 use Rattle.reader.proofs.Reader as T
 use Rattle.reader.proofs.Reader.new as new
 use Rattle.reader.proofs.Reader.seek as seek
-use Rattle.reader.proofs.Reader.next as next
 use Rattle.reader.proofs.Reader.kind as kind
 use Rattle.reader.proofs.Reader.text as text
 
@@ -59,9 +57,6 @@ module _ {M : Type 1} (𝓤 : URA M) (H : Heap 𝓤) (A : Atoms 𝓤) (mem : Mem
 
   abbrev pub Seek : Contract 𝓤
   Seek = tripleOf 𝓤 H A seek.signature (seek.spec 𝓤 H A mem run)
-
-  abbrev pub Next : Contract 𝓤
-  Next = tripleOf 𝓤 H A next.signature (next.spec 𝓤 H A mem run)
 
   abbrev pub Kind : Contract 𝓤
   Kind = tripleOf 𝓤 H A kind.signature (kind.spec 𝓤 H A mem run)
@@ -106,19 +101,6 @@ module _ {M : Type 1} (𝓤 : URA M) (H : Heap 𝓤) (A : Atoms 𝓤) (W : Given
 
   pub seek-said : (r : Reader) (n : ℕ) (r′ : Reader) → ent 𝓤 (ensured 𝓤 H A seek.ended (seek.clauses 𝓤 H A mem run) (κ, tt) (r, (n, tt)) tt r′) (fact 𝓤 (SeekSaid r n r′))
   seek-said r n r′ = exE 𝓤 _ (λ ws. snd∗ 𝓤 (sem 𝓤 H A (lasts seek.ended (κ, tt) (r, (n, tt)) ws)) (fact 𝓤 (SeekSaid r n r′)))
-
-  -- the call of `next`
-  abbrev pub to-next : Reader → Val → Next 𝓤 H A mem run .Ghost
-  to-next r u = (((κ, tt), (q, tt), tt, (r, tt), (u ∷ [], tt)), tt)
-
-  pub goes-next : (r : Reader) (u : Val) → ent 𝓤 (⋆ 𝓤 H A (‵ (B (κ, tt) .own r (u ∷ [])) ∷ (‵ (flft κ q) ⊛ ‵ ftrue) ∷ [])) (Next 𝓤 H A mem run .pre (to-next r u))
-  goes-next r u = qed W (‵ (B (κ, tt) .own r (u ∷ [])) ∷ (‵ (flft κ q) ⊛ ‵ ftrue) ∷ []) ∵ nothing ! $ move ! (1 ∷ 0 ∷ []) $ fjoin ! $ move ! (1 ∷ 0 ∷ []) $ join ! $ frame ! $ done !
-
-  abbrev pub NextSaid : Reader → Reader → Type 0
-  NextSaid r r′ = (r′ .file ≡ r .file) × (r′ .at ≡ nextPlace (recordsOf (now (r .file))) (r .at))
-
-  pub next-said : (r r′ : Reader) → ent 𝓤 (ensured 𝓤 H A next.ended (next.clauses 𝓤 H A mem run) (κ, tt) (r, tt) tt r′) (fact 𝓤 (NextSaid r r′))
-  next-said r r′ = exE 𝓤 _ (λ ws. snd∗ 𝓤 (sem 𝓤 H A (lasts next.ended (κ, tt) (r, tt) ws)) (fact 𝓤 (NextSaid r r′)))
 
   -- the call of `kind`
   abbrev pub to-kind : Reader → Val → Kind 𝓤 H A mem run .Ghost

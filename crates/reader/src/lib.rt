@@ -6,18 +6,10 @@ ghost use mathlib.Core.Path.{_≡_};
 ghost use Rattle.records.specs.Shapes.{recordsOf};
 ghost use Rattle.records.specs.Tables.{at};
 ghost use Rattle.records.specs.Read.{shown};
-ghost use Rattle.reader.specs.Place.{nextPlace};
 
 pub struct Reader<'a> {
     pub file: &'a [u8],
     pub at: usize,
-}
-
-// The place behind record i; there is none behind the end, so that a reader stays there.
-pub fn next_place(file: &[u8], i: usize) -> usize
-    ensures { λ r. ⌜ r ≡ nextPlace (recordsOf (now (file .entry))) i ⌝ }
-{
-    if i < file.len() / 32 { i + 1 } else { i }
 }
 
 impl<'a> Reader<'a> {
@@ -32,17 +24,6 @@ impl<'a> Reader<'a> {
     pub fn seek(self, i: usize) -> Reader<'a>
         ensures { λ r. ⌜ (r .file ≡ self .entry .file) × (r .at ≡ i) ⌝ }
     {
-        Reader {
-            file: self.file,
-            at: i,
-        }
-    }
-
-    // The same file, at the next record or at its end.
-    pub fn next(self) -> Reader<'a>
-        ensures { λ r. ⌜ (r .file ≡ self .entry .file) × (r .at ≡ nextPlace (recordsOf (now (self .entry .file))) (self .entry .at)) ⌝ }
-    {
-        let i = next_place(self.file, self.at);
         Reader {
             file: self.file,
             at: i,
@@ -64,16 +45,16 @@ impl<'a> Reader<'a> {
     }
 }
 
-// The text of record i: whoever calls this has plain parameters.
+// The kind of record i. Whoever calls this or `text_of` has plain parameters.
+pub fn kind_of(file: &[u8], i: usize) -> u8
+    ensures { λ k. ⌜ k ≡ at (recordsOf (now (file .entry))) i .kind ⌝ }
+{
+    Reader::new(file).seek(i).kind()
+}
+
+// The text of record i.
 pub fn text_of(file: &[u8], i: usize) -> &[u8]
     ensures { λ s. ⌜ now s ≡ shown (at (recordsOf (now (file .entry))) i) ⌝ }
 {
     Reader::new(file).seek(i).text()
-}
-
-// The kind of the record behind record i, 0 where i is the last.
-pub fn kind_behind(file: &[u8], i: usize) -> u8
-    ensures { λ k. ⌜ k ≡ at (recordsOf (now (file .entry))) (nextPlace (recordsOf (now (file .entry))) i) .kind ⌝ }
-{
-    Reader::new(file).seek(i).next().kind()
 }

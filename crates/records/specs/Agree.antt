@@ -24,7 +24,7 @@ use Rattle.records.specs.declared.Step.the-variants.{Next, No}
 use Rattle.records.specs.Shapes.{Rec, recordsOf, limit, shapeOf, kinds, rowAt}
 use Rattle.records.specs.Tables.{Tables, noTables, tableOf, put, countsOf, noRec, at}
 use Rattle.records.specs.Read.{readFrom, readOf, answerOf, firstGood, fieldGood, shapeGood, numberGood, numbersGood, originGood, originsGood, allows, refusalIn}
-use Rattle.records.specs.Steps.{both-left, both-right, Fine, fine, read-unknown, read-next, read-stop}
+use Rattle.records.specs.Steps.{both-left, both-right, Passed, passed, read-unknown, read-next, read-stop}
 use Rattle.records.specs.Text.{guard-and, firstPass, first-is-good}
 use Rattle.records.specs.Pass.{foundAt, foundOf, countPass, limitPass, withPass, isNext, isBefore, hasRoom, moreOf, fieldPass, shapePass, namedPass, freePass, numberPass, numbersPass, allowsPass, markOrigin, originPass, originsPass, admitPass, checkAt, checkPass, noted, turnPass, marksPass, passFrom, noCounts}
 
@@ -321,11 +321,11 @@ module _ (T : Tables) (m : List ℕ) (h : Marked T m) (r : Rec) where
   unfolding checkPass foundAt
   check-some s e = ap (λ (o : Option Shape). checkAt (countsOf T) m r (foundOf o)) e ∙ admit-is-good T m h s r
 
-  pub next-marked : (s : Shape) → shapeOf (r .kind) ≡ some s → Fine T s r → Marked (put (s .table) r T) (noted (s .table) r m)
-  next-marked s e f =
-      noted-marked T m h r (s .a) (s .b) (s .table) (shape-fit (r .kind) s e) (f .room)
-      (both-left (fieldGood (s .b) r (r .b)) _ (both-right (fieldGood (s .a) r (r .a)) _ (both-right (firstGood (s .first) r) _ (f .shape))))
-      (both-left (numberGood T (s .table) (s .a) r (r .a)) _ (f .numbers))
+  pub next-marked : (s : Shape) → Passed T r s → Marked (put (s .table) r T) (noted (s .table) r m)
+  next-marked s p =
+      noted-marked T m h r (s .a) (s .b) (s .table) (shape-fit (r .kind) s (p .known)) (p .room)
+      (both-left (fieldGood (s .b) r (r .b)) _ (both-right (fieldGood (s .a) r (r .a)) _ (both-right (firstGood (s .first) r) _ (p .shaped))))
+      (both-left (numberGood T (s .table) (s .a) r (r .a)) _ (p .numbered))
 
 -- one record, where the rest is known to agree
 module _ (r : Rec) (rs : List Rec) (i : ℕ) (T : Tables) (m : List ℕ) (h : Marked T m)
@@ -334,8 +334,8 @@ module _ (r : Rec) (rs : List Rec) (i : ℕ) (T : Tables) (m : List ℕ) (h : Ma
   unfolding passFrom turnPass marksPass
   by-refusal s e zero q =
       let c : checkPass (countsOf T) m r ≡ Next (s .table) = check-some T m h r s e ∙ ap (λ (k : ℕ). stepOf k (s .table)) q in
-      let f : Fine T s r = fine T s r q in
-      rw (c, read-next r rs i T s e q, more-is-good (s .table) T r (f .room)) (rest (put (s .table) r T) (noted (s .table) r m) (next-marked T m h r s e f))
+      let p : Passed T r s = passed T r s e q in
+      rw (c, read-next r rs i T s e q, more-is-good (s .table) T r (p .room)) (rest (put (s .table) r T) (noted (s .table) r m) (next-marked T m h r s p))
   by-refusal s e (suc n) q =
       let c : checkPass (countsOf T) m r ≡ No (suc n) = check-some T m h r s e ∙ ap (λ (k : ℕ). stepOf k (s .table)) q in
       rw (c, read-stop r rs i T s e n q)

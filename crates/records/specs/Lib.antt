@@ -5,9 +5,7 @@ pub mod Views
 pub mod Cut
 pub mod Text
 pub mod Pass
-pub mod Fits
 pub mod Steps
 pub mod Agree
-pub mod Limits
 pub mod Cases
 pub mod Laws

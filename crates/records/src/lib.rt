@@ -1,21 +1,13 @@
-// The record file (document 01, "The record file", "Refusal numbers"): the shapes of the records and the reader, which
-// answers the size of each table or a refusal from 1 to 6. It writes nothing; `fields` reads one record of a file. The step of one
-// record over the tables before it is public: `check` answers it, `pass` also notes its mark, specs/Laws/Step.antt says what it is.
+// The record file (document 01, "The record file", "Refusal numbers"): the shapes of the records, and one record. `fields` reads it, and
+// the step over the tables before it is public: `check` answers it, a table or a refusal from 2 to 6, `pass` also notes its mark,
+// specs/Laws/Step.antt says what it is. The whole file is read in `arms`.
 
 pub mod check;
 pub mod fields;
-mod fits;
 pub mod kinds;
-mod origins;
+pub mod origins;
 pub mod pass;
-mod text;
-
-use fits::quick_turn;
-use pass::turn;
-ghost use mathlib.Core.Path.{_≡_};
-ghost use Rattle.records.specs.Shapes.{recordsOf};
-ghost use Rattle.records.specs.Read.{readOf, answerOf};
-ghost use Rattle.records.specs.Pass.{passFrom, leftPass, noCounts};
+pub mod text;
 
 // The nine tables.
 pub enum Table {
@@ -120,71 +112,4 @@ pub enum Found {
 pub enum Step {
     Next(Table),
     No(u64),
-}
-
-// The records from i on, with the counts and marks of those before, by the check that says why a record is refused.
-fn rest(file: &[u8], m: &mut [u16], i: usize, c: Counts) -> Answer
-    ensures { λ r. ⌜ r ≡ leftPass (now (file .entry)) i c (now (m .entry)) ⌝ }
-{
-    let n = file.len() / 32;
-    let mut d = c;
-    let mut j = i;
-    while j < n {
-        let s = turn(file, j, d, m);
-        let Answer::Accepted(e) = s else {
-            return s;
-        };
-        d = e;
-        j += 1;
-    }
-    Answer::Accepted(d)
-}
-
-// All records in their order, with a mark of 0 for each variable at first: by the arms of their kinds until one says no.
-fn run(file: &[u8], m: &mut [u16]) -> Answer
-    ensures { λ r. ⌜ r ≡ passFrom (recordsOf (now (file .entry))) 0 noCounts (now (m .entry)) ⌝ }
-{
-    let n = file.len() / 32;
-    let mut c = Counts {
-        names: 0,
-        solvables: 0,
-        sets: 0,
-        requirements: 0,
-        candidates: 0,
-        reasons: 0,
-        variables: 0,
-        assigned: 0,
-        clauses: 0,
-    };
-    let mut i = 0;
-    while i < n {
-        let s = quick_turn(file, i, c, m);
-        let Answer::Accepted(d) = s else {
-            return rest(file, m, i, c);
-        };
-        c = d;
-        i += 1;
-    }
-    Answer::Accepted(c)
-}
-
-// Reads a file of records: how many each table has, or the first refusal (1 to 6) with its place.
-pub fn read(file: &[u8]) -> Answer
-    ensures { λ r. ⌜ r ≡ answerOf (readOf (now (file .entry))) ⌝ }
-{
-    let len = file.len();
-    if 65536 < len {
-        return Answer::Refused {
-            number: 1,
-            place: 0,
-        };
-    }
-    if len % 32 != 0 {
-        return Answer::Refused {
-            number: 1,
-            place: 0,
-        };
-    }
-    let mut marks = [0u16; 1024];
-    run(file, &mut marks)
 }

@@ -13,12 +13,12 @@ use Rattle.basis.specs.Members.{split, clash}
 use Rattle.store.specs.declared.ConflictEdge.{ConflictEdge}
 use Rattle.store.specs.declared.ConflictEdge.the-variants as W
 use Rattle.store.specs.declared.Edge.{Edge}
-use Rattle.store.specs.Graph.{tryRequires}
+use Rattle.store.specs.Words.{requirementCode}
 use Rattle.labels.specs.Runs.{Run, addTo, runsOf}
 
 -- 1 + the requirement's number, 0 for a conflict
 abbrev pub keyOf : Edge → ℕ
-keyOf e = tryRequires (e .weight)
+keyOf e = requirementCode (e .weight)
 
 -- an edge at which the run with key x ends
 unfoldable pub endsRun : ℕ → Edge → Bool
@@ -94,14 +94,14 @@ runs-conflict e es h = by (e .weight) refl
   where
     by : (w : ConflictEdge) → e .weight ≡ w → runsOf (e ∷ es) ≡ runsOf es
     by (W.Conflict c) q = rw (q, runsOf)
-    by (W.Requires r) q = let z : suc r ≡ 0 = sym (ap tryRequires q) ∙ h in clash (omega arith)
+    by (W.Requires r) q = let z : suc r ≡ 0 = sym (ap requirementCode q) ∙ h in clash (omega arith)
 
 runs-requires : (e : Edge) (es : List Edge) (r : ℕ) → keyOf e ≡ suc r → runsOf (e ∷ es) ≡ addTo r (e .target) (runsOf es)
 runs-requires e es r h = by (e .weight) refl
   where
     by : (w : ConflictEdge) → e .weight ≡ w → runsOf (e ∷ es) ≡ addTo r (e .target) (runsOf es)
-    by (W.Conflict c) q = let z : 0 ≡ suc r = sym (ap tryRequires q) ∙ h in clash (omega arith)
-    by (W.Requires s) q = let z : suc s ≡ suc r = sym (ap tryRequires q) ∙ h in let y : s ≡ r = omega arith in rw (q, runsOf, y)
+    by (W.Conflict c) q = let z : 0 ≡ suc r = sym (ap requirementCode q) ∙ h in clash (omega arith)
+    by (W.Requires s) q = let z : suc s ≡ suc r = sym (ap requirementCode q) ∙ h in let y : s ≡ r = omega arith in rw (q, runsOf, y)
 
 key-cases : {X : Type 0} (e : Edge) → (keyOf e ≡ 0 → X) → ((r : ℕ) → keyOf e ≡ suc r → X) → X
 key-cases {X = X} e f g = by (keyOf e) refl

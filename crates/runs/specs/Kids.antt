@@ -9,8 +9,6 @@ use lib.Dec.{eqb, ltb}
 use borrow.Author.Tests.{lt-ltb, eq-eqb, ne-eqb, not-true, not-false}
 use Rattle.basis.specs.Lists.{any, all}
 use Rattle.basis.specs.Members.{split}
-use Rattle.store.specs.declared.ConflictNode.{ConflictNode}
-use Rattle.store.specs.declared.ConflictNode.the-variants as N
 use Rattle.store.specs.Graph.{isSolvable, isUnresolved}
 use Rattle.store.specs.Table.{nodeIn}
 use Rattle.plan.specs.Fields.{kidAt, kidsFrom, kids-none, kids-more}
@@ -108,20 +106,6 @@ module _ (gr k : List ℕ) (l c i end : ℕ) (inv : groupShown gr l (kidsFrom k 
     pub shown-on : (x ≡ l → ⊥) → groupShown gr l (kidsFrom k (i + 1) end) ≡ groupShown gr l (kidsFrom k c end)
     unfolding groupShown
     shown-on q = rw (kids-more k i end h, ← is, ← of, ne-eqb x l q, any) at inv
-
--- a node is a solvable
-module _ (r y : ConflictNode) where
-  pub solvable-not-root : r ≡ N.Root → r ≡ y → false ≡ isSolvable y
-  solvable-not-root e q = rw (← q, e)
-
-  pub solvable-is : (t : ℕ) → r ≡ N.Solvable t → r ≡ y → true ≡ isSolvable y
-  solvable-is t e q = rw (← q, e)
-
-  pub solvable-not-unresolved : r ≡ N.UnresolvedDependency → r ≡ y → false ≡ isSolvable y
-  solvable-not-unresolved e q = rw (← q, e)
-
-  pub solvable-not-excluded : (t : ℕ) → r ≡ N.Excluded t → r ≡ y → false ≡ isSolvable y
-  solvable-not-excluded t e q = rw (← q, e)
 
 pub want-yes : (want r m : Bool) → want ≡ true → r ≡ m → r ≡ not want || m
 want-yes want r m t e = rw t e

@@ -3,14 +3,12 @@ ghost use mathlib.Core.Path.{_≡_};
 ghost use mathlib.Core.Bool.{_||_, not};
 ghost use Prim.Native.Nat.{_<_, _≤_};
 ghost use lib.ListN.{length};
-ghost use Rattle.store.specs.Graph.{isSolvable};
-ghost use Rattle.store.specs.Table.{edgeIn, nodeIn};
+ghost use Rattle.store.specs.Table.{edgeIn};
 ghost use Rattle.links.specs.Walk.{outLeft};
 ghost use Rattle.plan.specs.Fields.{kidsFrom};
 ghost use Rattle.runs.specs.Cut.{endsRun, targetOf, targetsIn};
 ghost use Rattle.runs.specs.Kids.{markedIn, leadAt, mergedAt, found, groupShown, takes};
 ghost use Rattle.runs.specs.Along.{Way, Scanned, KidReady, KidStep, KidsReady, KidsDone};
-use store::ConflictNode;
 
 // What was found along a run's targets so far.
 pub struct Found {
@@ -47,18 +45,6 @@ fn either(a: bool, b: bool) -> bool
     ensures { λ r. ⌜ r ≡ a || b ⌝ }
 {
     if a { true } else { b }
-}
-
-fn solvable_node(g: &[u64; 1152], t: usize) -> bool
-    ensures { λ r. ⌜ r ≡ isSolvable (nodeIn (now (g .entry)) t) ⌝ }
-{
-    let x = store::node_at(g, t);
-    match x {
-        ConflictNode::Root => false,
-        ConflictNode::Solvable(_) => true,
-        ConflictNode::UnresolvedDependency => false,
-        ConflictNode::Excluded(_) => false,
-    }
 }
 
 // Edge i ends the run with key x: it requires something else. A conflict does not.
@@ -151,7 +137,7 @@ fn takes_kid(
 ) -> bool
     ensures { λ r. ⌜ r ≡ takes (now (g .entry)) (now (marks .entry)) (now (gr .entry)) want (kidsFrom (now (k .entry)) c end) t ⌝ }
 {
-    let a = solvable_node(g, t);
+    let a = store::solvable_at(g, t);
     if !a {
         return false;
     }

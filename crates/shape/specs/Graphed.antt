@@ -249,18 +249,18 @@ module _ (T : Tables) (valid : Valid T) where
   turn-sane i b d P e =
       split (coreAt T i)
       (λ t. split (isLearnt (clauseOf T i))
-      (λ u. let z : halt 7 (handing i (b .graph)) ≡ go d = rw (t, turnAt, u, coreTurn) at e in clash (cc))
+      (λ u. let z : halt 7 ≡ go d = rw (t, turnAt, u, coreTurn) at e in clash (cc))
       (λ u. step (expand T (clauseOf T i) (handed i b)) refl (rw (t, turnAt, u, coreTurn) at e)))
       (λ t. let z : go b ≡ go d = rw (t, turnAt) at e in let y : b ≡ d = cc in rw (← y) P)
     where
       step : (s : Step) → expand T (clauseOf T i) (handed i b) ≡ s → expanded (expand T (clauseOf T i) (handed i b)) ≡ go d → Sane T d
       step (on c) q z = let y : go c ≡ go d = rw (q, expanded) at z in let x : c ≡ d = cc in rw (← x) (expand-sane T valid i (handed i b) c (record { shaped = shaped-hand T (b .graph) i (P .shaped); lasts = P .lasts }) q)
-      step (stop g) q z = let y : halt 8 g ≡ go d = rw (q, expanded) at z in clash (cc)
+      step stop q z = let y : halt 8 ≡ go d = rw (q, expanded) at z in clash (cc)
 
   build-step : (n i : ℕ) (b d : Build) → ((c : Build) → Sane T c → buildFrom n T (suc i) c ≡ built d → Sane T d) → Sane T b → (t : Turned) → turnAt T i b ≡ t → buildFrom (suc n) T i b ≡ built d → Sane T d
   unfolding buildFrom
   build-step n i b d f P (go c) q e = f c (turn-sane i b c P q) (rw (q, buildFrom) at e)
-  build-step n i b d f P (halt k g) q e = let z : stopped k i g ≡ built d = rw (q, buildFrom) at e in clash (cc)
+  build-step n i b d f P (halt k) q e = let z : stopped k i ≡ built d = rw (q, buildFrom) at e in clash (cc)
 
   pub build-sane : (n i : ℕ) (b d : Build) → Sane T b → buildFrom n T i b ≡ built d → Sane T d
   unfolding buildFrom
@@ -285,4 +285,4 @@ module _ (T : Tables) (valid : Valid T) where
 
       by : (B : Built) → buildOf T ≡ B → Graphed T G × (unreached G ≡ none)
       by (built b) q = end b q (unreached (settle (b .graph))) refl
-      by (stopped k i g) q = let z : refused k i ≡ drawn G = rw (q, graphOf) at e in clash (cc)
+      by (stopped k i) q = let z : refused k i ≡ drawn G = rw (q, graphOf) at e in clash (cc)

@@ -50,7 +50,7 @@ GoodTriple T t = Good T (t .parent) (t .candidate) (W.Conflict (K.Constrains (t 
 link-step : (T : Tables) (l : Link) (ls : List Link) (g h : Graph) → ((k : Graph) → Shaped T k → linkAll ls k ≡ more h → Shaped T h) → Shaped T g → GoodLink T l → (a : Added) → addLink g (l .source) (l .target) (l .weight) ≡ a → linkAll (l ∷ ls) g ≡ more h → Shaped T h
 unfolding linkAll
 link-step T l ls g h f P O (added i k) q e = f k (shaped-link T g k (l .source) (l .target) (l .weight) i P O q) (rw (q, linkAll) at e)
-link-step T l ls g h f P O (full k) q e = let z : short k ≡ more h = rw (q, linkAll) at e in clash (cc)
+link-step T l ls g h f P O full q e = let z : short ≡ more h = rw (q, linkAll) at e in clash (cc)
 
 links-shaped : (T : Tables) (ls : List Link) (g h : Graph) → All (GoodLink T) ls → Shaped T g → linkAll ls g ≡ more h → Shaped T h
 unfolding linkAll
@@ -60,7 +60,7 @@ links-shaped T (l ∷ ls) g h O P e = link-step T l ls g h (λ k Q z. links-shap
 -- a build whose graph is shaped, and whose last solvables are known
 pub record Sane (T : Tables) (b : Build) : Type 0 where
   pub shaped : Shaped T (b .graph)
-  pub lasts : (n p : ℕ) → getD (b .last) n 0 ≡ suc p → p < length (T .solvables)
+  pub lasts : (n p : ℕ) → getD (b .last) n none ≡ some p → p < length (T .solvables)
 
 kept-sane : (T : Tables) (b d : Build) (ls : List Link) → All (GoodLink T) ls → Sane T b → kept b (linkAll ls (b .graph)) ≡ on d → Sane T d
 kept-sane T b d ls O P e = go (linkAll ls (b .graph)) refl
@@ -70,7 +70,7 @@ kept-sane T b d ls O P e = go (linkAll ls (b .graph)) refl
         let z : on (record { graph = h; last = b .last; made = b .made }) ≡ on d = rw (q, kept) at e in
         let y : record { graph = h; last = b .last; made = b .made } ≡ d = cc in
         rw (← y) (record { shaped = links-shaped T ls (b .graph) h O (P .shaped) q; lasts = P .lasts })
-    go (short h) q = let z : stop h ≡ on d = rw (q, kept) at e in clash (cc)
+    go short q = let z : stop ≡ on d = rw (q, kept) at e in clash (cc)
 
 once-sane : (T : Tables) (b d : Build) (t : Triple) → GoodTriple T t → Sane T b → once b t ≡ on d → Sane T d
 unfolding once
@@ -88,12 +88,12 @@ once-sane T b d t O P e =
           shaped = rw (← y) (shaped-link T (b .graph) k (t .parent) (t .candidate) (W.Conflict (K.Constrains (t .vset))) i (P .shaped) O q);
           lasts = rw (← u) (P .lasts);
         }
-    go h (full k) q = let z : noted b t (full k) ≡ on d = rw (h, once, q) at e in clash (cc)
+    go h full q = let z : noted b t full ≡ on d = rw (h, once, q) at e in clash (cc)
 
 once-step : (T : Tables) (t : Triple) (ts : List Triple) (b d : Build) → ((c : Build) → Sane T c → onceAll ts c ≡ on d → Sane T d) → GoodTriple T t → Sane T b → (s : Step) → once b t ≡ s → onceAll (t ∷ ts) b ≡ on d → Sane T d
 unfolding onceAll
 once-step T t ts b d f O P (on c) q e = f c (once-sane T b c t O P q) (rw (q, onceAll) at e)
-once-step T t ts b d f O P (stop g) q e = let z : stop g ≡ on d = rw (q, onceAll) at e in clash (cc)
+once-step T t ts b d f O P stop q e = let z : stop ≡ on d = rw (q, onceAll) at e in clash (cc)
 
 onces-sane : (T : Tables) (ts : List Triple) (b d : Build) → All (GoodTriple T) ts → Sane T b → onceAll ts b ≡ on d → Sane T d
 unfolding onceAll
@@ -323,38 +323,42 @@ module _ (T : Tables) (valid : Valid T) where
   unfolding pair
   pair-sane side a b v c d P e = pair-by side b v (partyOf T a) (party-end a) c d P e
 
-  previous-good : (l s : ℕ) → ((p : ℕ) → l ≡ suc p → p < length (T .solvables)) → s < length (T .solvables) → All (GoodLink T) (previousLinks l s)
-  previous-good zero s h k = tt
-  previous-good (suc p) s h k = (record { source-known = h p refl; target-known = k; source-end = refl; target-fits = refl }, tt)
+  previous-good : (l : Option ℕ) (s : ℕ) → ((p : ℕ) → l ≡ some p → p < length (T .solvables)) → s < length (T .solvables) → All (GoodLink T) (previousLinks l s)
+  previous-good none s h k = tt
+  previous-good (some p) s h k = (record { source-known = h p refl; target-known = k; source-end = refl; target-fits = refl }, tt)
 
-  forbid-graph : (g h : Graph) (l s : ℕ) → ((p : ℕ) → l ≡ suc p → p < length (T .solvables)) → s < length (T .solvables) → Shaped T g → forbidAll g l s ≡ more h → Shaped T h
+  forbid-graph : (g h : Graph) (l : Option ℕ) (s : ℕ) → ((p : ℕ) → l ≡ some p → p < length (T .solvables)) → s < length (T .solvables) → Shaped T g → forbidAll g l s ≡ more h → Shaped T h
   unfolding forbidAll
   forbid-graph g h l s f k P e = go (addNode g (N.Solvable s)) refl
     where
       go : (a : Added) → addNode g (N.Solvable s) ≡ a → Shaped T h
       go (added i j) q = links-shaped T (previousLinks l s) j h (previous-good l s f k) (shaped-node T g j (N.Solvable s) i P k q) (rw (q, forbidAll) at e)
-      go (full j) q = let z : short j ≡ more h = rw (q, forbidAll) at e in clash (cc)
+      go full q = let z : short ≡ more h = rw (q, forbidAll) at e in clash (cc)
 
-  lasts-more : (last : List ℕ) (n s : ℕ) → ((m p : ℕ) → getD last m 0 ≡ suc p → p < length (T .solvables)) → s < length (T .solvables) → (m p : ℕ) → getD (set last n (suc s)) m 0 ≡ suc p → p < length (T .solvables)
+  lasts-more : (last : List (Option ℕ)) (n s : ℕ) → ((m p : ℕ) → getD last m none ≡ some p → p < length (T .solvables))
+      → s < length (T .solvables) → (m p : ℕ) → getD (set last n (some s)) m none ≡ some p → p < length (T .solvables)
   lasts-more last n s f k m p e =
       split (eqb m n)
       (λ t. split (ltb n (length last))
-      (λ u. let z : getD (set last n (suc s)) n 0 ≡ suc s = getD-set-same last n (suc s) 0 (ltb-true n (length last) u) in
-      let y : getD (set last n (suc s)) m 0 ≡ suc s = ap (λ (i : ℕ). getD (set last n (suc s)) i 0) (eqb-true m n t) ∙ z in omega arith)
-      (λ u. f m p (sym (ap (λ (l : List ℕ). getD l m 0) (set-out last n (suc s) (ltb-false n (length last) u))) ∙ e)))
-      (λ t. f m p (sym (getD-set-other last n m (suc s) 0 (eqb-false m n t)) ∙ e))
+      (λ u. let z : getD (set last n (some s)) n none ≡ some s = getD-set-same last n (some s) none (ltb-true n (length last) u) in
+      let y : getD (set last n (some s)) m none ≡ some s = ap (λ (i : ℕ). getD (set last n (some s)) i none) (eqb-true m n t) ∙ z in
+      let x : some s ≡ some p = sym y ∙ e in
+      let w : s ≡ p = cc in
+      rw (← w) k)
+      (λ u. f m p (sym (ap (λ (l : List (Option ℕ)). getD l m none) (set-out last n (some s) (ltb-false n (length last) u))) ∙ e)))
+      (λ t. f m p (sym (getD-set-other last n m (some s) none (eqb-false m n t)) ∙ e))
 
   forbid-by : (ss ns : List ℕ) → All (λ s. s < length (T .solvables)) ss → (c d : Build) → Sane T c → forbidIn c ss ns ≡ on d → Sane T d
   forbid-by [] ns h c d P e = let z : c ≡ d = cc in rw (← z) P
   forbid-by (s ∷ ss) [] h c d P e = let z : c ≡ d = cc in rw (← z) P
-  forbid-by (s ∷ ss) (n ∷ ns) h c d P e = go (forbidAll (c .graph) (getD (c .last) n 0) s) refl
+  forbid-by (s ∷ ss) (n ∷ ns) h c d P e = go (forbidAll (c .graph) (getD (c .last) n none) s) refl
     where
-      go : (l : Linked) → forbidAll (c .graph) (getD (c .last) n 0) s ≡ l → Sane T d
+      go : (l : Linked) → forbidAll (c .graph) (getD (c .last) n none) s ≡ l → Sane T d
       go (more g) q =
-          let z : on (record { graph = g; last = set (c .last) n (suc s); made = c .made }) ≡ on d = rw (q, lastly) at e in
-          let y : record { graph = g; last = set (c .last) n (suc s); made = c .made } ≡ d = cc in
-          rw (← y) (record { shaped = forbid-graph (c .graph) g (getD (c .last) n 0) s (λ p i. P .lasts n p i) (h .0) (P .shaped) q; lasts = lasts-more (c .last) n s (P .lasts) (h .0) })
-      go (short g) q = let z : stop g ≡ on d = rw (q, lastly) at e in clash (cc)
+          let z : on (record { graph = g; last = set (c .last) n (some s); made = c .made }) ≡ on d = rw (q, lastly) at e in
+          let y : record { graph = g; last = set (c .last) n (some s); made = c .made } ≡ d = cc in
+          rw (← y) (record { shaped = forbid-graph (c .graph) g (getD (c .last) n none) s (λ p i. P .lasts n p i) (h .0) (P .shaped) q; lasts = lasts-more (c .last) n s (P .lasts) (h .0) })
+      go short q = let z : stop ≡ on d = rw (q, lastly) at e in clash (cc)
 
   forbid-sane : (x y : ℕ) (c d : Build) → Sane T c → forbid T x y c ≡ on d → Sane T d
   unfolding forbid
@@ -380,11 +384,9 @@ module _ (T : Tables) (valid : Valid T) where
   expand-sane i b d P e = expand-by i (clauseOf T i) refl b d P e
 
 pub start-sane : (T : Tables) → Sane T startBuild
-start-sane T = record { shaped = shaped-start T; lasts = λ n p e. absurd (never n p e) }
+start-sane T = record { shaped = shaped-start T; lasts = λ n p e. absurd (never 128 n p e) }
   where
-    never : (n p : ℕ) → getD (replicate 128 0) n 0 ≡ suc p → ⊥
-    never n p e =
-        split (ltb n 128)
-        (λ t. let z : _≡_ {A = ℕ} (getD (replicate 128 0) n 0) 0 = getD-replicate 128 n 0 0 (ltb-true n 128 t) in omega arith)
-        (λ t. let l : length (replicate {A = ℕ} 128 0) ≤ n = rw (length-replicate {A = ℕ} 128 0) (ltb-false n 128 t) in
-        let z : _≡_ {A = ℕ} (getD (replicate 128 0) n 0) 0 = List·getD-eq-default (replicate 128 0) 0 l in omega arith)
+    never : (k n p : ℕ) → getD (replicate {A = Option ℕ} k none) n none ≡ some p → ⊥
+    never zero n p e = clash (cc)
+    never (suc k) zero p e = clash (cc)
+    never (suc k) (suc n) p e = never k n p e

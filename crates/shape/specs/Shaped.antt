@@ -156,7 +156,7 @@ placed T g h x i S k e = go (place (sameNode x) (g .nodes) 0) refl
         let y : withNode g x ≡ h = cc in
         let u : length (g .nodes) ≡ i = cc in
         rw (← y, ← u) (new q t))
-        (λ t. let z : full g ≡ added i h = rw (q, addNode, t) at e in clash (cc))
+        (λ t. let z : full ≡ added i h = rw (q, addNode, t) at e in clash (cc))
 
 -- the edge at the end
 shaped-edge : (T : Tables) (g h : Graph) (e : Edge) (i : ℕ) → Shaped T g → Runs (g .nodes) e → addEdge g e ≡ added i h → Shaped T h
@@ -174,7 +174,7 @@ shaped-edge T g h e i S R q =
       edges-most = rw length-append (omega (arith, ltb-true (length (g .edges)) 1024 t));
       edges = all-append (Runs (g .nodes)) (g .edges) (e ∷ []) (S .edges) (R, tt);
     }))
-    (λ t. let z : full g ≡ added i h = rw t at q in clash (cc))
+    (λ t. let z : full ≡ added i h = rw t at q in clash (cc))
 
 -- a link with ends that are known and fit
 pub record Good (T : Tables) (x y : ConflictNode) (w : ConflictEdge) : Type 0 where
@@ -198,11 +198,11 @@ shaped-link T g h x y w i S O e = first (addNode g x) refl
     second j k p (added m l) q =
         let A : Placed T g k x j = placed T g k x j S (O .source-known) p in
         last j m k l A (placed T k l y m (A .shaped) (O .target-known) q) (rw (p, addLink, q) at e)
-    second j k p (full l) q = let z : full l ≡ added i h = rw (p, addLink, q) at e in clash (cc)
+    second j k p full q = let z : full ≡ added i h = rw (p, addLink, q) at e in clash (cc)
 
     first : (a : Added) → addNode g x ≡ a → Shaped T h
     first (added j k) p = second j k p (addNode k y) refl
-    first (full k) p = let z : full k ≡ added i h = rw (p, addLink) at e in clash (cc)
+    first full p = let z : full ≡ added i h = rw (p, addLink) at e in clash (cc)
 
 pub shaped-node : (T : Tables) (g h : Graph) (x : ConflictNode) (i : ℕ) → Shaped T g → Known T x → addNode g x ≡ added i h → Shaped T h
 shaped-node T g h x i S k e = placed T g h x i S k e .shaped

@@ -1,8 +1,12 @@
 // The log of a shift: for each record file that the arguments name, what the explanation with option 0 answers, in words, and its text.
+// Of a record that is refused it says which one it is.
 use calls::Answer;
+use reader::kind_of;
+use reader::text_of;
 use urzulempa::urzulempa_explain;
 ghost use mathlib.Core.Path.{_≡_};
 ghost use Prim.Native.Nat.{_≤_, min};
+ghost use Rattle.records.specs.Text.{allText};
 ghost use Rattle.shift_log.specs.Log.{Numbered, counted, unreadMore};
 
 // How many files were explained to the end, were refused, and could not be read.
@@ -20,14 +24,89 @@ fn say_number(n: u64) {
     io::print_decimal(1, n);
 }
 
+// A clause, by its kind.
+fn say_clause(kind: u8) {
+    match kind {
+        16 => say(b"InstallRoot"),
+        17 => say(b"Excluded"),
+        18 => say(b"Learnt"),
+        19 => say(b"Requires"),
+        20 => say(b"Lock"),
+        21 => say(b"ForbidMultipleInstances"),
+        22 => say(b"Constrains"),
+        23 => say(b"ConstrainsParent"),
+        24 => say(b"ConstrainsExcluded"),
+        25 => say(b"AnyOf"),
+        _ => {
+            say(b"kind ");
+            say_number(kind as u64);
+        }
+    }
+}
+
+// A kind of record.
+fn say_kind(kind: u8) {
+    match kind {
+        1 => say(b"name"),
+        2 => say(b"solvable"),
+        3 => say(b"version set"),
+        4 => say(b"requirement"),
+        5 => say(b"candidate"),
+        6 => say(b"reason"),
+        7 => say(b"variable"),
+        8 => say(b"assigned-by"),
+        _ => say_clause(kind),
+    }
+}
+
+// Each byte can be shown: "each from 32 to 126".
+fn printable(text: &[u8]) -> bool
+    ensures { λ r. ⌜ r ≡ allText (now (text .entry)) ⌝ }
+{
+    let mut k = 0;
+    while k < text.len() {
+        let b = text[k];
+        if b < 32 {
+            return false;
+        }
+        if 126 < b {
+            return false;
+        }
+        k += 1;
+    }
+    true
+}
+
+// A text in quotes, if there is one and it can be shown.
+fn say_quoted(text: &[u8]) {
+    if text.len() == 0 {
+        return;
+    }
+    if !printable(text) {
+        return;
+    }
+    say(b" \"");
+    say(text);
+    say(b"\"");
+}
+
+// Which record it is: its kind, and its text.
+fn say_which(file: &[u8], i: usize) {
+    say(b" (");
+    say_kind(kind_of(file, i));
+    say_quoted(text_of(file, i));
+    say(b")");
+}
+
 // What a refusal's place counts.
-fn say_place(number: u64, place: u64) {
+fn say_place(file: &[u8], number: u64, place: u64) {
     if number < 2 {
         return;
     }
     if number < 7 {
         say(b" at record ");
         say_number(place);
+        say_which(file, place as usize);
         return;
     }
     if number < 9 {
@@ -72,20 +151,20 @@ fn say_reason(number: u64) {
     }
 }
 
-fn say_refusal(number: u64, place: u64) {
+fn say_refusal(file: &[u8], number: u64, place: u64) {
     say(b"refused with ");
     say_number(number);
-    say_place(number, place);
+    say_place(file, number, place);
     say(b": ");
     say_reason(number);
 }
 
-fn say_result(a: Answer) {
+fn say_result(file: &[u8], a: Answer) {
     if a.number == 0 {
         say(b"done");
         return;
     }
-    say_refusal(a.number, a.place);
+    say_refusal(file, a.number, a.place);
 }
 
 fn say_counts(a: Answer) {
@@ -121,7 +200,7 @@ fn tell(file: &[u8]) -> u64
 {
     let mut room = [0u8; 65536];
     let a = urzulempa_explain(file, 0, &mut room);
-    say_result(a);
+    say_result(file, a);
     say_counts(a);
     say_text(&room, a.bytes);
     a.number

@@ -12,8 +12,6 @@ use lib.Dec.{eqb, ltb}
 use borrow.Author.Tests.{lt-ltb, le-ltb, eq-eqb, ne-eqb}
 use Rattle.basis.specs.Lists.{any, all, upto}
 use Rattle.basis.specs.Members.{In, split, either}
-use Rattle.store.specs.declared.ConflictNode.{ConflictNode}
-use Rattle.store.specs.declared.ConflictNode.the-variants as N
 use Rattle.store.specs.Graph.{isUnresolved}
 use Rattle.store.specs.Table.{nodeIn, edgeIn}
 use Rattle.labels.specs.Runs.{Run}
@@ -84,19 +82,6 @@ pub record RunWord (w first end q words : ℕ) : Type 0 where
   pub rest : w < 1099511627776
 
 -- ---- the only target is unresolved
-
-module _ (r y : ConflictNode) where
-  pub unresolved-not-root : r ≡ N.Root → r ≡ y → false ≡ isUnresolved y
-  unresolved-not-root e q = rw (← q, e)
-
-  pub unresolved-not-solvable : (t : ℕ) → r ≡ N.Solvable t → r ≡ y → false ≡ isUnresolved y
-  unresolved-not-solvable t e q = rw (← q, e)
-
-  pub unresolved-is : r ≡ N.UnresolvedDependency → r ≡ y → true ≡ isUnresolved y
-  unresolved-is e q = rw (← q, e)
-
-  pub unresolved-not-excluded : (t : ℕ) → r ≡ N.Excluded t → r ≡ y → false ≡ isUnresolved y
-  unresolved-not-excluded t e q = rw (← q, e)
 
 -- t is the first target
 unfoldable pub loneOf : List ℕ → Bool → ℕ → Bool

@@ -1,26 +1,12 @@
 // One run, with its kids, written below what stands in the tables.
 ghost use mathlib.Core.Path.{_≡_};
 ghost use Prim.Native.Nat.{_<_, _≤_, _-_};
-ghost use Rattle.store.specs.Graph.{isUnresolved};
-ghost use Rattle.store.specs.Table.{edgeIn, nodeIn};
+ghost use Rattle.store.specs.Table.{edgeIn};
 ghost use Rattle.links.specs.Walk.{outLeft};
 ghost use Rattle.runs.specs.Cut.{targetsIn, runOf};
 ghost use Rattle.runs.specs.Kids.{wordingBy};
 ghost use Rattle.runs.specs.Along.{KidsReady};
 ghost use Rattle.sorting.specs.Written.{RunWord, loneOf, WriteReady, KidsMaybe, RunPut};
-use store::ConflictNode;
-
-fn unresolved_node(g: &[u64; 1152], t: usize) -> bool
-    ensures { λ r. ⌜ r ≡ isUnresolved (nodeIn (now (g .entry)) t) ⌝ }
-{
-    let x = store::node_at(g, t);
-    match x {
-        ConflictNode::Root => false,
-        ConflictNode::Solvable(_) => false,
-        ConflictNode::UnresolvedDependency => true,
-        ConflictNode::Excluded(_) => false,
-    }
-}
 
 // The run that begins with edge i has no candidates: one edge, and it leads to unresolved.
 fn alone(g: &[u64; 1152], i: usize, many: bool) -> bool
@@ -30,7 +16,7 @@ fn alone(g: &[u64; 1152], i: usize, many: bool) -> bool
         return false;
     }
     let t = store::target_at(g, i);
-    unresolved_node(g, t)
+    store::unresolved_at(g, t)
 }
 
 fn wording(lone: bool, installable: bool) -> u64

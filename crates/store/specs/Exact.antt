@@ -15,7 +15,7 @@ use Rattle.store.specs.declared.Put.{Put}
 use Rattle.store.specs.declared.Put.the-variants.{At, Full}
 use Rattle.store.specs.Direct.{entryAt, withNodes}
 use Rattle.store.specs.Laws.Direct.{both-parts, entry-one}
-use Rattle.store.specs.Adding.{oneEdge}
+use Rattle.store.specs.Keeping.{oneEdge}
 use Rattle.store.specs.Fan.{linkedBy}
 use Rattle.store.specs.Graph.{Graph, nodeAt, firstAt}
 use Rattle.store.specs.Words.{wordOf, nodeOf, firstOf, edgeWord}

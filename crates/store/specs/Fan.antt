@@ -7,7 +7,7 @@ use Rattle.store.specs.declared.Size.{Size}
 use Rattle.store.specs.declared.Put.{Put}
 use Rattle.store.specs.declared.Put.the-variants.{At, Full}
 use Rattle.store.specs.Direct.{entryAt, withNodes}
-use Rattle.store.specs.Adding.{oneEdge}
+use Rattle.store.specs.Keeping.{oneEdge}
 
 -- the entry of solvable c in the direct table, 0 where it has none
 unfoldable pub knownAt : List ℕ → ℕ → ℕ

@@ -58,32 +58,30 @@ withEdge g e = record { nodes = g .nodes; edges = snoc (g .edges) e; firsts = g 
 
 -- ---- adding: 8 where "node 129 or edge 1,025 would be added"
 
--- how adding went: the number of the node, and the graph with it; or 8, "node 129 or edge 1,025 would be added", and the graph as
--- far as it came
+-- how adding went: the number of the node or edge, and the graph with it; or 8, "node 129 or edge 1,025 would be added"
 pub data Added : Type 0 where
   added : ℕ → Graph → Added
-  full : Graph → Added
+  full : Added
 
 -- conflict.rs, `add_node`: the node's number, a new one where it is not there yet
 unfoldable pub addNode : Graph → ConflictNode → Added
 addNode g x =
     elim (place (sameNode x) (g .nodes) 0) [
       | some i ↦ added i g
-      | none ↦ cond (ltb (length (g .nodes)) 128) (added (length (g .nodes)) (withNode g x)) (full g)
+      | none ↦ cond (ltb (length (g .nodes)) 128) (added (length (g .nodes)) (withNode g x)) full
     ]
 
 -- conflict.rs, `add_edge`; no room for "edge 1,025"
 unfoldable pub addEdge : Graph → Edge → Added
-addEdge g e =
-    cond (ltb (length (g .edges)) 1024) (added (length (g .edges)) (withEdge g e)) (full g)
+addEdge g e = cond (ltb (length (g .edges)) 1024) (added (length (g .edges)) (withEdge g e)) full
 
 -- both ends, the source first, then the edge, which keeps the clause at hand (conflict.rs, lines 206 and 220 to 226)
 unfoldable pub addLink : Graph → ConflictNode → ConflictNode → ConflictEdge → Added
 unfolding addNode addEdge
 addLink g x y w =
     elim (addNode g x) [
-      | full h ↦ full h
-      | added i h ↦ elim (addNode h y) [ full k ↦ full k | added j k ↦ addEdge k (record { source = i; target = j; weight = w; clause = k .hand }) ]
+      | full ↦ full
+      | added i h ↦ elim (addNode h y) [ full ↦ full | added j k ↦ addEdge k (record { source = i; target = j; weight = w; clause = k .hand }) ]
     ]
 
 -- ---- "If unresolved has no incoming edge it is removed, and the last node takes number 1."
@@ -158,10 +156,10 @@ abbrev pub isConflict : ConflictEdge → Bool
 isConflict (W.Requires q) = false
 isConflict (W.Conflict c) = true
 
--- "(requirement, or none for a conflict; other end)": 0 for none, else 1 + the requirement's number (conflict.rs: `try_requires`)
-abbrev pub tryRequires : ConflictEdge → ℕ
-tryRequires (W.Requires q) = suc q
-tryRequires (W.Conflict c) = 0
+-- conflict.rs, `try_requires`
+abbrev pub tryRequires : ConflictEdge → Option ℕ
+tryRequires (W.Requires q) = some q
+tryRequires (W.Conflict c) = none
 
 -- conflict.rs, `ConflictCause::Excluded`
 abbrev pub isExcluded : ConflictEdge → Bool

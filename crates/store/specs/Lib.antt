@@ -1,10 +1,14 @@
 pub mod Graph
+pub mod Working
 pub mod Numbers
 pub mod Words
 pub mod Direct
 pub mod Laws
 pub mod Table
+pub mod Finding
+pub mod Keeping
 pub mod Adding
+pub mod Starting
 pub mod Settling
 pub mod Fan
 pub mod Exact

@@ -1,14 +1,16 @@
 -- What the table of words holds: edges from place 0 on, nodes from place 1024 on, above the edges the direct table of `Direct`. These two
 -- files say where they stand.
 use mathlib.Core.Path.{_≡_, refl, sym, ap, _∙_}
+use mathlib.Core.Logic.{inl, inr}
 use mathlib.Core.Bool.{true, false}
 use mathlib.Core.List.{List, [], _∷_, map}
 use Prim.Native.Nat.{ℕ, zero, suc, _+_, _*_, _/_, _%_, _<_, _≤_}
 use native.Mathlib.Omega.{arith}
 use lib.ListN.{length, getD, take, drop, length-map, length-drop, List·getD-map}
-use lib.Dec.{ltb}
+use lib.Dec.{ltb, eqb}
 use borrow.Author.Tests.{lt-ltb, le-ltb}
 use Rattle.basis.specs.Guard.{guard}
+use Rattle.basis.specs.Members.{In}
 use lib.Seq.{getD-take, getD-drop, length-take-le}
 use Rattle.store.specs.declared.ConflictNode.{ConflictNode}
 use Rattle.store.specs.declared.ConflictNode.the-variants as N
@@ -19,8 +21,11 @@ use Rattle.store.specs.declared.Size.{Size}
 use Rattle.store.specs.declared.Put.{Put}
 use Rattle.store.specs.declared.Put.the-variants.{At, Full}
 use Rattle.store.specs.Direct.{Direct}
-use Rattle.store.specs.Graph.{Graph, handing, Added, added, full, nodeAt, firstAt, tryRequires, isConflict, isExcluded}
-use Rattle.store.specs.Words.{wordOf, nodeOf, firstOf, edgeWord, edgeOf, weightOf, byKind, requires-is, requires-none, conflict-is, conflict-not, excluded-is, excluded-not}
+use Rattle.store.specs.Graph.{Graph, handing, nodeAt, firstAt, isSolvable, isUnresolved, isConflict, isExcluded}
+use Rattle.store.specs.Working.{AddedSoFar, addedTo, fullAt}
+use Rattle.store.specs.Words.{wordOf, nodeOf, firstOf, edgeWord, edgeOf, weightOf, byKind, requirementCode}
+use Rattle.store.specs.Words.{solvable-kind, unresolved-kind, requires-is, requires-none}
+use Rattle.store.specs.Words.{conflict-is, conflict-not, excluded-is, excluded-not}
 use Rattle.store.specs.Numbers.{nodeNumber}
 
 -- the words of the first k nodes
@@ -88,9 +93,9 @@ taken-graph g s i = refl
 
 -- ---- how adding went, as the definitions say it
 
-abbrev pub addedIn : List ℕ → Put → Added
-addedIn g (At i s) = added i (graphIn g s)
-addedIn g (Full s) = full (graphIn g s)
+abbrev pub addedIn : List ℕ → Put → AddedSoFar
+addedIn g (At i s) = addedTo i (graphIn g s)
+addedIn g (Full s) = fullAt (graphIn g s)
 
 abbrev pub sizeOf : Put → Size
 sizeOf (At i s) = s
@@ -147,6 +152,21 @@ module _ (g : List ℕ) (s : Size) (S : Stored g s) where
   unfolding edgeIn
   target-below e h = S .target e h
 
+-- the ends of a stored edge are bytes
+module _ (g : List ℕ) (s : Size) (e : Edge) where
+  unpacked : (l : List ℕ) → In e (map edgeOf l) → (e .source < 256) × (e .target < 256)
+  unpacked [] i = absurd i
+  unpacked (w ∷ l) (inl q) = rw q ((let z : w % 256 < 256 = omega arith in z), (let z : w / 256 % 256 < 256 = omega arith in z))
+  unpacked (w ∷ l) (inr i) = unpacked l i
+
+  pub source-byte : In e (graphIn g s .edges) → e .source < 256
+  unfolding graphIn
+  source-byte i = unpacked (take (s .edges) g) i .0
+
+  pub target-byte : In e (graphIn g s .edges) → e .target < 256
+  unfolding graphIn
+  target-byte i = unpacked (take (s .edges) g) i .1
+
 number-by : (k n : ℕ) → n < 65536 → nodeNumber (byKind k n) < 65536
 number-by zero n h = omega arith
 number-by (suc zero) n h = h
@@ -175,11 +195,11 @@ module _ (g : List ℕ) (e w : ℕ) (q : w ≡ getD g e 0) where
   unfolding edgeIn
   target-read = rw q
 
-  pub requires-read : w / 65536 % 256 ≡ 0 → w / 16777216 % 65536 + 1 ≡ tryRequires (edgeIn g e .weight)
+  pub requires-read : w / 65536 % 256 ≡ 0 → w / 16777216 % 65536 + 1 ≡ requirementCode (edgeIn g e .weight)
   unfolding edgeIn
   requires-read h = rw (← q) (requires-is (w / 65536 % 256) (w / 16777216 % 65536) h)
 
-  pub requires-none-read : (w / 65536 % 256 ≡ 0 → ⊥) → 0 ≡ tryRequires (edgeIn g e .weight)
+  pub requires-none-read : (w / 65536 % 256 ≡ 0 → ⊥) → 0 ≡ requirementCode (edgeIn g e .weight)
   unfolding edgeIn
   requires-none-read h = rw (← q) (requires-none (w / 65536 % 256) (w / 16777216 % 65536) h)
 
@@ -207,6 +227,20 @@ pub node-none : (g : List ℕ) (n : ℕ) → 128 ≤ n → N.Root ≡ nodeIn g n
 unfolding nodeIn guard
 node-none g n h = rw (le-ltb n 128 h, guard)
 
+pub solvable-read : (g : List ℕ) (n w : ℕ) → w ≡ getD g (1024 + n) 0 → n < 128 → eqb (w % 4) 1 ≡ isSolvable (nodeIn g n)
+unfolding nodeIn guard
+solvable-read g n w q h = rw (lt-ltb n 128 h, guard, ← q) (solvable-kind (w % 4) (w / 4 % 65536))
+
+pub solvable-none : (g : List ℕ) (n : ℕ) → 128 ≤ n → false ≡ isSolvable (nodeIn g n)
+solvable-none g n h = ap isSolvable (node-none g n h)
+
+pub unresolved-read : (g : List ℕ) (n w : ℕ) → w ≡ getD g (1024 + n) 0 → n < 128 → eqb (w % 4) 2 ≡ isUnresolved (nodeIn g n)
+unfolding nodeIn guard
+unresolved-read g n w q h = rw (lt-ltb n 128 h, guard, ← q) (unresolved-kind (w % 4) (w / 4 % 65536))
+
+pub unresolved-none : (g : List ℕ) (n : ℕ) → 128 ≤ n → false ≡ isUnresolved (nodeIn g n)
+unresolved-none g n h = ap isUnresolved (node-none g n h)
+
 pub first-read : (g : List ℕ) (n w : ℕ) → w ≡ getD g (1024 + n) 0 → n < 128 → w / 262144 % 65536 ≡ firstIn g n
 unfolding firstIn guard
 first-read g n w q h = rw (lt-ltb n 128 h, guard, q)
@@ -216,3 +250,5 @@ unfolding firstIn guard
 first-none g n h = rw (le-ltb n 128 h, guard)
 
 pub ruleset reads = (first-read, first-none, edge-read, source-read, target-read, requires-read, requires-none-read, conflict-not-read, conflict-read, excluded-read, excluded-not-read, node-read, node-none)
+
+pub ruleset kind-reads = (solvable-read, solvable-none, unresolved-read, unresolved-none)

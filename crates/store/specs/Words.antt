@@ -1,6 +1,7 @@
 -- A node and an edge as one word each, by `/` and `%`, and the round trip: what was packed is what comes out again.
 use mathlib.Core.Path.{_≡_, refl, sym, ap, _∙_}
 use mathlib.Core.Bool.{true, false, false≢true}
+use mathlib.Core.Option.{Option, none, some}
 use Prim.Native.Nat.{ℕ, zero, suc, _+_, _*_, _/_, _%_, _<_, _≤_}
 use native.Mathlib.Omega.{arith}
 use lib.Dec.{eqb}
@@ -13,7 +14,7 @@ use Rattle.store.specs.declared.ConflictCause.the-variants as C
 use Rattle.store.specs.declared.ConflictEdge.{ConflictEdge}
 use Rattle.store.specs.declared.ConflictEdge.the-variants as W
 use Rattle.store.specs.declared.Edge.{Edge}
-use Rattle.store.specs.Graph.{sameNode, isConflict, tryRequires, isExcluded}
+use Rattle.store.specs.Graph.{sameNode, isSolvable, isUnresolved, isConflict, tryRequires, isExcluded}
 use Rattle.store.specs.Numbers.{nodeNumber}
 
 -- ---- nodes: kind + 4 number + 262144 clause, kinds in the order of `ConflictNode`
@@ -221,12 +222,35 @@ edge-back e v q hs ht hn hc =
       weight-back,
     ))
 
+-- ---- what is read off a node's kind without building it
+
+pub solvable-kind : (k n : ℕ) → eqb k 1 ≡ isSolvable (byKind k n)
+solvable-kind zero n = refl
+solvable-kind (suc zero) n = refl
+solvable-kind (suc (suc zero)) n = refl
+solvable-kind (suc (suc (suc k))) n = ne-eqb (suc (suc (suc k))) 1 (λ e. omega arith)
+
+pub unresolved-kind : (k n : ℕ) → eqb k 2 ≡ isUnresolved (byKind k n)
+unresolved-kind zero n = refl
+unresolved-kind (suc zero) n = refl
+unresolved-kind (suc (suc zero)) n = refl
+unresolved-kind (suc (suc (suc k))) n = ne-eqb (suc (suc (suc k))) 2 (λ e. omega arith)
+
 -- ---- what is read off a weight without building it
 
-pub requires-is : (t n : ℕ) → t ≡ 0 → n + 1 ≡ tryRequires (weightOf t n)
+-- an option as one number: 0 for none, else one more than what it holds
+abbrev pub optionCode : Option ℕ → ℕ
+optionCode none = 0
+optionCode (some q) = suc q
+
+-- what `tryRequires` gives, as one number
+abbrev pub requirementCode : ConflictEdge → ℕ
+requirementCode w = optionCode (tryRequires w)
+
+pub requires-is : (t n : ℕ) → t ≡ 0 → n + 1 ≡ requirementCode (weightOf t n)
 requires-is t n e = rw e (omega arith)
 
-pub requires-none : (t n : ℕ) → (t ≡ 0 → ⊥) → 0 ≡ tryRequires (weightOf t n)
+pub requires-none : (t n : ℕ) → (t ≡ 0 → ⊥) → 0 ≡ requirementCode (weightOf t n)
 requires-none zero n d = absurd (d refl)
 requires-none (suc zero) n d = refl
 requires-none (suc (suc zero)) n d = refl

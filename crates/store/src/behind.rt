@@ -2,7 +2,7 @@
 // but `Stored` is known of the table.
 ghost use mathlib.Core.Path.{_≡_};
 ghost use Prim.Native.Nat.{_<_, _≤_};
-ghost use Rattle.store.specs.Adding.{findOf};
+ghost use Rattle.store.specs.Finding.{findOf};
 ghost use Rattle.store.specs.Graph.{withNode, withEdge};
 ghost use Rattle.store.specs.Numbers.{numberOf};
 ghost use Rattle.store.specs.Table.{graphIn, Stored};

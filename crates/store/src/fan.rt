@@ -4,7 +4,7 @@ ghost use mathlib.Core.Path.{_≡_};
 ghost use Prim.Native.Nat.{_<_, _≤_};
 ghost use Rattle.store.specs.Adding.{addTarget};
 ghost use Rattle.store.specs.Fan.{knownAt, edgeBy, linkedBy};
-ghost use Rattle.store.specs.Graph.{addEdge};
+ghost use Rattle.store.specs.Working.{addEdgeIn};
 ghost use Rattle.store.specs.Table.{graphIn, Growing, addedIn, sizeOf};
 use crate::ConflictEdge;
 use crate::ConflictNode;
@@ -32,7 +32,7 @@ fn known(g: &[u64; 1152], c: u16) -> u64
 fn put_edge(g: &mut [u64; 1152], s: Size, e: Edge) -> bool
     requires { ⌜ Growing (now g) s ⌝ }
     requires { ⌜ (e .source < 128) × (e .target < s .nodes) ⌝ }
-    ensures { λ r. ⌜ addedIn (now (g .exit)) (edgeBy s r) ≡ addEdge (graphIn (now (g .entry)) s) e ⌝ }
+    ensures { λ r. ⌜ addedIn (now (g .exit)) (edgeBy s r) ≡ addEdgeIn (graphIn (now (g .entry)) s) e ⌝ }
     ensures { λ r. ⌜ Growing (now (g .exit)) (sizeOf (edgeBy s r)) ⌝ }
 {
     let m = s.edges;

@@ -6,11 +6,14 @@ pub mod fan;
 ghost use mathlib.Core.Path.{_≡_};
 ghost use Prim.Native.Nat.{_+_, _*_, _-_, _<_, _≤_, _/_, _%_};
 ghost use lib.ListN.{length, replicate};
-ghost use Rattle.store.specs.Graph.{startGraph, addNode, addEdge, addLink, renumber, settle, tryRequires, isConflict, isExcluded};
-ghost use Rattle.store.specs.Words.{weightOf, byKind, EdgeWord, CauseWord, WeightWord, NodeWord};
+ghost use Rattle.store.specs.Graph.{startGraph, renumber, settle, isConflict, isExcluded};
+ghost use Rattle.store.specs.Graph.{isSolvable, isUnresolved};
+ghost use Rattle.store.specs.Working.{addNodeIn, addEdgeIn, addLinkIn};
+ghost use Rattle.store.specs.Words.{weightOf, byKind, requirementCode, EdgeWord, CauseWord, WeightWord, NodeWord};
 ghost use Rattle.basis.specs.Below.{allBelow};
 ghost use Rattle.store.specs.Settling.{spares, renumberWord, renumberTo, removed};
-ghost use Rattle.store.specs.Adding.{findOf, addTarget};
+ghost use Rattle.store.specs.Finding.{findOf};
+ghost use Rattle.store.specs.Adding.{addTarget};
 ghost use Rattle.store.specs.Direct.{entryAt, entered, more, putAt};
 ghost use Rattle.store.specs.Table.{graphIn, edgeIn, nodeIn, firstIn, Stored, Growing, addedIn, sizeOf, placeOf};
 
@@ -126,9 +129,9 @@ pub fn target_at(g: &[u64; 1152], e: usize) -> usize
     (basis::get64(g, e) / 256 % 256) as usize
 }
 
-// One more than the requirement's number, or 0 for a conflict (conflict.rs: `try_requires`).
+// One more than the requirement's number, or 0 for a conflict: conflict.rs's `try_requires` as one number.
 pub fn requires_at(g: &[u64; 1152], e: usize) -> u64
-    ensures { λ r. ⌜ (r ≡ tryRequires (edgeIn (now (g .entry)) e .weight)) × (r ≤ 65536) ⌝ }
+    ensures { λ r. ⌜ (r ≡ requirementCode (edgeIn (now (g .entry)) e .weight)) × (r ≤ 65536) ⌝ }
 {
     let w = basis::get64(g, e);
     let t = w / 65536 % 256;
@@ -183,6 +186,28 @@ pub fn node_at(g: &[u64; 1152], n: usize) -> ConflictNode
         return node_of(w % 4, (w / 4 % 65536) as u16);
     }
     ConflictNode::Root
+}
+
+// Node n is a solvable.
+pub fn solvable_at(g: &[u64; 1152], n: usize) -> bool
+    ensures { λ r. ⌜ r ≡ isSolvable (nodeIn (now (g .entry)) n) ⌝ }
+{
+    if n < 128 {
+        let w = basis::get64(g, 1024 + n);
+        return w % 4 == 1;
+    }
+    false
+}
+
+// Node n is unresolved.
+pub fn unresolved_at(g: &[u64; 1152], n: usize) -> bool
+    ensures { λ r. ⌜ r ≡ isUnresolved (nodeIn (now (g .entry)) n) ⌝ }
+{
+    if n < 128 {
+        let w = basis::get64(g, 1024 + n);
+        return w % 4 == 2;
+    }
+    false
 }
 
 // The clause that first added node n; 65,535 for the root, for unresolved, and where the table has no place n.
@@ -274,7 +299,7 @@ fn enter(g: &mut [u64; 1152], w: u64, n: u64)
 // The node's number, a new one where it is not there yet; 128 where there is no room.
 fn put_node(g: &mut [u64; 1152], s: Size, x: ConflictNode) -> usize
     requires { ⌜ Growing (now g) s ⌝ }
-    ensures { λ r. ⌜ addedIn (now (g .exit)) (putAt s r) ≡ addNode (graphIn (now (g .entry)) s) x ⌝ }
+    ensures { λ r. ⌜ addedIn (now (g .exit)) (putAt s r) ≡ addNodeIn (graphIn (now (g .entry)) s) x ⌝ }
     ensures { λ r. ⌜ Growing (now (g .exit)) (sizeOf (putAt s r)) × (placeOf (putAt s r) < sizeOf (putAt s r) .nodes) ⌝ }
 {
     let w = node_word(x);
@@ -303,7 +328,7 @@ fn more(k: usize, i: usize) -> usize
 // The node's number, a new one where it is not there yet (conflict.rs: `add_node`).
 pub fn add_node(g: &mut [u64; 1152], s: Size, x: ConflictNode) -> Put
     requires { ⌜ Growing (now g) s ⌝ }
-    ensures { λ r. ⌜ addedIn (now (g .exit)) r ≡ addNode (graphIn (now (g .entry)) s) x ⌝ }
+    ensures { λ r. ⌜ addedIn (now (g .exit)) r ≡ addNodeIn (graphIn (now (g .entry)) s) x ⌝ }
     ensures { λ r. ⌜ Growing (now (g .exit)) (sizeOf r) × (placeOf r < sizeOf r .nodes) ⌝ }
 {
     let i = put_node(g, s, x);
@@ -324,7 +349,7 @@ pub fn add_node(g: &mut [u64; 1152], s: Size, x: ConflictNode) -> Put
 fn add_edge(g: &mut [u64; 1152], s: Size, e: Edge) -> Put
     requires { ⌜ Growing (now g) s ⌝ }
     requires { ⌜ (e .source < 128) × (e .target < s .nodes) ⌝ }
-    ensures { λ r. ⌜ addedIn (now (g .exit)) r ≡ addEdge (graphIn (now (g .entry)) s) e ⌝ }
+    ensures { λ r. ⌜ addedIn (now (g .exit)) r ≡ addEdgeIn (graphIn (now (g .entry)) s) e ⌝ }
     ensures { λ r. ⌜ Growing (now (g .exit)) (sizeOf r) ⌝ }
 {
     let m = s.edges;
@@ -381,7 +406,7 @@ fn link_to(g: &mut [u64; 1152], s: Size, source: u8, y: ConflictNode, w: Conflic
 // Both ends, the source first, then the edge.
 pub fn link(g: &mut [u64; 1152], s: Size, x: ConflictNode, y: ConflictNode, w: ConflictEdge) -> Put
     requires { ⌜ Growing (now g) s ⌝ }
-    ensures { λ r. ⌜ addedIn (now (g .exit)) r ≡ addLink (graphIn (now (g .entry)) s) x y w ⌝ }
+    ensures { λ r. ⌜ addedIn (now (g .exit)) r ≡ addLinkIn (graphIn (now (g .entry)) s) x y w ⌝ }
     ensures { λ r. ⌜ Growing (now (g .exit)) (sizeOf r) ⌝ }
 {
     let i = put_node(g, s, x);

@@ -11,8 +11,7 @@ use lib.Seq.{getD-set-same, getD-set-other, drop-drop, drop-append-seam}
 use lib.Dec.{eqb, ltb}
 use borrow.Author.Tests.{eqb-true, eqb-false, ltb-true, ltb-false, lt-ltb, le-ltb, eq-eqb, ne-eqb}
 use Rattle.basis.specs.Members.{split}
-use Rattle.texts.specs.Indent.{atTop}
-use Rattle.texts.specs.Marks.{digit, bit, marksAt, marksOf, pushed, lastSet, upper, keptOf, marked, putAt, lastAt, backTo, digit-same, digit-low}
+use Rattle.texts.specs.Marks.{digit, bit, marksAt, marksOf, pushed, lastSet, upper, keptOf, marked, putAt, lastAt, levelCount, levelWords, digit-same, digit-low}
 use Rattle.texts.specs.declared.Indenter.{Indenter}
 
 -- ---- words
@@ -62,13 +61,6 @@ pub marks-count : (x : Indenter) → length (marksOf x) ≡ x .count
 unfolding marksOf
 marks-count x = marks-length (x .levels) (x .count)
 
-pub new-none : (ws : List ℕ) (t : Bool) → marksOf (record { levels = ws; count = 0; top = t }) ≡ []
-unfolding marksOf marksAt
-new-none ws t = refl
-
-pub at-top : (x : Indenter) → eqb (x .count) 1 ≡ atTop (marksOf x)
-at-top x = rw marks-count
-
 pub push-full : (x : Indenter) (m : Bool) → 4160 ≤ x .count → marksOf x ≡ pushed m (marksOf x)
 unfolding pushed
 push-full x m h = rw (marks-count, le-ltb (x .count) 4160 h)
@@ -100,11 +92,11 @@ pub last-some : (x : Indenter) (w : ℕ) → w ≡ marked (getD (x .levels) ((x 
 unfolding marksOf
 last-some x w e l z h = last-at (x .levels) (x .count) w e l z h
 
-pub back-whole : (x : Indenter) (l : ℕ) → x .count ≤ l → marksOf x ≡ upper l (marksOf x)
+back-whole : (x : Indenter) (l : ℕ) → x .count ≤ l → marksOf x ≡ upper l (marksOf x)
 unfolding upper
 back-whole x l h = let z : length (marksOf x) - l ≡ 0 = omega (arith, marks-count x) in rw z
 
-pub back-cut : (x : Indenter) (l : ℕ) → l < x .count → marksOf (record { levels = x .levels; count = l; top = x .top }) ≡ upper l (marksOf x)
+back-cut : (x : Indenter) (l : ℕ) → l < x .count → marksOf (record { levels = x .levels; count = l; top = x .top }) ≡ upper l (marksOf x)
 unfolding marksOf upper
 back-cut x l h =
     let e : x .count - (x .count - l) ≡ l = omega arith in
@@ -124,20 +116,20 @@ kept-marks x l =
     (λ q. let h : l < x .count = ltb-true l (x .count) q in rw (← kept-yes (x .count) l h) (back-cut x l h))
     (λ q. let h : x .count ≤ l = ltb-false l (x .count) q in rw (← kept-no (x .count) l h) (back-whole x l h))
 
-pub at-full : (x : Indenter) (l n : ℕ) (m : Bool) → n ≡ keptOf (x .count) l → n ≤ x .count → 4160 ≤ n → x .count ≤ 4160
+at-full : (x : Indenter) (l n : ℕ) (m : Bool) → n ≡ keptOf (x .count) l → n ≤ x .count → 4160 ≤ n → x .count ≤ 4160
     → marksOf x ≡ pushed m (upper l (marksOf x))
 at-full x l n m e k g h =
     let q : keptOf (x .count) l ≡ x .count = omega arith in
     let r : marksOf x ≡ upper l (marksOf x) = rw q at (kept-marks x l) in
     rw (← r) (push-full x m (omega arith))
 
-pub at-more : (x : Indenter) (l n w : ℕ) (m : Bool) → w ≡ marked (getD (x .levels) (n / 64) 0) (n % 64) m → n ≡ keptOf (x .count) l
+at-more : (x : Indenter) (l n w : ℕ) (m : Bool) → w ≡ marked (getD (x .levels) (n / 64) 0) (n % 64) m → n ≡ keptOf (x .count) l
     → length (x .levels) ≡ 65 → n < 4160
     → marksOf (record { levels = set (x .levels) (n / 64) w; count = n + 1; top = x .top }) ≡ pushed m (upper l (marksOf x))
 at-more x l n w m e q s h =
     rw (← kept-marks x l, ← q) (push-more (record { levels = x .levels; count = n; top = x .top }) w m e s h)
 
-pub ruleset levels = (new-none, at-top, push-full, push-more, last-none, last-some, back-whole, back-cut)
+pub ruleset levels = (push-full, push-more, last-none, last-some)
 
 -- the same, of the indenter itself
 pub put-full : (x : Indenter) (n : ℕ) (m : Bool) → 4160 ≤ n → x ≡ putAt x n m
@@ -149,13 +141,6 @@ pub put-more : (x : Indenter) (n w : ℕ) (m : Bool) → w ≡ marked (getD (x .
 unfolding putAt
 put-more x n w m e h = rw (lt-ltb n 4160 h, e)
 
-pub put-full-kept : (x : Indenter) (l n : ℕ) (m : Bool) → 4160 ≤ n → n ≡ keptOf (x .count) l → x ≡ putAt x (keptOf (x .count) l) m
-put-full-kept x l n m h e = rw (← e) (put-full x n m h)
-
-pub put-more-kept : (x : Indenter) (l n w : ℕ) (m : Bool) → w ≡ marked (getD (x .levels) (n / 64) 0) (n % 64) m → n ≡ keptOf (x .count) l → n < 4160
-    → _≡_ {A = Indenter} (record { levels = set (x .levels) (n / 64) w; count = n + 1; top = x .top }) (putAt x (keptOf (x .count) l) m)
-put-more-kept x l n w m e q h = rw (← q) (put-more x n w m e h)
-
 pub last-same : (x : Indenter) → x .count ≡ 0 → x ≡ lastAt x
 unfolding lastAt
 last-same x e = rw (eq-eqb (x .count) 0 e)
@@ -165,15 +150,7 @@ pub last-more : (x : Indenter) (w : ℕ) → w ≡ marked (getD (x .levels) ((x 
 unfolding lastAt
 last-more x w e h = rw (ne-eqb (x .count) 0 h, e)
 
-pub back-same : (x : Indenter) (l : ℕ) → x .count ≤ l → x ≡ backTo x l
-unfolding backTo
-back-same x l h = rw (← kept-no (x .count) l h)
-
-pub back-less : (x : Indenter) (l : ℕ) → l < x .count → _≡_ {A = Indenter} (record { levels = x .levels; count = l; top = x .top }) (backTo x l)
-unfolding backTo
-back-less x l h = rw (← kept-yes (x .count) l h)
-
-pub ruleset selves = (put-full, put-more, last-same, last-more, back-same, back-less)
+pub ruleset selves = (put-full, put-more, last-same, last-more)
 
 -- ---- for a loop that keeps one indenter
 
@@ -202,22 +179,33 @@ upper-upper k l ms h g =
     let z : length ms - l + (length (drop (length ms - l) ms) - k) ≡ length ms - k = omega (arith, length-drop (length ms - l) ms) in
     drop-drop (length (drop (length ms - l) ms) - k) (length ms - l) ms ∙ ap (λ (n : ℕ). drop n ms) z
 
--- after `at_level`: r holds the mark above x's l upper levels, and those are still what they were
-pub at-level-marks : (x r : Indenter) (l : ℕ) (m : Bool) → marksOf r ≡ pushed m (upper l (marksOf x)) → l ≤ x .count → l < 4160
-    → marksOf r ≡ m ∷ upper l (marksOf x)
-at-level-marks x r l m e h g =
-    let n : length (upper l (marksOf x)) ≡ l = upper-length l (marksOf x) (omega (arith, marks-count x)) in
-    e ∙ pushed-below m (upper l (marksOf x)) (omega arith)
+-- ---- ways out of `put_level`
 
-pub at-level-count : (x r : Indenter) (l : ℕ) (m : Bool) → marksOf r ≡ pushed m (upper l (marksOf x)) → l ≤ x .count → l < 4160 → r .count ≡ l + 1
-at-level-count x r l m e h g =
-    let n : length (upper l (marksOf x)) ≡ l = upper-length l (marksOf x) (omega (arith, marks-count x)) in
-    let k : length (marksOf r) ≡ suc (length (upper l (marksOf x))) = ap length (at-level-marks x r l m e h g) in
-    omega (arith, marks-count r)
+abbrev lentAt : List ℕ → ℕ → Indenter
+lentAt ws c = record { levels = ws; count = c; top = true }
 
-pub at-level-keeps : (x r : Indenter) (k l : ℕ) (m : Bool) → marksOf r ≡ pushed m (upper l (marksOf x)) → k ≤ l → l ≤ x .count → l < 4160
-    → upper k (marksOf r) ≡ upper k (marksOf x)
-at-level-keeps x r k l m e j h g =
-    let c : length (marksOf x) ≡ x .count = marks-count x in
-    let n : length (upper l (marksOf x)) ≡ l = upper-length l (marksOf x) (omega arith) in
-    ap (upper k) (at-level-marks x r l m e h g) ∙ upper-under k m (upper l (marksOf x)) (omega arith) ∙ upper-upper k l (marksOf x) j (omega arith)
+module _ (ws : List ℕ) (c l n : ℕ) (m : Bool) (e : n ≡ keptOf c l) where
+  pub level-full : 4160 ≤ n → n ≤ c → c ≤ 4160 → marksAt ws c ≡ pushed m (upper l (marksAt ws c))
+  unfolding marksOf
+  level-full g k h = at-full (lentAt ws c) l n m e k g h
+
+  pub count-full : 4160 ≤ n → c ≡ levelCount c l
+  unfolding levelCount
+  count-full g = rw (← e, le-ltb n 4160 g)
+
+  pub words-full : 4160 ≤ n → ws ≡ levelWords ws c l m
+  unfolding levelWords
+  words-full g = rw (← e, le-ltb n 4160 g)
+
+  pub count-more : n < 4160 → n + 1 ≡ levelCount c l
+  unfolding levelCount
+  count-more g = rw (← e, lt-ltb n 4160 g)
+
+  module _ (w : ℕ) (q : w ≡ marked (getD ws (n / 64) 0) (n % 64) m) (g : n < 4160) where
+    pub level-more : length ws ≡ 65 → marksAt (set ws (n / 64) w) (n + 1) ≡ pushed m (upper l (marksAt ws c))
+    unfolding marksOf
+    level-more s = at-more (lentAt ws c) l n w m q e s g
+
+    pub words-more : set ws (n / 64) w ≡ levelWords ws c l m
+    unfolding levelWords
+    words-more = rw (← e, lt-ltb n 4160 g, q)

@@ -5,5 +5,6 @@ pub mod Levels
 pub mod Pieces
 pub mod Shown
 pub mod Small
+pub mod Fours
 pub mod Length
 pub mod Laws

@@ -73,9 +73,16 @@ lastAt x =
       top = x .top;
     })
 
-unfoldable pub backTo : Indenter → ℕ → Indenter
+-- ---- lent marks: back to l of the c levels, and one more
+
+unfoldable pub levelCount : ℕ → ℕ → ℕ
 unfolding keptOf
-backTo x l = record { levels = x .levels; count = keptOf (x .count) l; top = x .top }
+levelCount c l = cond (ltb (keptOf c l) most) (keptOf c l + 1) c
+
+unfoldable pub levelWords : List ℕ → ℕ → ℕ → Bool → List ℕ
+unfolding keptOf marked
+levelWords ws c l m =
+    cond (ltb (keptOf c l) most) (set ws (keptOf c l / 64) (marked (getD ws (keptOf c l / 64) 0) (keptOf c l % 64) m)) ws
 
 -- ---- one word
 

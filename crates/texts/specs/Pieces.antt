@@ -1,5 +1,5 @@
--- The levels above a line's own, two a step, in stores of ten bytes of which six to ten count. What a store leaves
--- beyond them is written over by the next, and at the end by the seven bytes of the deepest level.
+-- The levels above a line's own, two to a store of ten bytes of which six to ten count. What a store leaves beyond them is
+-- written over by the next, and at the end by the seven bytes of the deepest level.
 use mathlib.Core.Path.{_≡_, refl, sym, ap, _∙_}
 use mathlib.Core.Bool.{Bool, true, false, cond}
 use mathlib.Core.List.{List, [], _∷_, _++_, append-assoc, append-nil}
@@ -62,38 +62,49 @@ put-back d e t n h f =
     let x : drop (length d - n) (drop n d) ≡ [] = rw (← z) (drop-length (drop n d)) in
     rw (f, x, append-nil)
 
-pub near-more : {t u bs o d e : List ℕ} {n m : ℕ} → Near t o d n → Laid u bs (take (length d - n) (drop n d)) e m
+-- what is laid is near
+pub laid-near : {u bs o d : List ℕ} {r : ℕ} → Laid u bs o d r → Near u o d r
+laid-near {u} {bs} {o} {d} {r} v =
+    let ru : r ≡ length u = v .count in
+    let s : length u ≤ length bs = v .short in
+    let k : length bs ≤ length u + 7 = v .slack in
+    let f : length bs ≤ length o = v .fits in
+    let j : length u + 7 ≡ length bs + (length u + 7 - length bs) = omega arith in
+    let size : length (bs ++ drop (length bs) o) ≡ length o = rw (length-append, length-drop) (omega arith) in
+    record {
+      count = ru;
+      front = rw (v .leaves, ru) (take-append-le (length u) bs (drop (length bs) o) s ∙ v .front);
+      rest = rw (v .leaves, ru, j) (drop-append-add bs (drop (length bs) o) (length u + 7 - length bs)
+          ∙ drop-drop (length u + 7 - length bs) (length bs) o);
+      same = rw (v .leaves) size;
+      within = rw (v .leaves, size) (omega arith);
+    }
+
+pub near-more : {t u o d e : List ℕ} {n m : ℕ} → Near t o d n → Near u (take (length d - n) (drop n d)) e m
     → Near (t ++ u) o (putMid n (length d - n) d e) (n + m)
-near-more {t} {u} {bs} {o} {d} {e} {n} {m} w v =
+near-more {t} {u} {o} {d} {e} {n} {m} w v =
     let x = drop n d in
     let lx : length x ≡ length d - n = length-drop n d in
     let l : take (length d - n) x ≡ x = lent d n (w .within) in
-    let fx : length bs ≤ length x = rw (← l) (v .fits) in
-    let g : putMid n (length d - n) d e ≡ t ++ (bs ++ drop (length bs) x) = rw (put-back d e t n (w .within) (w .front), v .leaves, l) in
+    let g : putMid n (length d - n) d e ≡ t ++ e = put-back d e t n (w .within) (w .front) in
     let nt : n ≡ length t = w .count in
-    let mu : m ≡ length u = v .count in
-    let s : length u ≤ length bs = v .short in
-    let k : length bs ≤ length u + 7 = v .slack in
     let wi : n ≤ length d = w .within in
-    let j : length u + 7 ≡ length bs + (length u + 7 - length bs) = omega arith in
-    let size : length (t ++ (bs ++ drop (length bs) x)) ≡ length d = rw (length-append, length-append, length-drop, lx, ← nt) (omega arith) in
-    let tail : drop (length u + 7) (bs ++ drop (length bs) x) ≡ drop (n + (length u + 7)) d =
-    rw (j, drop-append-add, drop-drop (length u + 7 - length bs) (length bs) x, ← j, drop-drop) in
-    let a7 : n + (length u + 7) ≡ n + 7 + length u = omega arith in
-    let old : drop (n + (length u + 7)) d ≡ drop (n + (length u + 7)) o =
-    rw (a7) (sym (drop-drop (length u) (n + 7) d) ∙ ap (λ (y : List ℕ). drop (length u) y) (w .rest) ∙ drop-drop (length u) (n + 7) o) in
-    let b7 : n + length u + 7 ≡ length t + (length u + 7) = omega arith in
-    let c7 : n + length u + 7 ≡ n + (length u + 7) = omega arith in
+    let le : length e ≡ length x = rw l at (v .same) in
+    let size : length (t ++ e) ≡ length d = rw (length-append, le, lx, ← nt) (omega arith) in
+    let vr : drop (m + 7) e ≡ drop (m + 7) x = rw l at (v .rest) in
+    let old : drop (m + 7) x ≡ drop (n + (m + 7)) o =
+    drop-drop (m + 7) n d ∙ (let z : n + (m + 7) ≡ n + 7 + m = omega arith in
+    rw z (sym (drop-drop m (n + 7) d) ∙ ap (λ (y : List ℕ). drop m y) (w .rest) ∙ drop-drop m (n + 7) o)) in
+    let b7 : n + m + 7 ≡ length t + (m + 7) = omega arith in
+    let c7 : n + m + 7 ≡ n + (m + 7) = omega arith in
     record {
-      count = rw (nt, mu, length-append);
+      count = rw (nt, v .count, length-append);
       front =
-          rw (g, mu)
-          (ap (λ (y : ℕ). take (y + length u) (t ++ (bs ++ drop (length bs) x))) nt
-          ∙ take-append-add t (bs ++ drop (length bs) x) (length u)
-          ∙ ap (λ (y : List ℕ). t ++ y) (take-append-le (length u) bs (drop (length bs) x) s ∙ v .front));
-      rest = rw (g, mu) (ap (λ (y : ℕ). drop y (t ++ (bs ++ drop (length bs) x))) b7 ∙ drop-append-add t (bs ++ drop (length bs) x) (length u + 7) ∙ tail ∙ old ∙ ap (λ (y : ℕ). drop y o) (sym c7));
+          rw g
+          (ap (λ (y : ℕ). take (y + m) (t ++ e)) nt ∙ take-append-add t e m ∙ ap (λ (y : List ℕ). t ++ y) (v .front));
+      rest = rw g (ap (λ (y : ℕ). drop y (t ++ e)) b7 ∙ drop-append-add t e (m + 7) ∙ vr ∙ old ∙ ap (λ (y : ℕ). drop y o) (sym c7));
       same = rw (g, size) (w .same);
-      within = rw (g, size) (omega arith);
+      within = rw (g, size) (let y = v .within in omega arith);
     }
 
 pub near-last : {t u o d e : List ℕ} {n m : ℕ} → Near t o d n → Wrote u (take (length d - n) (drop n d)) e m → 7 ≤ length u

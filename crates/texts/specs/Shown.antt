@@ -12,7 +12,7 @@ use Rattle.texts.specs.Indent.{older, deepest, unlessTop, above, indent}
 use Rattle.texts.specs.Marks.{bit, marksAt}
 use Rattle.texts.specs.Wrote.{Wrote}
 use Rattle.texts.specs.Laws.Wrote.{wrote-none}
-use Rattle.texts.specs.Pieces.{bytesOf, pairWord, pairBytes, Laid, Near, near-more, near-last}
+use Rattle.texts.specs.Pieces.{Near, near-more, near-last}
 
 -- the first level shown: the top one only with the option
 unfoldable pub firstOf : Bool → ℕ
@@ -44,12 +44,18 @@ next top ws i h =
     ∙ ap (λ (l : List ℕ). above top (marksAt ws i) l) (append-nil (older (bit ws i)))
     ∙ above-behind top (marksAt ws i) (older (bit ws i))
 
-next-two : (top : Bool) (ws : List ℕ) (i : ℕ) → firstOf top ≤ i
-    → aboveText top ws (i + 2) ≡ aboveText top ws i ++ (older (bit ws i) ++ older (bit ws (i + 1)))
-next-two top ws i h =
-    let z : i + 2 ≡ suc (suc i) = omega arith in
-    rw (z, add-one, next top ws (suc i) (omega arith), next top ws i h)
-    (append-assoc (aboveText top ws i) (older (bit ws i)) (older (bit ws (suc i))))
+-- the text of the k levels from level i on
+unfoldable pub levelsFrom : List ℕ → ℕ → ℕ → List ℕ
+levelsFrom ws i zero = []
+levelsFrom ws i (suc k) = older (bit ws i) ++ levelsFrom ws (i + 1) k
+
+next-all : (top : Bool) (ws : List ℕ) (i k : ℕ) → firstOf top ≤ i → aboveText top ws (i + k) ≡ aboveText top ws i ++ levelsFrom ws i k
+unfolding levelsFrom
+next-all top ws i zero h = let z : i + 0 ≡ i = omega arith in rw z (sym (append-nil (aboveText top ws i)))
+next-all top ws i (suc k) h =
+    let z : i + suc k ≡ i + 1 + k = omega arith in
+    rw z (next-all top ws (i + 1) k (omega arith) ∙ rw (add-one, next top ws i h) (append-assoc (aboveText top ws i)
+    (older (bit ws i)) (levelsFrom ws (suc i) k)))
 
 own : (top : Bool) (ws : List ℕ) (n : ℕ) → firstOf top ≤ n
     → indent top (marksAt ws (suc n)) ≡ aboveText top ws n ++ deepest (bit ws n)
@@ -72,32 +78,29 @@ unfolding older
 older-least true = omega arith
 older-least false = omega arith
 
-longer : (top : Bool) (ws : List ℕ) (i : ℕ) → firstOf top ≤ i → length (aboveText top ws i) + 3 ≤ length (aboveText top ws (suc i))
-longer top ws i h = rw (next top ws i h, length-append) (omega (arith, older-least (bit ws i)))
+levels-more : (ws : List ℕ) (i j k : ℕ) → j ≤ k → length (levelsFrom ws i j) ≤ length (levelsFrom ws i k)
+unfolding levelsFrom
+levels-more ws i zero k h = omega arith
+levels-more ws i (suc j) zero h = absurd (not-suc-le-zero h)
+levels-more ws i (suc j) (suc k) h = let l = levels-more ws (i + 1) j k (omega arith) in rw (length-append, length-append) (omega arith)
 
-longest : (top : Bool) (ws : List ℕ) (i k : ℕ) → firstOf top ≤ i → length (aboveText top ws i) + 3 * k ≤ length (aboveText top ws (i + k))
-longest top ws i zero h = let z : i + 0 ≡ i = omega arith in rw z (omega arith)
-longest top ws i (suc k) h =
-    let z : i + suc k ≡ suc (i + k) = omega arith in
-    rw z (omega (arith, longest top ws i k h, longer top ws (i + k) (omega arith)))
+pub levels-least : (ws : List ℕ) (i k : ℕ) → 3 * k ≤ length (levelsFrom ws i k)
+unfolding levelsFrom
+levels-least ws i zero = omega arith
+levels-least ws i (suc k) = let l = levels-least ws (i + 1) k in let o = older-least (bit ws i) in rw length-append (omega arith)
 
--- with k levels to come there is room for them
-room-for : (top : Bool) (ws o d : List ℕ) (i n k at : ℕ) → Near (aboveText top ws i) o d at → firstOf top ≤ i → i + k ≤ n
-    → length (aboveText top ws n) + 7 ≤ length o → 3 * k + 7 ≤ length (take (length d - at) (drop at d))
-room-for top ws o d i n k at w h l r =
+-- with s of the n - i levels to come there is room for them
+pub room-for : (top : Bool) (ws o d : List ℕ) (i n s j at : ℕ) → Near (aboveText top ws i) o d at → s ≡ j → s ≤ n - i
+    → firstOf top ≤ i → i < n
+    → length (aboveText top ws n) + 7 ≤ length o → length (levelsFrom ws i j) + 7 ≤ length (take (length d - at) (drop at d))
+room-for top ws o d i n s j at w e g h l r =
     let z : i + (n - i) ≡ n = omega arith in
-    let y : length (aboveText top ws i) + 3 * (n - i) ≤ length (aboveText top ws n) = rw z at (longest top ws i (n - i) h) in
+    let y : length (aboveText top ws n) ≡ length (aboveText top ws i) + length (levelsFrom ws i (n - i)) =
+    ap length (rw z at (next-all top ws i (n - i) h)) ∙ length-append (aboveText top ws i) (levelsFrom ws i (n - i)) in
+    let m = levels-more ws i j (n - i) (omega arith) in
     let c : at ≡ length (aboveText top ws i) = w .count in
-    let s : length d ≡ length o = w .same in
+    let q : length d ≡ length o = w .same in
     rw (length-take, length-drop) (omega arith)
-
-pub room-two : (top : Bool) (ws o d : List ℕ) (i n at : ℕ) → Near (aboveText top ws i) o d at → firstOf top ≤ i → i + 1 < n
-    → length (aboveText top ws n) + 7 ≤ length o → 10 ≤ length (take (length d - at) (drop at d))
-room-two top ws o d i n at w h l r = omega (arith, room-for top ws o d i n 2 at w h (omega arith) r)
-
-pub room-one : (top : Bool) (ws o d : List ℕ) (i n at : ℕ) → Near (aboveText top ws i) o d at → firstOf top ≤ i → i < n
-    → length (aboveText top ws n) + 7 ≤ length o → 10 ≤ length (take (length d - at) (drop at d))
-room-one top ws o d i n at w h l r = omega (arith, room-for top ws o d i n 1 at w h (omega arith) r)
 
 -- ---- ways through the loop
 
@@ -106,22 +109,13 @@ unfolding aboveText above marksAt firstOf
 above-start true ws o i e = rw e (record { count = refl; front = refl; rest = refl; same = refl; within = omega arith })
 above-start false ws o i e = rw e (record { count = refl; front = refl; rest = refl; same = refl; within = omega arith })
 
-pub above-two : (top : Bool) (ws : List ℕ) (i : ℕ) {bs o d e : List ℕ} {n m : ℕ} → Near (aboveText top ws i) o d n
-    → Laid (older (bit ws i) ++ older (bit ws (i + 1))) bs (take (length d - n) (drop n d)) e m → firstOf top ≤ i
-    → Near (aboveText top ws (i + 2)) o (putMid n (length d - n) d e) (n + m)
-above-two top ws i w v h = rw (next-two top ws i h) (near-more w v)
-
-pub above-one : (top : Bool) (ws : List ℕ) (i k : ℕ) {bs o d e : List ℕ} {n m : ℕ} → Near (aboveText top ws i) o d n
-    → Laid (older (bit ws i)) bs (take (length d - n) (drop n d)) e m → firstOf top ≤ i → i < k → k ≤ i + 1
-    → Near (aboveText top ws k) o (putMid n (length d - n) d e) (n + m)
-above-one top ws i k w v h l g =
-    let z : k ≡ suc i = omega arith in
-    rw (z, next top ws i h) (near-more w v)
+pub above-more : (top : Bool) (ws : List ℕ) (i s j : ℕ) {o d e : List ℕ} {n m : ℕ} → Near (aboveText top ws i) o d n
+    → Near (levelsFrom ws i j) (take (length d - n) (drop n d)) e m → s ≡ j → firstOf top ≤ i
+    → Near (aboveText top ws (i + s)) o (putMid n (length d - n) d e) (n + m)
+above-more top ws i s j w v e h = rw (e, next-all top ws i j h) (near-more w v)
 
 pub above-end : (top : Bool) (ws : List ℕ) (i k : ℕ) {o d : List ℕ} {n : ℕ} → Near (aboveText top ws i) o d n → i ≤ k → k ≤ i → Near (aboveText top ws k) o d n
 above-end top ws i k w h l = let z : k ≡ i = omega arith in rw z w
-
-pub ruleset aboves = (above-start, above-two, above-one, above-end)
 
 -- ---- ways through `put_indent`; f is what `first` gave
 

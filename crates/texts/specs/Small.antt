@@ -59,7 +59,7 @@ deepest-is true c e w = rw e at w
 deepest-is false c e w = rw e at w
 
 -- the ten bytes of two levels
-pair-is : (a b : Bool) → bytesOf 8 (pairWord a b) ++ (32 ∷ 32 ∷ []) ≡ pairBytes a b
+pub pair-is : (a b : Bool) → bytesOf 8 (pairWord a b) ++ (32 ∷ 32 ∷ []) ≡ pairBytes a b
 unfolding bytesOf pairWord pairBytes older
 pair-is true true = refl
 pair-is true false = refl
@@ -70,14 +70,15 @@ pub pair-wrote : (a b : Bool) (w : ℕ) {o d : List ℕ} {r : ℕ} → w ≡ pai
     → Wrote (pairBytes a b) o d r
 pair-wrote a b w e v = rw (← pair-is a b, ← e) v
 
-front-two : (a b : Bool) → take (length (older a ++ older b)) (pairBytes a b) ≡ older a ++ older b
+pub front-two : (a b : Bool) → take (length (older a ++ older b)) (pairBytes a b) ≡ older a ++ older b
 unfolding pairBytes older
 front-two true true = refl
 front-two true false = refl
 front-two false true = refl
 front-two false false = refl
 
-size-two : (a b : Bool) → (length (older a ++ older b) ≤ length (pairBytes a b)) × (length (pairBytes a b) ≤ length (older a ++ older b) + 7)
+pub size-two : (a b : Bool)
+    → (length (older a ++ older b) ≤ length (pairBytes a b)) × (length (pairBytes a b) ≤ length (older a ++ older b) + 7)
 unfolding pairBytes older
 size-two true true = (omega arith, omega arith)
 size-two true false = (omega arith, omega arith)

@@ -5,18 +5,16 @@ pub mod pieces;
 pub mod wordings;
 pub mod writers;
 
-use marks::kept;
 use marks::marked_word;
 use pieces::length_of;
 use pieces::put_indent;
 ghost use mathlib.Core.Path.{_≡_};
-ghost use mathlib.Core.Bool.{true, false};
-ghost use mathlib.Core.List.{List, [], _∷_};
-ghost use Prim.Native.Nat.{_+_, _-_, _*_, _<_, _≤_};
-ghost use lib.ListN.{length, replicate};
+ghost use mathlib.Core.Bool.{false};
+ghost use Prim.Native.Nat.{_≤_};
+ghost use lib.ListN.{length};
 ghost use Rattle.texts.specs.Wrote.{Wrote};
-ghost use Rattle.texts.specs.Indent.{indent, atTop};
-ghost use Rattle.texts.specs.Marks.{marksOf, pushed, lastSet, upper, keptOf, putAt, lastAt, backTo};
+ghost use Rattle.texts.specs.Indent.{indent};
+ghost use Rattle.texts.specs.Marks.{marksOf, pushed, lastSet, putAt, lastAt};
 
 // The levels above a line, as `Indenter` of conflict.rs: a bit a level, set for `ChildOrder::Last`; `top` is its
 // `top_level_indent`. Pushing hands back a new one, and the old stays usable.
@@ -27,24 +25,6 @@ pub struct Indenter {
 }
 
 impl Indenter {
-    pub fn new(top: bool) -> Self
-        ensures { λ r. ⌜ (marksOf r ≡ []) × (r .count ≡ 0) × (r .top ≡ top) ⌝ }
-        ensures { λ r. ⌜ r .levels ≡ replicate 65 0 ⌝ }
-    {
-        let levels = [0u64; 65];
-        Indenter {
-            levels,
-            count: 0,
-            top,
-        }
-    }
-
-    pub fn is_at_top_level(self) -> bool
-        ensures { λ r. ⌜ r ≡ atTop (marksOf self) ⌝ }
-    {
-        self.count == 1
-    }
-
     pub fn push_level(self) -> Indenter
         requires { ⌜ self .count ≤ 4160 ⌝ }
         ensures { λ r. ⌜ (marksOf r ≡ pushed false (marksOf self)) × (r .top ≡ self .top) × (r .count ≤ 4160) ⌝ }
@@ -85,41 +65,6 @@ impl Indenter {
         let mut next = self;
         next.levels[k] = marked_word(self.levels[k], i % 64, true);
         next
-    }
-
-    // Back to the `level` upper levels.
-    pub fn back(self, level: usize) -> Indenter
-        requires { ⌜ self .count ≤ 4160 ⌝ }
-        ensures { λ r. ⌜ (marksOf r ≡ upper level (marksOf self)) × (r .top ≡ self .top) × (r .count ≤ 4160) ⌝ }
-        ensures { λ r. ⌜ r ≡ backTo self level ⌝ }
-    {
-        if self.count <= level {
-            return self;
-        }
-        let mut next = self;
-        next.count = level;
-        next
-    }
-
-    // Back to the `level` upper levels, and one more pushed: the entry of a level's next sibling.
-    pub fn at_level(self, level: usize, last: bool) -> Indenter
-        requires { ⌜ self .count ≤ 4160 ⌝ }
-        ensures { λ r. ⌜ (marksOf r ≡ pushed last (upper level (marksOf self))) × (r .top ≡ self .top) × (r .count ≤ 4160) ⌝ }
-        ensures { λ r. ⌜ r ≡ putAt self (keptOf (self .count) level) last ⌝ }
-    {
-        let n = kept(self.count, level);
-        if 4160 <= n {
-            return self;
-        }
-        let k = n / 64;
-        let mut levels = self.levels;
-        levels[k] = marked_word(levels[k], n % 64, last);
-        let top = self.top;
-        Indenter {
-            levels,
-            count: n + 1,
-            top,
-        }
     }
 
     // How many bytes `get_indent` writes.

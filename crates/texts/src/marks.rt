@@ -2,7 +2,8 @@
 ghost use mathlib.Core.Path.{_≡_};
 ghost use Prim.Native.Nat.{_%_, _^_, _<_, _≤_};
 ghost use lib.Count.{ones};
-ghost use Rattle.texts.specs.Marks.{bit, marked, marksAt, keptOf};
+ghost use lib.ListN.{length};
+ghost use Rattle.texts.specs.Marks.{bit, marked, marksAt, pushed, upper, keptOf, levelCount, levelWords};
 ghost use Rattle.texts.specs.Length.{lastCount};
 
 // The mark of level i.
@@ -60,4 +61,20 @@ pub fn kept(count: usize, level: usize) -> usize
     ensures { λ r. ⌜ (r ≡ keptOf count level) × (r ≤ count) ⌝ }
 {
     if level < count { level } else { count }
+}
+
+// Back to the `level` upper levels of lent marks, and one more pushed: the entry of a level's next sibling. The answer is how many are held
+// then; with 4,160 held, none is pushed. It is for a loop that would copy the indenter at every line.
+pub fn put_level(levels: &mut [u64; 65], count: usize, level: usize, last: bool) -> usize
+    requires { ⌜ (count ≤ 4160) × (length (now levels) ≡ 65) ⌝ }
+    ensures { λ r. ⌜ (r ≡ levelCount count level) × (now (levels .exit) ≡ levelWords (now (levels .entry)) count level last) ⌝ }
+    ensures { λ r. ⌜ (marksAt (now (levels .exit)) r ≡ pushed last (upper level (marksAt (now (levels .entry)) count))) × (r ≤ 4160) × (length (now (levels .exit)) ≡ 65) ⌝ }
+{
+    let n = kept(count, level);
+    if 4160 <= n {
+        return count;
+    }
+    let k = n / 64;
+    levels[k] = marked_word(levels[k], n % 64, last);
+    n + 1
 }

@@ -40,13 +40,8 @@ fn gone(g: &[u64; 1152], s: Size) -> usize
     requires { ⌜ Stored (now g) s ⌝ }
     ensures { λ r. ⌜ (r ≡ goneCount (graphIn (now (g .entry)) s)) × (r ≤ 1) ⌝ }
 {
-    let x = store::node_at(g, 1);
-    match x {
-        ConflictNode::Root => 1,
-        ConflictNode::Solvable(_) => 1,
-        ConflictNode::UnresolvedDependency => 0,
-        ConflictNode::Excluded(_) => 1,
-    }
+    let u = store::unresolved_at(g, 1);
+    if u { 0 } else { 1 }
 }
 
 // How many nodes there are, of n, with the one whose place is b.

@@ -14,6 +14,7 @@ use Rattle.store.specs.declared.Edge.{Edge}
 use Rattle.store.specs.Graph.{Graph, handing, renumberEdge, lastOf, front, settle, unreached}
 use Rattle.expansion.specs.Expand.{Build, startBuild}
 use Rattle.graph.specs.Graphs.{Turned, go, halt, turnAt, Built, built, stopped, buildFrom, buildOf, Outcome, drawn, refused, finished, graphOf}
+use Rattle.graph.specs.Working.{turnAtIn, goes-in}
 use Rattle.clauses.specs.Noted.{Noted, turnedGraph}
 use Rattle.clauses.specs.Cored.{Cored}
 use Rattle.clauses.specs.Laws.Noted.{turn-noted}
@@ -58,19 +59,19 @@ module _ (T : Tables) where
             (all-append Shows (g .firsts) cs (C .firsts) (all-map (λ c. c ≡ i) Shows cs (λ c q. or-true (eqb c 65535) (coreAt T c) (ap (coreAt T) q ∙ t)) (N .firsts-noted)));
       }
 
-  turn-cored : (i : ℕ) (b : Build) → Cored T (b .graph) → Cored T (turnedGraph (turnAt T i b))
-  unfolding turnAt
+  turn-cored : (i : ℕ) (b : Build) → Cored T (b .graph) → Cored T (turnedGraph (turnAtIn T i b))
+  unfolding turnAtIn
   turn-cored i b C =
       split (coreAt T i)
-      (λ t. cored-more (b .graph) (turnedGraph (turnAt T i b)) i t (turn-noted T i b t) C)
-      (λ t. rw (t, turnAt) C)
+      (λ t. cored-more (b .graph) (turnedGraph (turnAtIn T i b)) i t (turn-noted T i b t) C)
+      (λ t. rw (t, turnAtIn) C)
 
   -- ---- all clauses
 
   build-step : (n i : ℕ) (b d : Build) → ((c : Build) → Cored T (c .graph) → buildFrom n T (suc i) c ≡ built d → Cored T (d .graph)) → Cored T (b .graph) → (t : Turned) → turnAt T i b ≡ t → buildFrom (suc n) T i b ≡ built d → Cored T (d .graph)
   unfolding buildFrom
-  build-step n i b d f C (go c) q e = f c (rw q at (turn-cored i b C)) (rw (q, buildFrom) at e)
-  build-step n i b d f C (halt k g) q e = let z : stopped k i g ≡ built d = rw (q, buildFrom) at e in clash (cc)
+  build-step n i b d f C (go c) q e = f c (rw (goes-in T i b c q) at (turn-cored i b C)) (rw (q, buildFrom) at e)
+  build-step n i b d f C (halt k) q e = let z : stopped k i ≡ built d = rw (q, buildFrom) at e in clash (cc)
 
   build-cored : (n i : ℕ) (b d : Build) → Cored T (b .graph) → buildFrom n T i b ≡ built d → Cored T (d .graph)
   unfolding buildFrom
@@ -116,4 +117,4 @@ module _ (T : Tables) where
 
       by : (B : Built) → buildOf T ≡ B → Cored T G
       by (built b) q = end b q (unreached (settle (b .graph))) refl
-      by (stopped k i g) q = let z : refused k i ≡ drawn G = rw (q, graphOf) at e in clash (cc)
+      by (stopped k i) q = let z : refused k i ≡ drawn G = rw (q, graphOf) at e in clash (cc)

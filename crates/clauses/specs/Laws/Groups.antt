@@ -2,19 +2,26 @@
 use mathlib.Core.Path.{_≡_, refl, ap, _∙_, fun-ext}
 use mathlib.Core.Bool.{Bool, _&&_}
 use mathlib.Core.List.{List, map}
+use mathlib.Core.Option.{Option}
 use Prim.Native.Nat.{ℕ}
 use lib.ListN.{length}
 use lib.Dec.{eqb}
 use Rattle.basis.specs.Lists.{filter, upto}
 use Rattle.store.specs.declared.Edge.{Edge}
-use Rattle.store.specs.Graph.{Graph, out, into}
-use Rattle.groups.specs.Groups.{outKey, inKey, outKeys, inKeys, mergesBy, matesBy, titleOf, leadBy, mergedBy, mates, leadOf, merged, groups}
+use Rattle.store.specs.Graph.{Graph, out, into, tryRequires}
+use Rattle.groups.specs.Groups.{outKeys, inKeys, mergesBy, matesBy, titleOf, leadBy, mergedBy, mates, leadOf, merged, groups}
 use Rattle.clauses.specs.Other.{other}
 use Rattle.clauses.specs.Laws.Edges.{mapped, out-same, into-same}
 
 module _ (f : Edge → ℕ) (fs : List ℕ) (h : ℕ) (G : Graph) where
   abbrev H : Graph
   H = other f fs h G
+
+  abbrev outKey : Edge → Option ℕ × ℕ
+  outKey e = (tryRequires (e .weight), e .target)
+
+  abbrev inKey : Edge → Option ℕ × ℕ
+  inKey e = (tryRequires (e .weight), e .source)
 
   out-keys : (n : ℕ) → outKeys H n ≡ outKeys G n
   unfolding outKeys

@@ -51,11 +51,11 @@ bad-some file k i e = subst ReadSome e (file-some file)
 
 abbrev TurnHigh : Turned → Type 0
 TurnHigh (go b) = Unit {0}
-TurnHigh (halt k g) = 7 ≤ k
+TurnHigh (halt k) = 7 ≤ k
 
 abbrev BuiltHigh : Built → Type 0
 BuiltHigh (built b) = Unit {0}
-BuiltHigh (stopped k i g) = 7 ≤ k
+BuiltHigh (stopped k i) = 7 ≤ k
 
 abbrev OutcomeHigh : Outcome → Type 0
 OutcomeHigh (drawn G) = Unit {0}
@@ -63,11 +63,11 @@ OutcomeHigh (refused k i) = 7 ≤ k
 
 step-high : (s : Step) → TurnHigh (expanded s)
 step-high (on b) = tt
-step-high (stop g) = omega arith
+step-high stop = omega arith
 
-learnt-by : (l : Bool) (g : Graph) (s : Step) → TurnHigh (elim l [ true ↦ halt 7 g | false ↦ expanded s ])
-learnt-by true g s = omega arith
-learnt-by false g s = step-high s
+learnt-by : (l : Bool) (s : Step) → TurnHigh (elim l [ true ↦ halt 7 | false ↦ expanded s ])
+learnt-by true s = omega arith
+learnt-by false s = step-high s
 
 turn-by : (c : Bool) (t : Turned) (b : Build) → TurnHigh t → TurnHigh (elim c [ false ↦ go b | true ↦ t ])
 turn-by true t b l = l
@@ -77,12 +77,12 @@ turn-high : (T : Tables) (i : ℕ) (b : Build) → TurnHigh (turnAt T i b)
 unfolding turnAt
 turn-high T i b =
     let c : Build = handed i b in
-    turn-by (coreAt T i) (coreTurn T (clauseOf T i) c) b (learnt-by (isLearnt (clauseOf T i)) (c .graph) (expand T (clauseOf T i) c))
+    turn-by (coreAt T i) (coreTurn T (clauseOf T i) c) b (learnt-by (isLearnt (clauseOf T i)) (expand T (clauseOf T i) c))
 
 build-by : (n : ℕ) (T : Tables) (i : ℕ) → ((b : Build) → BuiltHigh (buildFrom n T (suc i) b)) → (t : Turned) → TurnHigh t
-    → BuiltHigh (elim t [ halt k g ↦ stopped k i g | go d ↦ buildFrom n T (suc i) d ])
+    → BuiltHigh (elim t [ halt k ↦ stopped k i | go d ↦ buildFrom n T (suc i) d ])
 build-by n T i ih (go d) l = ih d
-build-by n T i ih (halt k g) l = l
+build-by n T i ih (halt k) l = l
 
 build-high : (n : ℕ) (T : Tables) (i : ℕ) (b : Build) → BuiltHigh (buildFrom n T i b)
 unfolding buildFrom
@@ -97,9 +97,9 @@ finished-high g = by (unreached g)
     by none = tt
     by (some n) = omega arith
 
-outcome-by : (b : Built) → BuiltHigh b → OutcomeHigh (elim b [ stopped k i g ↦ refused k i | built c ↦ finished (settle (c .graph)) ])
+outcome-by : (b : Built) → BuiltHigh b → OutcomeHigh (elim b [ stopped k i ↦ refused k i | built c ↦ finished (settle (c .graph)) ])
 outcome-by (built c) l = finished-high (settle (c .graph))
-outcome-by (stopped k i g) l = l
+outcome-by (stopped k i) l = l
 
 outcome-high : (T : Tables) → OutcomeHigh (graphOf T)
 unfolding graphOf buildOf

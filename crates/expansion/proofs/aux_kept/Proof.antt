@@ -3,7 +3,7 @@ use mathlib.Core.Path.{_≡_}
 use lib.ListN.{length}
 use Rattle.records.specs.Read.{tablesOf}
 use Rattle.views.specs.Walks.{auxFrom, aux-less}
-use Rattle.linking.specs.Requiring.{anyNode}
+use Rattle.linking.specs.Parties.{anyNode}
 use Rattle.expansion.specs.Pairing.{auxes-kept}
 use Rattle.expansion.proofs.aux_kept.Statement.{statement}
 use Rattle.expansion.proofs.aux_kept.Tie as tie

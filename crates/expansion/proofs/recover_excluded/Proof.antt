@@ -1,5 +1,5 @@
 use borrow.Author.Needs.{needs}
-use Rattle.linking.specs.Requiring.{excluded-unassigned, excluded-other, excluded-assigned}
+use Rattle.linking.specs.Parties.{excluded-unassigned, excluded-other, excluded-assigned}
 use Rattle.linking.proofs.Tags.{not-excluded}
 use Rattle.expansion.proofs.recover_excluded.Statement.{statement}
 use Rattle.expansion.proofs.recover_excluded.Tie as tie

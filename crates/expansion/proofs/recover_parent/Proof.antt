@@ -1,5 +1,5 @@
 use borrow.Author.Needs.{needs}
-use Rattle.linking.specs.Requiring.{parent-unassigned, parent-other, parent-assigned}
+use Rattle.linking.specs.Parties.{parent-unassigned, parent-other, parent-assigned}
 use Rattle.linking.proofs.Tags.{not-parent}
 use Rattle.expansion.proofs.recover_parent.Statement.{statement}
 use Rattle.expansion.proofs.recover_parent.Tie as tie

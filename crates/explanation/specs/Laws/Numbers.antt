@@ -61,11 +61,11 @@ bad-low file k i e = subst ReadLow e (file-low file)
 
 abbrev TurnLow : Turned → Type 0
 TurnLow (go b) = Unit {0}
-TurnLow (halt k g) = k ≤ 9
+TurnLow (halt k) = k ≤ 9
 
 abbrev BuiltLow : Built → Type 0
 BuiltLow (built b) = Unit {0}
-BuiltLow (stopped k i g) = k ≤ 9
+BuiltLow (stopped k i) = k ≤ 9
 
 abbrev OutcomeLow : Outcome → Type 0
 OutcomeLow (drawn G) = Unit {0}
@@ -73,11 +73,11 @@ OutcomeLow (refused k i) = k ≤ 9
 
 step-low : (s : Step) → TurnLow (expanded s)
 step-low (on b) = tt
-step-low (stop g) = omega arith
+step-low stop = omega arith
 
-learnt-by : (l : Bool) (g : Graph) (s : Step) → TurnLow (elim l [ true ↦ halt 7 g | false ↦ expanded s ])
-learnt-by true g s = omega arith
-learnt-by false g s = step-low s
+learnt-by : (l : Bool) (s : Step) → TurnLow (elim l [ true ↦ halt 7 | false ↦ expanded s ])
+learnt-by true s = omega arith
+learnt-by false s = step-low s
 
 turn-by : (c : Bool) (t : Turned) (b : Build) → TurnLow t → TurnLow (elim c [ false ↦ go b | true ↦ t ])
 turn-by true t b l = l
@@ -87,12 +87,12 @@ turn-low : (T : Tables) (i : ℕ) (b : Build) → TurnLow (turnAt T i b)
 unfolding turnAt
 turn-low T i b =
     let c : Build = handed i b in
-    turn-by (coreAt T i) (coreTurn T (clauseOf T i) c) b (learnt-by (isLearnt (clauseOf T i)) (c .graph) (expand T (clauseOf T i) c))
+    turn-by (coreAt T i) (coreTurn T (clauseOf T i) c) b (learnt-by (isLearnt (clauseOf T i)) (expand T (clauseOf T i) c))
 
 build-by : (n : ℕ) (T : Tables) (i : ℕ) → ((b : Build) → BuiltLow (buildFrom n T (suc i) b)) → (t : Turned) → TurnLow t
-    → BuiltLow (elim t [ halt k g ↦ stopped k i g | go d ↦ buildFrom n T (suc i) d ])
+    → BuiltLow (elim t [ halt k ↦ stopped k i | go d ↦ buildFrom n T (suc i) d ])
 build-by n T i ih (go d) l = ih d
-build-by n T i ih (halt k g) l = l
+build-by n T i ih (halt k) l = l
 
 build-low : (n : ℕ) (T : Tables) (i : ℕ) (b : Build) → BuiltLow (buildFrom n T i b)
 unfolding buildFrom
@@ -107,9 +107,9 @@ finished-low g = by (unreached g)
     by none = tt
     by (some n) = omega arith
 
-outcome-by : (b : Built) → BuiltLow b → OutcomeLow (elim b [ stopped k i g ↦ refused k i | built c ↦ finished (settle (c .graph)) ])
+outcome-by : (b : Built) → BuiltLow b → OutcomeLow (elim b [ stopped k i ↦ refused k i | built c ↦ finished (settle (c .graph)) ])
 outcome-by (built c) l = finished-low (settle (c .graph))
-outcome-by (stopped k i g) l = l
+outcome-by (stopped k i) l = l
 
 outcome-low : (T : Tables) → OutcomeLow (graphOf T)
 unfolding graphOf buildOf

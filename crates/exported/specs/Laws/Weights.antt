@@ -56,7 +56,7 @@ node-said T g h x i P e = by (place (sameNode x) (g .nodes) 0) refl
     by none q =
         split (ltb (length (g .nodes)) 128)
         (λ t. let z : added (length (g .nodes)) (withNode g x) ≡ added i h = rw (q, addNode, t) at e in let y : withNode g x ≡ h = cc in rw (← y) P)
-        (λ t. let z : full g ≡ added i h = rw (q, addNode, t) at e in clash (cc))
+        (λ t. let z : full ≡ added i h = rw (q, addNode, t) at e in clash (cc))
 
 edge-said : (T : Tables) (g h : Graph) (e : Edge) (i : ℕ) → Says T (g .edges) → Said T (e .weight) → addEdge g e ≡ added i h → Says T (h .edges)
 unfolding addEdge
@@ -64,19 +64,19 @@ edge-said T g h e i P s q =
     split (ltb (length (g .edges)) 1024)
     (λ t. let z : added (length (g .edges)) (withEdge g e) ≡ added i h = rw t at q in let y : withEdge g e ≡ h = cc in
     rw (← y) (all-append (λ f. Said T (f .weight)) (g .edges) (e ∷ []) P (s, tt)))
-    (λ t. let z : full g ≡ added i h = rw t at q in clash (cc))
+    (λ t. let z : full ≡ added i h = rw t at q in clash (cc))
 
 link-said : (T : Tables) (g h : Graph) (x y : ConflictNode) (w : ConflictEdge) (i : ℕ) → Says T (g .edges) → Said T w → addLink g x y w ≡ added i h → Says T (h .edges)
 unfolding addLink
 link-said T g h x y w i P s e = by (addNode g x) refl
   where
     next : (j : ℕ) (k : Graph) → addNode g x ≡ added j k → (b : Added) → addNode k y ≡ b → Says T (h .edges)
-    next j k q (full l) r = let z : full l ≡ added i h = rw (q, addLink, r) at e in clash (cc)
+    next j k q full r = let z : full ≡ added i h = rw (q, addLink, r) at e in clash (cc)
     next j k q (added m l) r =
         edge-said T l h (record { source = j; target = m; weight = w; clause = l .hand }) i (node-said T k l y m (node-said T g k x j P q) r) s (rw (q, addLink, r) at e)
 
     by : (a : Added) → addNode g x ≡ a → Says T (h .edges)
-    by (full k) q = let z : full k ≡ added i h = rw (q, addLink) at e in clash (cc)
+    by full q = let z : full ≡ added i h = rw (q, addLink) at e in clash (cc)
     by (added j k) q = next j k q (addNode k y) refl
 
 -- ---- lists of links and of triples
@@ -88,7 +88,7 @@ link-step : (T : Tables) (l : Link) (ls : List Link) (g h : Graph) → ((k : Gra
     → (a : Added) → addLink g (l .source) (l .target) (l .weight) ≡ a → linkAll (l ∷ ls) g ≡ more h → Says T (h .edges)
 unfolding linkAll
 link-step T l ls g h f P O (added i k) q e = f k (link-said T g k (l .source) (l .target) (l .weight) i P O q) (rw (q, linkAll) at e)
-link-step T l ls g h f P O (full k) q e = let z : short k ≡ more h = rw (q, linkAll) at e in clash (cc)
+link-step T l ls g h f P O full q e = let z : short ≡ more h = rw (q, linkAll) at e in clash (cc)
 
 links-said : (T : Tables) (ls : List Link) (g h : Graph) → All (SaidLink T) ls → Says T (g .edges) → linkAll ls g ≡ more h → Says T (h .edges)
 unfolding linkAll
@@ -103,7 +103,7 @@ kept-said T b d ls O P e = by (linkAll ls (b .graph)) refl
         let z : on (record { graph = h; last = b .last; made = b .made }) ≡ on d = rw (q, kept) at e in
         let y : h ≡ d .graph = cc in
         rw (← y) (links-said T ls (b .graph) h O P q)
-    by (short h) q = let z : stop h ≡ on d = rw (q, kept) at e in clash (cc)
+    by short q = let z : stop ≡ on d = rw (q, kept) at e in clash (cc)
 
 abbrev SaidTriple : Tables → Triple → Type 0
 SaidTriple T t = t .vset < length (T .versionSets)
@@ -120,13 +120,13 @@ once-said T b d t O P e =
         let z : noted b t (added i k) ≡ on d = rw (h, once, q) at e in
         let y : k ≡ d .graph = cc in
         rw (← y) (link-said T (b .graph) k (t .parent) (t .candidate) (W.Conflict (K.Constrains (t .vset))) i P O q)
-    by h (full k) q = let z : noted b t (full k) ≡ on d = rw (h, once, q) at e in clash (cc)
+    by h full q = let z : noted b t full ≡ on d = rw (h, once, q) at e in clash (cc)
 
 once-step : (T : Tables) (t : Triple) (ts : List Triple) (b d : Build) → ((c : Build) → Says T (c .graph .edges) → onceAll ts c ≡ on d → Says T (d .graph .edges)) → SaidTriple T t → Says T (b .graph .edges)
     → (s : Step) → once b t ≡ s → onceAll (t ∷ ts) b ≡ on d → Says T (d .graph .edges)
 unfolding onceAll
 once-step T t ts b d f O P (on c) q e = f c (once-said T b c t O P q) (rw (q, onceAll) at e)
-once-step T t ts b d f O P (stop g) q e = let z : stop g ≡ on d = rw (q, onceAll) at e in clash (cc)
+once-step T t ts b d f O P stop q e = let z : stop ≡ on d = rw (q, onceAll) at e in clash (cc)
 
 onces-said : (T : Tables) (ts : List Triple) (b d : Build) → All (SaidTriple T) ts → Says T (b .graph .edges) → onceAll ts b ≡ on d → Says T (d .graph .edges)
 unfolding onceAll
@@ -182,29 +182,29 @@ module _ (T : Tables) where
   unfolding pair
   pair-said side a b v h c d P e = pair-by side b v (partyOf T a) h c d P e
 
-  previous-said : (l s : ℕ) → All (SaidLink T) (previousLinks l s)
-  previous-said zero s = tt
-  previous-said (suc p) s = (tt, tt)
+  previous-said : (l : Option ℕ) (s : ℕ) → All (SaidLink T) (previousLinks l s)
+  previous-said none s = tt
+  previous-said (some p) s = (tt, tt)
 
-  forbid-graph : (g h : Graph) (l s : ℕ) → Says T (g .edges) → forbidAll g l s ≡ more h → Says T (h .edges)
+  forbid-graph : (g h : Graph) (l : Option ℕ) (s : ℕ) → Says T (g .edges) → forbidAll g l s ≡ more h → Says T (h .edges)
   unfolding forbidAll
   forbid-graph g h l s P e = by (addNode g (N.Solvable s)) refl
     where
       by : (a : Added) → addNode g (N.Solvable s) ≡ a → Says T (h .edges)
       by (added i j) q = links-said T (previousLinks l s) j h (previous-said l s) (node-said T g j (N.Solvable s) i P q) (rw (q, forbidAll) at e)
-      by (full j) q = let z : short j ≡ more h = rw (q, forbidAll) at e in clash (cc)
+      by full q = let z : short ≡ more h = rw (q, forbidAll) at e in clash (cc)
 
   forbid-by : (ss ns : List ℕ) (c d : Build) → Says T (c .graph .edges) → forbidIn c ss ns ≡ on d → Says T (d .graph .edges)
   forbid-by [] ns c d P e = let z : c ≡ d = cc in rw (← z) P
   forbid-by (s ∷ ss) [] c d P e = let z : c ≡ d = cc in rw (← z) P
-  forbid-by (s ∷ ss) (n ∷ ns) c d P e = by (forbidAll (c .graph) (getD (c .last) n 0) s) refl
+  forbid-by (s ∷ ss) (n ∷ ns) c d P e = by (forbidAll (c .graph) (getD (c .last) n none) s) refl
     where
-      by : (l : Linked) → forbidAll (c .graph) (getD (c .last) n 0) s ≡ l → Says T (d .graph .edges)
+      by : (l : Linked) → forbidAll (c .graph) (getD (c .last) n none) s ≡ l → Says T (d .graph .edges)
       by (more g) q =
           let z : lastly c n s (more g) ≡ on d = rw (q, lastly) at e in
           let y : g ≡ d .graph = cc in
-          rw (← y) (forbid-graph (c .graph) g (getD (c .last) n 0) s P q)
-      by (short g) q = let z : stop g ≡ on d = rw (q, lastly) at e in clash (cc)
+          rw (← y) (forbid-graph (c .graph) g (getD (c .last) n none) s P q)
+      by short q = let z : stop ≡ on d = rw (q, lastly) at e in clash (cc)
 
   forbid-said : (x y : ℕ) (c d : Build) → Says T (c .graph .edges) → forbid T x y c ≡ on d → Says T (d .graph .edges)
   unfolding forbid
@@ -295,19 +295,19 @@ module _ (T : Tables) (valid : Valid T) where
   turn-said i b d P e =
       split (coreAt T i)
       (λ t. split (isLearnt (clauseOf T i))
-      (λ u. let z : halt 7 (handing i (b .graph)) ≡ go d = rw (t, turnAt, u, coreTurn) at e in clash (cc))
+      (λ u. let z : halt 7 ≡ go d = rw (t, turnAt, u, coreTurn) at e in clash (cc))
       (λ u. step (expand T (clauseOf T i) (handed i b)) refl (rw (t, turnAt, u, coreTurn) at e)))
       (λ t. let z : go b ≡ go d = rw (t, turnAt) at e in let y : b ≡ d = cc in rw (← y) P)
     where
       step : (s : Step) → expand T (clauseOf T i) (handed i b) ≡ s → expanded (expand T (clauseOf T i) (handed i b)) ≡ go d → Says T (d .graph .edges)
       step (on c) q z = let y : go c ≡ go d = rw (q, expanded) at z in let x : c ≡ d = cc in rw (← x) (expand-by (clauseOf T i) (clause-names i) (handed i b) c P q)
-      step (stop g) q z = let y : halt 8 g ≡ go d = rw (q, expanded) at z in clash (cc)
+      step stop q z = let y : halt 8 ≡ go d = rw (q, expanded) at z in clash (cc)
 
   build-step : (n i : ℕ) (b d : Build) → ((c : Build) → Says T (c .graph .edges) → buildFrom n T (suc i) c ≡ built d → Says T (d .graph .edges)) → Says T (b .graph .edges)
       → (t : Turned) → turnAt T i b ≡ t → buildFrom (suc n) T i b ≡ built d → Says T (d .graph .edges)
   unfolding buildFrom
   build-step n i b d f P (go c) q e = f c (turn-said i b c P q) (rw (q, buildFrom) at e)
-  build-step n i b d f P (halt k g) q e = let z : stopped k i g ≡ built d = rw (q, buildFrom) at e in clash (cc)
+  build-step n i b d f P (halt k) q e = let z : stopped k i ≡ built d = rw (q, buildFrom) at e in clash (cc)
 
   build-said : (n i : ℕ) (b d : Build) → Says T (b .graph .edges) → buildFrom n T i b ≡ built d → Says T (d .graph .edges)
   unfolding buildFrom
@@ -339,4 +339,4 @@ module _ (T : Tables) (valid : Valid T) where
 
       by : (B : Built) → buildOf T ≡ B → Says T (G .edges)
       by (built b) q = end b q (unreached (settle (b .graph))) refl
-      by (stopped k i g) q = let z : refused k i ≡ drawn G = rw (q, graphOf) at e in clash (cc)
+      by (stopped k i) q = let z : refused k i ≡ drawn G = rw (q, graphOf) at e in clash (cc)

@@ -2,13 +2,14 @@
 use mathlib.Core.Path.{_≡_, refl, sym, ap, _∙_}
 use mathlib.Core.Bool.{Bool, true, false}
 use mathlib.Core.List.{List, [], _∷_, _++_, map, reverse, reverse-cons}
+use mathlib.Core.Option.{Option}
 use Prim.Native.Nat.{ℕ, zero, suc, _+_, _*_, _%_, _^_, _<_, _≤_}
 use native.Mathlib.Nat.{not-suc-le-zero}
 use native.Mathlib.Numerals.{add-one}
 use native.Mathlib.Omega.{arith}
 use lib.ListN.{length, getD, set, take, replicate, length-set, length-replicate, getD-replicate}
 use lib.Seq.{getD-set-same, getD-set-other, take-suc, take-length}
-use lib.Dec.{eqb, leb}
+use lib.Dec.{eqb}
 use borrow.Author.Tests.{eqb-true, eqb-false, eq-eqb, ne-eqb}
 use Rattle.basis.specs.Lists.{filter}
 use Rattle.basis.specs.Members.{split}
@@ -16,30 +17,38 @@ use Rattle.store.specs.declared.Edge.{Edge}
 use Rattle.store.specs.declared.Size.{Size}
 use Rattle.store.specs.Graph.{Graph, out, into}
 use Rattle.store.specs.Table.{graphIn, edgeIn, noEdge, Stored, edges-count, edge-in, source-below, target-below}
-use Rattle.groups.specs.Groups.{insert, sort, outKey, inKey, outKeys, inKeys}
+use Rattle.groups.specs.Groups.{keyLe, insert, sort, outKeys, inKeys}
+use Rattle.groups.specs.Codes.{keyCode, outCode, inCode, outCodes, inCodes, out-codes, in-codes}
 use Rattle.groups.specs.Multi.{bump}
 use Rattle.groups.specs.Keys.{keyAt}
 use Rattle.groups.specs.Prints.{mixOf, totalOf, printOf, Printed}
 
 -- ---- "Equal lists must have equal fingerprints"
 
-total-insert : (d : Bool) (x : ℕ) (l : List ℕ) → totalOf d (insert x l) ≡ mixOf d x + totalOf d l
+-- the total of a list of keys
+abbrev keysTotal : Bool → List (Option ℕ × ℕ) → ℕ
+keysTotal d l = totalOf d (map keyCode l)
+
+total-insert : (d : Bool) (x : Option ℕ × ℕ) (l : List (Option ℕ × ℕ)) → keysTotal d (insert x l) ≡ mixOf d (keyCode x) + keysTotal d l
 unfolding totalOf
 total-insert d x [] = refl
-total-insert d x (y ∷ l) = split (leb x y) (λ t. rw (t, insert)) (λ t. rw (t, insert, total-insert d x l) (omega arith))
+total-insert d x (y ∷ l) = split (keyLe x y) (λ t. rw (t, insert)) (λ t. rw (t, insert, total-insert d x l) (omega arith))
 
-total-sort : (d : Bool) (l : List ℕ) → totalOf d (sort l) ≡ totalOf d l
+total-sort : (d : Bool) (l : List (Option ℕ × ℕ)) → keysTotal d (sort l) ≡ keysTotal d l
 unfolding totalOf
 total-sort d [] = refl
-total-sort d (x ∷ l) = total-insert d x (sort l) ∙ ap (λ (t : ℕ). mixOf d x + t) (total-sort d l)
+total-sort d (x ∷ l) = total-insert d x (sort l) ∙ ap (λ (t : ℕ). mixOf d (keyCode x) + t) (total-sort d l)
 
 -- a total does not see the order
-total-sorted : (d : Bool) (X Y : List ℕ) → sort X ≡ sort Y → totalOf d X ≡ totalOf d Y
-total-sorted d X Y e = sym (total-sort d X) ∙ ap (totalOf d) e ∙ total-sort d Y
+total-sorted : (d : Bool) (X Y : List (Option ℕ × ℕ)) → sort X ≡ sort Y → keysTotal d X ≡ keysTotal d Y
+total-sorted d X Y e = sym (total-sort d X) ∙ ap (keysTotal d) e ∙ total-sort d Y
 
-pub print-sorted : (G : Graph) (m n : ℕ) → sort (outKeys G m) ≡ sort (outKeys G n) → sort (inKeys G m) ≡ sort (inKeys G n) → printOf G m ≡ printOf G n
+pub print-sorted : (G : Graph) (m n : ℕ)
+    → sort (outKeys G m) ≡ sort (outKeys G n) → sort (inKeys G m) ≡ sort (inKeys G n) → printOf G m ≡ printOf G n
 unfolding printOf
-print-sorted G m n o i = rw (total-sorted true (outKeys G m) (outKeys G n) o, total-sorted false (inKeys G m) (inKeys G n) i)
+print-sorted G m n o i =
+    rw (← out-codes G m, ← out-codes G n, ← in-codes G m, ← in-codes G n)
+    (rw (total-sorted true (outKeys G m) (outKeys G n) o, total-sorted false (inKeys G m) (inKeys G n) i))
 
 -- ---- the number made from a key
 
@@ -73,7 +82,7 @@ part false t = 0
 
 -- what an edge adds to node n's total
 unfoldable pub shareOf : ℕ → Edge → ℕ
-shareOf n e = part (eqb (e .source) n) (mixOf true (outKey e)) + part (eqb (e .target) n) (mixOf false (inKey e))
+shareOf n e = part (eqb (e .source) n) (mixOf true (outCode e)) + part (eqb (e .target) n) (mixOf false (inCode e))
 
 unfoldable pub sumOver : ℕ → List Edge → ℕ
 unfolding shareOf
@@ -92,7 +101,8 @@ sum-reverse n (e ∷ l) = rw (reverse-cons e l, sum-append n (reverse l) (e ∷ 
 
 -- both totals of a node at once
 sum-both : (n : ℕ) (l : List Edge)
-    → totalOf true (map outKey (filter (λ e. eqb (e .source) n) l)) + totalOf false (map inKey (filter (λ e. eqb (e .target) n) l)) ≡ sumOver n l
+    → totalOf true (map outCode (filter (λ e. eqb (e .source) n) l)) + totalOf false (map inCode (filter (λ e. eqb (e .target) n) l))
+    ≡ sumOver n l
 unfolding sumOver shareOf totalOf
 sum-both n [] = refl
 sum-both n (e ∷ l) =
@@ -105,7 +115,7 @@ sum-both n (e ∷ l) =
     (λ u. rw (t, u, filter) (omega (arith, sum-both n l))))
 
 print-sum : (G : Graph) (n : ℕ) → sumOver n (G .edges) % 2 ^ 32 ≡ printOf G n
-unfolding printOf outKeys inKeys out into
+unfolding printOf outCodes inCodes out into
 print-sum G n = ap (λ (t : ℕ). t % 2 ^ 32) (sym (sum-both n (reverse (G .edges)) ∙ sum-reverse n (G .edges)))
 
 -- a table with t added to n's entry

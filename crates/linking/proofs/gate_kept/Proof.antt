@@ -3,7 +3,8 @@ use mathlib.Core.Path.{_≡_}
 use lib.ListN.{length}
 use Rattle.records.specs.Read.{tablesOf}
 use Rattle.views.specs.Walks.{gatesFrom, gates-less}
-use Rattle.linking.specs.Requiring.{anyNode, gates-kept}
+use Rattle.linking.specs.Parties.{anyNode}
+use Rattle.linking.specs.Requiring.{gates-kept}
 use Rattle.linking.proofs.gate_kept.Statement.{statement}
 use Rattle.linking.proofs.gate_kept.Tie as tie
 

@@ -1,5 +1,5 @@
 use borrow.Author.Needs.{needs}
-use Rattle.linking.specs.Requiring.{node-true, node-false}
+use Rattle.linking.specs.Parties.{node-true, node-false}
 use Rattle.linking.proofs.is_party.Statement.{statement}
 use Rattle.linking.proofs.is_party.Tie as tie
 

@@ -1,5 +1,5 @@
 use borrow.Author.Needs.{needs}
-use Rattle.linking.specs.Requiring.{parties}
+use Rattle.linking.specs.Parties.{parties}
 use Rattle.linking.proofs.named.Statement.{statement}
 use Rattle.linking.proofs.named.Tie as tie
 

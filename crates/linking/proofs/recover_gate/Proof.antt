@@ -1,5 +1,5 @@
 use borrow.Author.Needs.{needs}
-use Rattle.linking.specs.Requiring.{gate-unassigned, gate-other, gate-assigned}
+use Rattle.linking.specs.Parties.{gate-unassigned, gate-other, gate-assigned}
 use Rattle.linking.proofs.Tags.{not-any-of}
 use Rattle.linking.proofs.recover_gate.Statement.{statement}
 use Rattle.linking.proofs.recover_gate.Tie as tie

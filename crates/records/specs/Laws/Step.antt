@@ -13,7 +13,7 @@ use Rattle.records.specs.declared.Step.the-variants.{Next, No}
 use Rattle.records.specs.Shapes.{Rec, shapeOf}
 use Rattle.records.specs.Tables.{Tables, noTables, put, countsOf}
 use Rattle.records.specs.Read.{refusalIn}
-use Rattle.records.specs.Steps.{Fine, fine}
+use Rattle.records.specs.Steps.{Passed, passed}
 use Rattle.records.specs.Pass.{checkPass, noted, moreOf, noCounts}
 use Rattle.records.specs.Agree.{Marked, stepOf, check-none, check-some, next-marked, more-is-good, none-marked}
 
@@ -41,9 +41,9 @@ by-number (suc n) t u e f = clash cc
 
 module _ (T : Tables) (m : List ℕ) (h : Marked T m) (r : Rec) where
   by-step : {X : Type 0} (o : Option Shape) → shapeOf (r .kind) ≡ o → (t : Table) → stepBy T r o ≡ Next t
-      → ((s : Shape) → shapeOf (r .kind) ≡ some s → Fine T s r → s .table ≡ t → X) → X
+      → ((s : Shape) → Passed T r s → s .table ≡ t → X) → X
   by-step none e t q f = clash cc
-  by-step (some s) e t q f = by-number (refusalIn T s r) (s .table) t q (λ z y. f s e (fine T s r z) y)
+  by-step (some s) e t q f = by-number (refusalIn T s r) (s .table) t q (λ z y. f s (passed T r s e z) y)
 
   answered : (o : Option Shape) → shapeOf (r .kind) ≡ o → checkPass (countsOf T) m r ≡ stepBy T r o
   answered none e = check-none T m h r e
@@ -54,10 +54,10 @@ module _ (T : Tables) (m : List ℕ) (h : Marked T m) (r : Rec) where
   stepped = record { answer = answered (shapeOf (r .kind)) refl; marks = marks; counts = counts }
     where
       marks : (t : Table) → stepBy T r (shapeOf (r .kind)) ≡ Next t → Marked (put t r T) (noted t r m)
-      marks t q = by-step (shapeOf (r .kind)) refl t q (λ s e f y. rw (← y) (next-marked T m h r s e f))
+      marks t q = by-step (shapeOf (r .kind)) refl t q (λ s p y. rw (← y) (next-marked T m h r s p))
 
       counts : (t : Table) → stepBy T r (shapeOf (r .kind)) ≡ Next t → moreOf t (countsOf T) ≡ countsOf (put t r T)
-      counts t q = by-step (shapeOf (r .kind)) refl t q (λ s e f y. rw (← y) (more-is-good (s .table) T r (f .room)))
+      counts t q = by-step (shapeOf (r .kind)) refl t q (λ s p y. rw (← y) (more-is-good (s .table) T r (p .room)))
 
 -- before the first record
 pub step-start : Marked noTables (replicate 1024 0) × (noCounts ≡ countsOf noTables)

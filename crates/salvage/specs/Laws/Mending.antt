@@ -19,8 +19,8 @@ use Rattle.records.specs.declared.Slot.the-variants as S
 use Rattle.records.specs.Shapes.{Rec, recOf, shapeOf, limit}
 use Rattle.records.specs.Tables.{Tables, put}
 use Rattle.records.specs.Read.{good, readFrom, refusalIn}
-use Rattle.records.specs.Steps.{fine, read-next}
-use Rattle.index.specs.Steps.{Passed, Steps, tableNoOf, isIn}
+use Rattle.records.specs.Steps.{Passed, passed, read-next}
+use Rattle.index.specs.Steps.{Steps, tableNoOf, isIn}
 use Rattle.salvage.specs.Salvage.{blank, coreLearnt, isClauses, onClause, onOther, onKnown, verdictOf}
 use Rattle.salvage.specs.Salvage.{Mended, mended, halted, with-kept, with-blank, mendFrom}
 use Rattle.salvage.specs.declared.Verdict.{Verdict}
@@ -156,7 +156,7 @@ module _ (T : Tables) (r : Rec) where
   stays-by s k q l = rw (k, verdictOf) (go (isClauses (s .table)) refl)
     where
       room : isClauses (s .table) ≡ true → ltb (length (T .clauses)) (limit Clauses) ≡ true
-      room z = rw (clause-table (s .table) z) at (fine T s r q .room)
+      room z = rw (clause-table (s .table) z) at (passed T r s k q .room)
 
       go : (c : Bool) → isClauses (s .table) ≡ c → cond c (onClause T s r) (onOther (refusalIn T s r) (s .table)) ≡ Stays (s .table)
       go true z = rw (room z, q, l, clause-table (s .table) z)

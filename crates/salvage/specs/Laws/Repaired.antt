@@ -158,11 +158,7 @@ sound-unchanged file s =
     let m = sound-stays (pieces (length file / 32) file) 0 noTables (s .tables) (rw c at (a .steps)) (rw c at (s .unlearnt)) in
     rw (le-leb (length file) 65536 (a .short), m, a .whole, joined-file file (a .whole))
 
--- repairing a repaired file changes nothing
-pub repaired-again : (file out ls : List ℕ) (d : ℕ) → salvageOf file ≡ repaired out ls d → salvageOf out ≡ repaired out [] 0
-repaired-again file out ls d e = sound-unchanged out (repaired-sound file out ls d e)
-
--- and the tables of a sound file hold no Learnt in the core
+-- the tables of a sound file hold no Learnt in the core
 pub sound-clauses : (file : List ℕ) (s : Sound file) (r : Rec) → In r (s .tables .clauses) → coreLearnt r ≡ false
 sound-clauses file s r i =
     let a = read-accepted file (s .tables) (s .reads) in

@@ -102,33 +102,33 @@ module _ (file : List ℕ) (s : Sound file) where
 
 -- ---- building
 
-stopped-eight : (x : Step) (k : ℕ) (g : Graph) → expanded x ≡ halt k g → k ≡ 8
-stopped-eight (on b) k g e = clash (cc)
-stopped-eight (stop h) k g e = cc
+stopped-eight : (x : Step) (k : ℕ) → expanded x ≡ halt k → k ≡ 8
+stopped-eight (on b) k e = clash (cc)
+stopped-eight stop k e = cc
 
 module _ (T : Tables) (h : (i : ℕ) → coreAt T i ≡ true → isLearnt (clauseOf T i) ≡ false) where
-  turn-eight : (i : ℕ) (b : Build) (k : ℕ) (g : Graph) → turnAt T i b ≡ halt k g → k ≡ 8
+  turn-eight : (i : ℕ) (b : Build) (k : ℕ) → turnAt T i b ≡ halt k → k ≡ 8
   unfolding turnAt
-  turn-eight i b k g e = by-core (coreAt T i) refl e
+  turn-eight i b k e = by-core (coreAt T i) refl e
     where
       by-learnt : (l : Bool) → l ≡ false
-          → elim l as (λ _. Turned) [ true ↦ halt 7 (handed i b .graph) | false ↦ expanded (expand T (clauseOf T i) (handed i b)) ] ≡ halt k g → k ≡ 8
+          → elim l as (λ _. Turned) [ true ↦ halt 7 | false ↦ expanded (expand T (clauseOf T i) (handed i b)) ] ≡ halt k → k ≡ 8
       by-learnt true q f = no-both true refl q
-      by-learnt false q f = stopped-eight (expand T (clauseOf T i) (handed i b)) k g f
+      by-learnt false q f = stopped-eight (expand T (clauseOf T i) (handed i b)) k f
 
-      by-core : (c : Bool) → coreAt T i ≡ c → elim c as (λ _. Turned) [ false ↦ go b | true ↦ coreTurn T (clauseOf T i) (handed i b) ] ≡ halt k g → k ≡ 8
+      by-core : (c : Bool) → coreAt T i ≡ c → elim c as (λ _. Turned) [ false ↦ go b | true ↦ coreTurn T (clauseOf T i) (handed i b) ] ≡ halt k → k ≡ 8
       by-core true q f = by-learnt (isLearnt (clauseOf T i)) (h i q) f
       by-core false q f = clash (cc)
 
-  build-eight : (n i : ℕ) (b : Build) (k p : ℕ) (g : Graph) → buildFrom n T i b ≡ stopped k p g → k ≡ 8
+  build-eight : (n i : ℕ) (b : Build) (k p : ℕ) → buildFrom n T i b ≡ stopped k p → k ≡ 8
   unfolding buildFrom
-  build-eight zero i b k p g e = clash (cc)
-  build-eight (suc n) i b k p g e = by-turn (λ d q. build-eight n (suc i) d k p g q) (turnAt T i b) refl e
+  build-eight zero i b k p e = clash (cc)
+  build-eight (suc n) i b k p e = by-turn (λ d q. build-eight n (suc i) d k p q) (turnAt T i b) refl e
     where
-      by-turn : ((d : Build) → buildFrom n T (suc i) d ≡ stopped k p g → k ≡ 8) → (t : Turned) → turnAt T i b ≡ t
-          → elim t as (λ _. Built) [ halt j y ↦ stopped j i y | go d ↦ buildFrom n T (suc i) d ] ≡ stopped k p g → k ≡ 8
+      by-turn : ((d : Build) → buildFrom n T (suc i) d ≡ stopped k p → k ≡ 8) → (t : Turned) → turnAt T i b ≡ t
+          → elim t as (λ _. Built) [ halt j ↦ stopped j i | go d ↦ buildFrom n T (suc i) d ] ≡ stopped k p → k ≡ 8
       by-turn rest (go d) q f = rest d f
-      by-turn rest (halt j y) q f = let z : j ≡ k = cc in turn-eight i b k y (rw z at q)
+      by-turn rest (halt j) q f = let z : j ≡ k = cc in turn-eight i b k (rw z at q)
 
   -- what building refuses then
   pub eight-or-nine : (k p : ℕ) → graphOf T ≡ refused k p → (k ≡ 8) ⊎ (k ≡ 9)
@@ -139,9 +139,9 @@ module _ (T : Tables) (h : (i : ℕ) → coreAt T i ≡ true → isLearnt (claus
       by-reach g none f = clash (cc)
       by-reach g (some n) f = inr cc
 
-      by-built : (x : Built) → buildOf T ≡ x → elim x as (λ _. Outcome) [ stopped j i g ↦ refused j i | built b ↦ finished (settle (b .graph)) ] ≡ refused k p
+      by-built : (x : Built) → buildOf T ≡ x → elim x as (λ _. Outcome) [ stopped j i ↦ refused j i | built b ↦ finished (settle (b .graph)) ] ≡ refused k p
           → (k ≡ 8) ⊎ (k ≡ 9)
-      by-built (stopped j i g) q f = let z : j ≡ k = cc in inl (build-eight (length (T .clauses)) 0 startBuild k i g (rw z at q))
+      by-built (stopped j i) q f = let z : j ≡ k = cc in inl (build-eight (length (T .clauses)) 0 startBuild k i (rw z at q))
       by-built (built b) q f = by-reach (settle (b .graph)) (unreached (settle (b .graph))) f
 
 -- ---- the file

@@ -1,5 +1,5 @@
 use borrow.Author.Needs.{needs}
-use Rattle.store.specs.Adding.{directs}
+use Rattle.store.specs.Finding.{directs}
 use Rattle.store.proofs.find.Statement.{statement}
 use Rattle.store.proofs.find.Tie as tie
 

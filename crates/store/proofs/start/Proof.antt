@@ -1,5 +1,5 @@
 use borrow.Author.Needs.{needs}
-use Rattle.store.specs.Adding.{starts}
+use Rattle.store.specs.Starting.{starts}
 use Rattle.store.proofs.start.Statement.{statement}
 use Rattle.store.proofs.start.Tie as tie
 

@@ -16,7 +16,8 @@ use Rattle.store.specs.Graph.{Graph, sameNode, withNode, withEdge}
 use Rattle.store.specs.Numbers.{numberOf}
 use Rattle.store.specs.Words.{NodeWord, EdgeWord}
 use Rattle.store.specs.Table.{nodeWords, graphIn, Stored, nodes-count}
-use Rattle.store.specs.Adding.{placed, findOf, oneNode, oneEdge, sought, wider, keep-node, more-edges, edge-keeps}
+use Rattle.store.specs.Finding.{placed, findOf}
+use Rattle.store.specs.Keeping.{oneNode, oneEdge, sought, wider, keep-node, more-edges, edge-keeps}
 
 -- ---- the number of a node
 

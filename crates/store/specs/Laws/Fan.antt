@@ -19,10 +19,13 @@ use Rattle.store.specs.declared.Put.{Put}
 use Rattle.store.specs.declared.Put.the-variants.{At, Full}
 use Rattle.store.specs.Direct.{entryAt, more, withNodes, putAt}
 use Rattle.store.specs.Laws.Direct.{more-old}
-use Rattle.store.specs.Graph.{Graph, Added, added, full, sameNode, withNode, withEdge, addNode, addEdge, addLink}
+use Rattle.store.specs.Graph.{Graph, sameNode, withNode, withEdge}
+use Rattle.store.specs.Working.{AddedSoFar, addedTo, fullAt, addNodeIn, addEdgeIn, addLinkIn}
 use Rattle.store.specs.Words.{NodeWord, EdgeWord, same-refl}
 use Rattle.store.specs.Table.{graphIn, Growing, addedIn, sizeOf, placeOf, taken-growing}
-use Rattle.store.specs.Adding.{findOf, direct-found, add-old, node-at, edge-full, edge-new, grow-edge, oneEdge, addTarget, target-full, target-edge, held-full}
+use Rattle.store.specs.Finding.{findOf, direct-found}
+use Rattle.store.specs.Keeping.{oneEdge}
+use Rattle.store.specs.Adding.{add-old, node-at, edge-full, edge-new, grow-edge, addTarget, target-full, target-edge, held-full}
 use Rattle.store.specs.Fan.{knownAt, edgeBy, linkedBy}
 
 -- ---- the direct table by the solvable's number
@@ -71,14 +74,14 @@ module _ (g : List ℕ) (s : Size) (c e : ℕ) (P : Growing g s) (q : e ≡ know
   pub known-small : (e - 1) < 128
   known-small = omega (arith, known-below, P .stored .nodes-most)
 
-  pub known-node : addNode (graphIn g s) (N.Solvable c) ≡ added (e - 1) (graphIn g s)
+  pub known-node : addNodeIn (graphIn g s) (N.Solvable c) ≡ addedTo (e - 1) (graphIn g s)
   unfolding graphIn
   known-node =
       sym (node-at g g s (N.Solvable c) (e - 1) (add-old g s (N.Solvable c) (1 + 4 * c) P word (e - 1) found known-below) (s .nodes) known-small (more-old (s .nodes) (e - 1) known-below))
 
 -- ---- an edge, answered by whether there was no room
 
-pub by-full : (g : List ℕ) (s : Size) (e : Edge) → Growing g s → 1024 ≤ s .edges → addedIn g (edgeBy s true) ≡ addEdge (graphIn g s) e
+pub by-full : (g : List ℕ) (s : Size) (e : Edge) → Growing g s → 1024 ≤ s .edges → addedIn g (edgeBy s true) ≡ addEdgeIn (graphIn g s) e
 unfolding edgeBy
 by-full g s e P l = edge-full g s e P l
 
@@ -87,7 +90,7 @@ unfolding edgeBy
 by-full-grows g s P l = P
 
 module _ (g : List ℕ) (s : Size) (e : Edge) (w n : ℕ) (E : EdgeWord e w) (P : Growing g s) (b : n ≡ getD g (s .edges) 0 / 72057594037927936) where
-  pub by-new : s .edges < 1024 → addedIn (set g (s .edges) (w + 72057594037927936 * n)) (edgeBy s false) ≡ addEdge (graphIn g s) e
+  pub by-new : s .edges < 1024 → addedIn (set g (s .edges) (w + 72057594037927936 * n)) (edgeBy s false) ≡ addEdgeIn (graphIn g s) e
   unfolding edgeBy
   by-new l = edge-new g s e w n E P b l
 
@@ -130,7 +133,7 @@ added-least k j n q = omega (arith, more-least k j)
 
 -- no room for the node
 module _ (g h : List ℕ) (s : Size) (y : ConflictNode) (w : ConflictEdge) (i j : ℕ) where
-  pub new-full : addedIn h (putAt s j) ≡ addNode (graphIn g s) y → 128 ≤ j → addedIn h (linkedBy s 2) ≡ addTarget (graphIn g s) i y w
+  pub new-full : addedIn h (putAt s j) ≡ addNodeIn (graphIn g s) y → 128 ≤ j → addedIn h (linkedBy s 2) ≡ addTarget (graphIn g s) i y w
   unfolding graphIn
   new-full p b = rw (linked-full s (s .nodes) 2 (omega arith) (omega arith)) (target-full g h s y j p y w i b)
 
@@ -139,16 +142,16 @@ new-full-grows h s j P b = rw (linked-full s (s .nodes) 2 (omega arith) (omega a
 
 -- j′ is the number as a byte, b what adding the edge answered
 module _ (g h m : List ℕ) (s : Size) (y : ConflictNode) (w : ConflictEdge) (i j j′ n : ℕ) (b : Bool) where
-  edge-said : addedIn h (putAt s j) ≡ addNode (graphIn g s) y → j < 128 → n ≡ more (s .nodes) j → addedIn m (edgeBy (withNodes s n) b) ≡ addEdge (graphIn h (withNodes s n)) (record { source = i; target = j′; weight = w; clause = s .hand }) → j′ ≡ j → addedIn m (edgeBy (withNodes s n) b) ≡ addTarget (graphIn g s) i y w
+  edge-said : addedIn h (putAt s j) ≡ addNodeIn (graphIn g s) y → j < 128 → n ≡ more (s .nodes) j → addedIn m (edgeBy (withNodes s n) b) ≡ addEdgeIn (graphIn h (withNodes s n)) (record { source = i; target = j′; weight = w; clause = s .hand }) → j′ ≡ j → addedIn m (edgeBy (withNodes s n) b) ≡ addTarget (graphIn g s) i y w
   edge-said p l q o e = target-edge g h s y j p y w m (edgeBy (withNodes s n) b) n i j′ l q o e
 
-  pub new-stop : addedIn h (putAt s j) ≡ addNode (graphIn g s) y → j < 128 → n ≡ more (s .nodes) j → addedIn m (edgeBy (withNodes s n) b) ≡ addEdge (graphIn h (withNodes s n)) (record { source = i; target = j′; weight = w; clause = s .hand }) → j′ ≡ j → b ≡ true → addedIn m (linkedBy s (2 + (n - s .nodes))) ≡ addTarget (graphIn g s) i y w
+  pub new-stop : addedIn h (putAt s j) ≡ addNodeIn (graphIn g s) y → j < 128 → n ≡ more (s .nodes) j → addedIn m (edgeBy (withNodes s n) b) ≡ addEdgeIn (graphIn h (withNodes s n)) (record { source = i; target = j′; weight = w; clause = s .hand }) → j′ ≡ j → b ≡ true → addedIn m (linkedBy s (2 + (n - s .nodes))) ≡ addTarget (graphIn g s) i y w
   unfolding edgeBy
   new-stop p l q o e t =
       let z : addedIn m (edgeBy (withNodes s n) b) ≡ addTarget (graphIn g s) i y w = edge-said p l q o e in
       rw (linked-full s n (2 + (n - s .nodes)) refl (added-least (s .nodes) j n q)) (rw t at z)
 
-  pub new-on : addedIn h (putAt s j) ≡ addNode (graphIn g s) y → j < 128 → n ≡ more (s .nodes) j → addedIn m (edgeBy (withNodes s n) b) ≡ addEdge (graphIn h (withNodes s n)) (record { source = i; target = j′; weight = w; clause = s .hand }) → j′ ≡ j → b ≡ false → addedIn m (linkedBy s (n - s .nodes)) ≡ addTarget (graphIn g s) i y w
+  pub new-on : addedIn h (putAt s j) ≡ addNodeIn (graphIn g s) y → j < 128 → n ≡ more (s .nodes) j → addedIn m (edgeBy (withNodes s n) b) ≡ addEdgeIn (graphIn h (withNodes s n)) (record { source = i; target = j′; weight = w; clause = s .hand }) → j′ ≡ j → b ≡ false → addedIn m (linkedBy s (n - s .nodes)) ≡ addTarget (graphIn g s) i y w
   unfolding edgeBy
   new-on p l q o e t =
       let z : addedIn m (edgeBy (withNodes s n) b) ≡ addTarget (graphIn g s) i y w = edge-said p l q o e in
@@ -170,17 +173,17 @@ pub ruleset new-grows = (new-full-grows, new-stop-grows, new-on-grows)
 -- ---- a link to a node that is there: e is its entry
 
 module _ (g m : List ℕ) (s : Size) (w : ConflictEdge) (i c e j′ : ℕ) (b : Bool) where
-  known-said : Growing g s → e ≡ knownAt g c → (e ≡ 0 → ⊥) → addedIn m (edgeBy s b) ≡ addEdge (graphIn g s) (record { source = i; target = j′; weight = w; clause = s .hand }) → j′ ≡ e - 1 → addedIn m (edgeBy s b) ≡ addTarget (graphIn g s) i (N.Solvable c) w
+  known-said : Growing g s → e ≡ knownAt g c → (e ≡ 0 → ⊥) → addedIn m (edgeBy s b) ≡ addEdgeIn (graphIn g s) (record { source = i; target = j′; weight = w; clause = s .hand }) → j′ ≡ e - 1 → addedIn m (edgeBy s b) ≡ addTarget (graphIn g s) i (N.Solvable c) w
   unfolding addTarget graphIn
   known-said P q d o z = rw (known-node g s c e P q d, addTarget) (rw z at o)
 
-  pub known-stop : Growing g s → e ≡ knownAt g c → (e ≡ 0 → ⊥) → addedIn m (edgeBy s b) ≡ addEdge (graphIn g s) (record { source = i; target = j′; weight = w; clause = s .hand }) → j′ ≡ e - 1 → b ≡ true → addedIn m (linkedBy s 2) ≡ addTarget (graphIn g s) i (N.Solvable c) w
+  pub known-stop : Growing g s → e ≡ knownAt g c → (e ≡ 0 → ⊥) → addedIn m (edgeBy s b) ≡ addEdgeIn (graphIn g s) (record { source = i; target = j′; weight = w; clause = s .hand }) → j′ ≡ e - 1 → b ≡ true → addedIn m (linkedBy s 2) ≡ addTarget (graphIn g s) i (N.Solvable c) w
   unfolding edgeBy graphIn
   known-stop P q d o z t =
       let y : addedIn m (edgeBy s b) ≡ addTarget (graphIn g s) i (N.Solvable c) w = known-said P q d o z in
       rw (linked-full s (s .nodes) 2 (omega arith) (omega arith)) (rw t at y)
 
-  pub known-on : Growing g s → e ≡ knownAt g c → (e ≡ 0 → ⊥) → addedIn m (edgeBy s b) ≡ addEdge (graphIn g s) (record { source = i; target = j′; weight = w; clause = s .hand }) → j′ ≡ e - 1 → b ≡ false → addedIn m (linkedBy s 0) ≡ addTarget (graphIn g s) i (N.Solvable c) w
+  pub known-on : Growing g s → e ≡ knownAt g c → (e ≡ 0 → ⊥) → addedIn m (edgeBy s b) ≡ addEdgeIn (graphIn g s) (record { source = i; target = j′; weight = w; clause = s .hand }) → j′ ≡ e - 1 → b ≡ false → addedIn m (linkedBy s 0) ≡ addTarget (graphIn g s) i (N.Solvable c) w
   unfolding edgeBy
   known-on P q d o z t =
       let y : addedIn m (edgeBy s b) ≡ addTarget (graphIn g s) i (N.Solvable c) w = known-said P q d o z in
@@ -250,82 +253,82 @@ longer [] x q = omega arith
 longer (n ∷ ns) x q = longer ns x (omega arith)
 
 -- the place of a node that was found
-is-placed : (g : Graph) (x : ConflictNode) (i : ℕ) → addNode g x ≡ added i g → place (sameNode x) (g .nodes) 0 ≡ some i
-unfolding addNode
+is-placed : (g : Graph) (x : ConflictNode) (i : ℕ) → addNodeIn g x ≡ addedTo i g → place (sameNode x) (g .nodes) 0 ≡ some i
+unfolding addNodeIn
 is-placed g x i e = go (place (sameNode x) (g .nodes) 0) refl
   where
     go : (o : Option ℕ) → place (sameNode x) (g .nodes) 0 ≡ o → place (sameNode x) (g .nodes) 0 ≡ some i
-    go (some j) q = let z : added j g ≡ added i g = rw (q, addNode) at e in let y : j ≡ i = cc in q ∙ ap some y
+    go (some j) q = let z : addedTo j g ≡ addedTo i g = rw (q, addNodeIn) at e in let y : j ≡ i = cc in q ∙ ap some y
     go none q =
         split (ltb (length (g .nodes)) 128)
-        (λ t. let z : added (length (g .nodes)) (withNode g x) ≡ added i g = rw (q, addNode, t) at e in
+        (λ t. let z : addedTo (length (g .nodes)) (withNode g x) ≡ addedTo i g = rw (q, addNodeIn, t) at e in
         let y : withNode g x ≡ g = cc in
         let u : length (withNode g x .nodes) ≡ length (g .nodes) = ap (λ (k : Graph). length (k .nodes)) y in
         absurd (longer (g .nodes) x u))
-        (λ t. let z : full g ≡ added i g = rw (q, addNode, t) at e in clash (cc))
+        (λ t. let z : fullAt g ≡ addedTo i g = rw (q, addNodeIn, t) at e in clash (cc))
 
-at-place-again : (g : Graph) (x : ConflictNode) (i : ℕ) → place (sameNode x) (g .nodes) 0 ≡ some i → addNode g x ≡ added i g
-unfolding addNode
-at-place-again g x i q = rw (q, addNode)
+at-place-again : (g : Graph) (x : ConflictNode) (i : ℕ) → place (sameNode x) (g .nodes) 0 ≡ some i → addNodeIn g x ≡ addedTo i g
+unfolding addNodeIn
+at-place-again g x i q = rw (q, addNodeIn)
 
 none-before : (n : ℕ) → 0 + n ≡ n
 none-before n = omega arith
 
 -- what adding gave is there
-pub known-self : (g h : Graph) (x : ConflictNode) (i : ℕ) → addNode g x ≡ added i h → addNode h x ≡ added i h
-unfolding addNode
+pub known-self : (g h : Graph) (x : ConflictNode) (i : ℕ) → addNodeIn g x ≡ addedTo i h → addNodeIn h x ≡ addedTo i h
+unfolding addNodeIn
 known-self g h x i e = go (place (sameNode x) (g .nodes) 0) refl
   where
-    go : (o : Option ℕ) → place (sameNode x) (g .nodes) 0 ≡ o → addNode h x ≡ added i h
+    go : (o : Option ℕ) → place (sameNode x) (g .nodes) 0 ≡ o → addNodeIn h x ≡ addedTo i h
     go (some j) q =
-        let z : added j g ≡ added i h = rw (q, addNode) at e in
+        let z : addedTo j g ≡ addedTo i h = rw (q, addNodeIn) at e in
         let y : g ≡ h = cc in
         rw (← y) (rw (← y) at e)
     go none q =
         split (ltb (length (g .nodes)) 128)
-        (λ t. let z : added (length (g .nodes)) (withNode g x) ≡ added i h = rw (q, addNode, t) at e in
+        (λ t. let z : addedTo (length (g .nodes)) (withNode g x) ≡ addedTo i h = rw (q, addNodeIn, t) at e in
         let y : withNode g x ≡ h = cc in
         let u : length (g .nodes) ≡ i = cc in
         rw (← y, ← u) (at-place-again (withNode g x) x (length (g .nodes)) (place-end x (g .nodes) 0 q ∙ ap some (none-before (length (g .nodes))))))
-        (λ t. let z : full g ≡ added i h = rw (q, addNode, t) at e in clash (cc))
+        (λ t. let z : fullAt g ≡ addedTo i h = rw (q, addNodeIn, t) at e in clash (cc))
 
 -- and is there after another node, and after an edge
-on-node : (g h : Graph) (x y : ConflictNode) (i j : ℕ) → addNode g x ≡ added i g → addNode g y ≡ added j h → addNode h x ≡ added i h
-unfolding addNode
+on-node : (g h : Graph) (x y : ConflictNode) (i j : ℕ) → addNodeIn g x ≡ addedTo i g → addNodeIn g y ≡ addedTo j h → addNodeIn h x ≡ addedTo i h
+unfolding addNodeIn
 on-node g h x y i j p e = go (place (sameNode y) (g .nodes) 0) refl
   where
-    go : (o : Option ℕ) → place (sameNode y) (g .nodes) 0 ≡ o → addNode h x ≡ added i h
+    go : (o : Option ℕ) → place (sameNode y) (g .nodes) 0 ≡ o → addNodeIn h x ≡ addedTo i h
     go (some k) q =
-        let z : added k g ≡ added j h = rw (q, addNode) at e in
+        let z : addedTo k g ≡ addedTo j h = rw (q, addNodeIn) at e in
         let u : g ≡ h = cc in
         rw (← u) p
     go none q =
         split (ltb (length (g .nodes)) 128)
-        (λ t. let z : added (length (g .nodes)) (withNode g y) ≡ added j h = rw (q, addNode, t) at e in
+        (λ t. let z : addedTo (length (g .nodes)) (withNode g y) ≡ addedTo j h = rw (q, addNodeIn, t) at e in
         let u : withNode g y ≡ h = cc in
         rw (← u) (at-place-again (withNode g y) x i (place-on x y (g .nodes) 0 i (is-placed g x i p))))
-        (λ t. let z : full g ≡ added j h = rw (q, addNode, t) at e in clash (cc))
+        (λ t. let z : fullAt g ≡ addedTo j h = rw (q, addNodeIn, t) at e in clash (cc))
 
-on-edge : (g h : Graph) (x : ConflictNode) (e : Edge) (i m : ℕ) → addNode g x ≡ added i g → addEdge g e ≡ added m h → addNode h x ≡ added i h
-unfolding addEdge
+on-edge : (g h : Graph) (x : ConflictNode) (e : Edge) (i m : ℕ) → addNodeIn g x ≡ addedTo i g → addEdgeIn g e ≡ addedTo m h → addNodeIn h x ≡ addedTo i h
+unfolding addEdgeIn
 on-edge g h x e i m p q =
     split (ltb (length (g .edges)) 1024)
-    (λ t. let z : added (length (g .edges)) (withEdge g e) ≡ added m h = rw t at q in
+    (λ t. let z : addedTo (length (g .edges)) (withEdge g e) ≡ addedTo m h = rw t at q in
     let u : withEdge g e ≡ h = cc in
     rw (← u) (at-place-again (withEdge g e) x i (is-placed g x i p)))
-    (λ t. let z : full g ≡ added m h = rw t at q in clash (cc))
+    (λ t. let z : fullAt g ≡ addedTo m h = rw t at q in clash (cc))
 
-pub known-keeps : (g h : Graph) (x y : ConflictNode) (w : ConflictEdge) (i m : ℕ) → addNode g x ≡ added i g → addTarget g i y w ≡ added m h → addNode h x ≡ added i h
+pub known-keeps : (g h : Graph) (x y : ConflictNode) (w : ConflictEdge) (i m : ℕ) → addNodeIn g x ≡ addedTo i g → addTarget g i y w ≡ addedTo m h → addNodeIn h x ≡ addedTo i h
 unfolding addTarget
-known-keeps g h x y w i m p e = go (addNode g y) refl
+known-keeps g h x y w i m p e = go (addNodeIn g y) refl
   where
-    go : (a : Added) → addNode g y ≡ a → addNode h x ≡ added i h
-    go (added j k) q =
-        let z : addEdge k (record { source = i; target = j; weight = w; clause = k .hand }) ≡ added m h = rw (q, addTarget) at e in
+    go : (a : AddedSoFar) → addNodeIn g y ≡ a → addNodeIn h x ≡ addedTo i h
+    go (addedTo j k) q =
+        let z : addEdgeIn k (record { source = i; target = j; weight = w; clause = k .hand }) ≡ addedTo m h = rw (q, addTarget) at e in
         on-edge k h x (record { source = i; target = j; weight = w; clause = k .hand }) i m (on-node g k x y i j p q) z
-    go (full k) q = let z : full k ≡ added m h = rw (q, addTarget) at e in clash (cc)
+    go (fullAt k) q = let z : fullAt k ≡ addedTo m h = rw (q, addTarget) at e in clash (cc)
 
 -- so that a link from it is its second half
-pub known-link : (g h : Graph) (x y : ConflictNode) (w : ConflictEdge) (i : ℕ) → addNode g x ≡ added i h → addLink g x y w ≡ addTarget h i y w
-unfolding addLink addTarget
-known-link g h x y w i p = rw (p, addLink)
+pub known-link : (g h : Graph) (x y : ConflictNode) (w : ConflictEdge) (i : ℕ) → addNodeIn g x ≡ addedTo i h → addLinkIn g x y w ≡ addTarget h i y w
+unfolding addLinkIn addTarget
+known-link g h x y w i p = rw (p, addLinkIn)

@@ -389,7 +389,7 @@ module _ (T U : Tables) (valid : Valid T) (s r : ℕ) (E : Extended T U s r) whe
 
   abbrev ending : ℕ → Turned → Built
   ending i (go e) = built e
-  ending i (halt k g) = stopped k i g
+  ending i (halt k) = stopped k i
 
   finish : (i : ℕ) (d : Build) → buildFrom 1 U i d ≡ ending i (turnAt U i d)
   unfolding buildFrom
@@ -397,7 +397,7 @@ module _ (T U : Tables) (valid : Valid T) (s r : ℕ) (E : Extended T U s r) whe
     where
       by : (t : Turned) → turnAt U i d ≡ t → buildFrom 1 U i d ≡ ending i (turnAt U i d)
       by (go e) q = rw (q, buildFrom)
-      by (halt k g) q = rw (q, buildFrom)
+      by (halt k) q = rw (q, buildFrom)
 
   build-more : (n i : ℕ) (b d : Build) → i + n ≡ length (T .clauses) → buildFrom n T i b ≡ built d → buildFrom (suc n) U i b ≡ ending (length (T .clauses)) (turnAt U (length (T .clauses)) d)
   unfolding buildFrom
@@ -411,7 +411,7 @@ module _ (T U : Tables) (valid : Valid T) (s r : ℕ) (E : Extended T U s r) whe
       by rest (go c) q =
           let u : turnAt U i b ≡ go c = turn-same i b (omega arith) ∙ q in
           rw (u, buildFrom) (rest c (rw (q, buildFrom) at e))
-      by rest (halt k g) q = let z : stopped k i g ≡ built d = rw (q, buildFrom) at e in clash (cc)
+      by rest (halt k) q = let z : stopped k i ≡ built d = rw (q, buildFrom) at e in clash (cc)
 
   build-extended : (d : Build) → buildOf T ≡ built d → (l : Linked) → linkAll (link (N.Solvable s) (N.Excluded r) (W.Conflict K.Excluded) ∷ []) (handing (length (T .clauses)) (d .graph)) ≡ l → buildOf U ≡ ending (length (T .clauses)) (expanded (kept (handed (length (T .clauses)) d) l))
   unfolding buildOf
@@ -423,6 +423,6 @@ module _ (T U : Tables) (valid : Valid T) (s r : ℕ) (E : Extended T U s r) whe
   extended-built d e k h q = build-extended d e (more h) (rw (q, linkAll))
 
   -- no room: 8, "place the number of clauses"
-  pub extended-full : (d : Build) → buildOf T ≡ built d → (h : Graph) → addExcluded (handing (length (T .clauses)) (d .graph)) s r ≡ full h → buildOf U ≡ stopped 8 (length (T .clauses)) h
+  pub extended-full : (d : Build) → buildOf T ≡ built d → addExcluded (handing (length (T .clauses)) (d .graph)) s r ≡ full → buildOf U ≡ stopped 8 (length (T .clauses))
   unfolding linkAll
-  extended-full d e h q = build-extended d e (short h) (rw (q, linkAll))
+  extended-full d e q = build-extended d e short (rw (q, linkAll))

@@ -41,82 +41,82 @@ use Rattle.whatif.specs.Laws.Settling.{stays, settle-from, settle-to, st
 abbrev pub Matched : Graph → Type 0
 Matched g = length (g .firsts) ≡ length (g .nodes)
 
--- the graph that a step leaves, whether or not there was room
-abbrev addedTo : Added → Graph
-addedTo (added i g) = g
-addedTo (full g) = g
+-- of a step's answer: its graph has as many, where there was room
+abbrev AddedMatched : Added → Type 0
+AddedMatched (added i g) = Matched g
+AddedMatched full = Unit {0}
 
-abbrev linkedTo : Linked → Graph
-linkedTo (more g) = g
-linkedTo (short g) = g
+abbrev LinkedMatched : Linked → Type 0
+LinkedMatched (more g) = Matched g
+LinkedMatched short = Unit {0}
 
-abbrev steppedTo : Step → Graph
-steppedTo (on b) = b .graph
-steppedTo (stop g) = g
+abbrev StepMatched : Step → Type 0
+StepMatched (on b) = Matched (b .graph)
+StepMatched stop = Unit {0}
 
-abbrev turnedTo : Turned → Graph
-turnedTo (go b) = b .graph
-turnedTo (halt k g) = g
+abbrev TurnMatched : Turned → Type 0
+TurnMatched (go b) = Matched (b .graph)
+TurnMatched (halt k) = Unit {0}
 
-abbrev builtTo : Built → Graph
-builtTo (built b) = b .graph
-builtTo (stopped k i g) = g
+abbrev BuiltMatched : Built → Type 0
+BuiltMatched (built b) = Matched (b .graph)
+BuiltMatched (stopped k i) = Unit {0}
 
 both-more : (ns : List ConflictNode) (fs : List ℕ) (x : ConflictNode) (c : ℕ) → length fs ≡ length ns → length (snoc fs c) ≡ length (snoc ns x)
 both-more ns fs x c m = rw (length-append fs (c ∷ []), length-append ns (x ∷ [])) (omega (arith, m))
 
-node-matched : (g : Graph) (x : ConflictNode) → Matched g → Matched (addedTo (addNode g x))
+node-matched : (g : Graph) (x : ConflictNode) → Matched g → AddedMatched (addNode g x)
 unfolding addNode
 node-matched g x m = by (place (sameNode x) (g .nodes) 0) refl
   where
-    by : (o : Option ℕ) → place (sameNode x) (g .nodes) 0 ≡ o → Matched (addedTo (addNode g x))
+    by : (o : Option ℕ) → place (sameNode x) (g .nodes) 0 ≡ o → AddedMatched (addNode g x)
     by (some i) q = rw (q, addNode) m
     by none q =
         split (ltb (length (g .nodes)) 128)
         (λ t. rw (q, addNode, t) (both-more (g .nodes) (g .firsts) x (g .hand) m))
-        (λ t. rw (q, addNode, t) m)
+        (λ t. rw (q, addNode, t) tt)
 
-edge-matched : (g : Graph) (e : Edge) → Matched g → Matched (addedTo (addEdge g e))
+edge-matched : (g : Graph) (e : Edge) → Matched g → AddedMatched (addEdge g e)
 unfolding addEdge
-edge-matched g e m = split (ltb (length (g .edges)) 1024) (λ t. rw t m) (λ t. rw t m)
+edge-matched g e m = split (ltb (length (g .edges)) 1024) (λ t. rw t m) (λ t. rw t tt)
 
-link-matched : (g : Graph) (x y : ConflictNode) (w : ConflictEdge) → Matched g → Matched (addedTo (addLink g x y w))
+link-matched : (g : Graph) (x y : ConflictNode) (w : ConflictEdge) → Matched g → AddedMatched (addLink g x y w)
 unfolding addLink
 link-matched g x y w m = first (addNode g x) refl
   where
-    second : (j : ℕ) (k : Graph) → addNode g x ≡ added j k → Matched k → (a : Added) → addNode k y ≡ a → Matched (addedTo (addLink g x y w))
+    second : (j : ℕ) (k : Graph) → addNode g x ≡ added j k → Matched k → (a : Added) → addNode k y ≡ a → AddedMatched (addLink g x y w)
     second j k p u (added n l) q =
         let v : Matched l = rw q at (node-matched k y u) in
         rw (p, addLink, q) (edge-matched l (record { source = j; target = n; weight = w; clause = l .hand }) v)
-    second j k p u (full l) q = let v : Matched l = rw q at (node-matched k y u) in rw (p, addLink, q) v
+    second j k p u full q = rw (p, addLink, q) tt
 
-    first : (a : Added) → addNode g x ≡ a → Matched (addedTo (addLink g x y w))
+    first : (a : Added) → addNode g x ≡ a → AddedMatched (addLink g x y w)
     first (added j k) p = second j k p (rw p at (node-matched g x m)) (addNode k y) refl
-    first (full k) p = let u : Matched k = rw p at (node-matched g x m) in rw (p, addLink) u
+    first full p = rw (p, addLink) tt
 
-link-step : (l : Link) (ls : List Link) (g : Graph) → ((h : Graph) → Matched h → Matched (linkedTo (linkAll ls h))) → Matched g → (a : Added) → addLink g (l .source) (l .target) (l .weight) ≡ a → Matched (linkedTo (linkAll (l ∷ ls) g))
+link-step : (l : Link) (ls : List Link) (g : Graph) → ((h : Graph) → Matched h → LinkedMatched (linkAll ls h)) → Matched g → (a : Added) → addLink g (l .source) (l .target) (l .weight) ≡ a → LinkedMatched (linkAll (l ∷ ls) g)
 unfolding linkAll
 link-step l ls g f m (added i h) q = rw (q, linkAll) (f h (rw q at (link-matched g (l .source) (l .target) (l .weight) m)))
-link-step l ls g f m (full h) q = let u : Matched h = rw q at (link-matched g (l .source) (l .target) (l .weight) m) in rw (q, linkAll) u
+link-step l ls g f m full q = rw (q, linkAll) tt
 
-links-matched : (ls : List Link) (g : Graph) → Matched g → Matched (linkedTo (linkAll ls g))
+links-matched : (ls : List Link) (g : Graph) → Matched g → LinkedMatched (linkAll ls g)
 unfolding linkAll
 links-matched [] g m = m
 links-matched (l ∷ ls) g m = link-step l ls g (λ h u. links-matched ls h u) m (addLink g (l .source) (l .target) (l .weight)) refl
 
-kept-matched : (b : Build) (l : Linked) → Matched (linkedTo l) → Matched (steppedTo (kept b l))
+kept-matched : (b : Build) (l : Linked) → LinkedMatched l → StepMatched (kept b l)
 kept-matched b (more g) m = m
-kept-matched b (short g) m = m
+kept-matched b short m = m
 
-noted-matched : (b : Build) (t : Triple) (a : Added) → Matched (addedTo a) → Matched (steppedTo (noted b t a))
+noted-matched : (b : Build) (t : Triple) (a : Added) → AddedMatched a → StepMatched (noted b t a)
 noted-matched b t (added i g) m = m
-noted-matched b t (full g) m = m
+noted-matched b t full m = m
 
-lastly-matched : (b : Build) (n s : ℕ) (l : Linked) → Matched (linkedTo l) → Matched (steppedTo (lastly b n s l))
+lastly-matched : (b : Build) (n s : ℕ) (l : Linked) → LinkedMatched l → StepMatched (lastly b n s l)
 lastly-matched b n s (more g) m = m
-lastly-matched b n s (short g) m = m
+lastly-matched b n s short m = m
 
-once-matched : (b : Build) (t : Triple) → Matched (b .graph) → Matched (steppedTo (once b t))
+once-matched : (b : Build) (t : Triple) → Matched (b .graph) → StepMatched (once b t)
 unfolding once
 once-matched b t m =
     split (any (sameTriple t) (b .made))
@@ -125,35 +125,35 @@ once-matched b t m =
     (noted-matched b t (addLink (b .graph) (t .parent) (t .candidate) (W.Conflict (K.Constrains (t .vset))))
     (link-matched (b .graph) (t .parent) (t .candidate) (W.Conflict (K.Constrains (t .vset))) m)))
 
-once-step : (t : Triple) (ts : List Triple) (b : Build) → ((c : Build) → Matched (c .graph) → Matched (steppedTo (onceAll ts c))) → Matched (b .graph) → (s : Step) → once b t ≡ s → Matched (steppedTo (onceAll (t ∷ ts) b))
+once-step : (t : Triple) (ts : List Triple) (b : Build) → ((c : Build) → Matched (c .graph) → StepMatched (onceAll ts c)) → Matched (b .graph) → (s : Step) → once b t ≡ s → StepMatched (onceAll (t ∷ ts) b)
 unfolding onceAll
 once-step t ts b f m (on c) q = rw (q, onceAll) (f c (rw q at (once-matched b t m)))
-once-step t ts b f m (stop g) q = let u : Matched g = rw q at (once-matched b t m) in rw (q, onceAll) u
+once-step t ts b f m stop q = rw (q, onceAll) tt
 
-onces-matched : (ts : List Triple) (b : Build) → Matched (b .graph) → Matched (steppedTo (onceAll ts b))
+onces-matched : (ts : List Triple) (b : Build) → Matched (b .graph) → StepMatched (onceAll ts b)
 unfolding onceAll
 onces-matched [] b m = m
 onces-matched (t ∷ ts) b m = once-step t ts b (λ c u. onces-matched ts c u) m (once b t) refl
 
-forbid-matched : (g : Graph) (p s : ℕ) → Matched g → Matched (linkedTo (forbidAll g p s))
+forbid-matched : (g : Graph) (p : Option ℕ) (s : ℕ) → Matched g → LinkedMatched (forbidAll g p s)
 unfolding forbidAll
 forbid-matched g p s m = by (addNode g (N.Solvable s)) refl
   where
-    by : (a : Added) → addNode g (N.Solvable s) ≡ a → Matched (linkedTo (forbidAll g p s))
+    by : (a : Added) → addNode g (N.Solvable s) ≡ a → LinkedMatched (forbidAll g p s)
     by (added i h) q = rw (q, forbidAll) (links-matched (previousLinks p s) h (rw q at (node-matched g (N.Solvable s) m)))
-    by (full h) q = let u : Matched h = rw q at (node-matched g (N.Solvable s) m) in rw (q, forbidAll) u
+    by full q = rw (q, forbidAll) tt
 
-forbids-matched : (b : Build) (ss ns : List ℕ) → Matched (b .graph) → Matched (steppedTo (forbidIn b ss ns))
+forbids-matched : (b : Build) (ss ns : List ℕ) → Matched (b .graph) → StepMatched (forbidIn b ss ns)
 forbids-matched b [] ns m = m
 forbids-matched b (s ∷ ss) [] m = m
-forbids-matched b (s ∷ ss) (n ∷ ns) m = lastly-matched b n s (forbidAll (b .graph) (getD (b .last) n 0) s) (forbid-matched (b .graph) (getD (b .last) n 0) s m)
+forbids-matched b (s ∷ ss) (n ∷ ns) m = lastly-matched b n s (forbidAll (b .graph) (getD (b .last) n none) s) (forbid-matched (b .graph) (getD (b .last) n none) s m)
 
 module _ (T : Tables) where
-  pairs-matched : (side : Side) (b v : ℕ) (p : Party) (d : Build) → Matched (d .graph) → Matched (steppedTo (pairAll T side b v p d))
+  pairs-matched : (side : Side) (b v : ℕ) (p : Party) (d : Build) → Matched (d .graph) → StepMatched (pairAll T side b v p d)
   pairs-matched side b v Neither d m = m
   pairs-matched side b v (Node n) d m = onces-matched (triplesOf side n v (others T side b)) d m
 
-  expand-matched : (c : Clause) (d : Build) → Matched (d .graph) → Matched (steppedTo (expand T c d))
+  expand-matched : (c : Clause) (d : Build) → Matched (d .graph) → StepMatched (expand T c d)
   unfolding expand forbid pair
   expand-matched C.InstallRoot d m = m
   expand-matched (C.Excluded x r) d m = kept-matched d (linkAll (excludedLinks T x r) (d .graph)) (links-matched (excludedLinks T x r) (d .graph) m)
@@ -166,25 +166,25 @@ module _ (T : Tables) where
   expand-matched (C.ConstrainsExcluded x y v) d m = pairs-matched Candidate y v (partyOf T x) d m
   expand-matched (C.AnyOf x y) d m = m
 
-  expanded-matched : (s : Step) → Matched (steppedTo s) → Matched (turnedTo (expanded s))
+  expanded-matched : (s : Step) → StepMatched s → TurnMatched (expanded s)
   expanded-matched (on b) m = m
-  expanded-matched (stop g) m = m
+  expanded-matched stop m = m
 
-  turn-matched : (i : ℕ) (b : Build) → Matched (b .graph) → Matched (turnedTo (turnAt T i b))
+  turn-matched : (i : ℕ) (b : Build) → Matched (b .graph) → TurnMatched (turnAt T i b)
   unfolding turnAt
   turn-matched i b m =
       split (coreAt T i)
       (λ t. split (isLearnt (clauseOf T i))
-      (λ u. rw (t, turnAt, u, coreTurn) m)
+      (λ u. rw (t, turnAt, u, coreTurn) tt)
       (λ u. rw (t, turnAt, u, coreTurn) (expanded-matched (expand T (clauseOf T i) (handed i b)) (expand-matched (clauseOf T i) (handed i b) m))))
       (λ t. rw (t, turnAt) m)
 
-  build-step : (n i : ℕ) (b : Build) → ((c : Build) → Matched (c .graph) → Matched (builtTo (buildFrom n T (suc i) c))) → Matched (b .graph) → (t : Turned) → turnAt T i b ≡ t → Matched (builtTo (buildFrom (suc n) T i b))
+  build-step : (n i : ℕ) (b : Build) → ((c : Build) → Matched (c .graph) → BuiltMatched (buildFrom n T (suc i) c)) → Matched (b .graph) → (t : Turned) → turnAt T i b ≡ t → BuiltMatched (buildFrom (suc n) T i b)
   unfolding buildFrom
   build-step n i b f m (go c) q = rw (q, buildFrom) (f c (rw q at (turn-matched i b m)))
-  build-step n i b f m (halt k g) q = let u : Matched g = rw q at (turn-matched i b m) in rw (q, buildFrom) u
+  build-step n i b f m (halt k) q = rw (q, buildFrom) tt
 
-  from-matched : (n i : ℕ) (b : Build) → Matched (b .graph) → Matched (builtTo (buildFrom n T i b))
+  from-matched : (n i : ℕ) (b : Build) → Matched (b .graph) → BuiltMatched (buildFrom n T i b)
   unfolding buildFrom
   from-matched zero i b m = m
   from-matched (suc n) i b m = build-step n i b (λ c u. from-matched n (suc i) c u) m (turnAt T i b) refl

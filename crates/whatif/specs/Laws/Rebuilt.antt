@@ -58,7 +58,7 @@ node-new : (g : Graph) (x : ConflictNode) → (In x (g .nodes) → ⊥) → leng
 unfolding addNode
 node-new g x f h = rw (place-out x (g .nodes) 0 f, addNode, lt-ltb (length (g .nodes)) 128 h)
 
-node-full : (g : Graph) (x : ConflictNode) → (In x (g .nodes) → ⊥) → 128 ≤ length (g .nodes) → addNode g x ≡ full g
+node-full : (g : Graph) (x : ConflictNode) → (In x (g .nodes) → ⊥) → 128 ≤ length (g .nodes) → addNode g x ≡ full
 unfolding addNode
 node-full g x f h = rw (place-out x (g .nodes) 0 f, addNode, le-ltb (length (g .nodes)) 128 h)
 
@@ -87,17 +87,17 @@ link-asked H cl s r i n e =
     rw (node-old (handing cl H) (N.Solvable s) i, addLink, node-with (handing cl H) (N.Excluded r) n, lt-ltb (length (H .edges)) 1024 e)
 
 -- else 8
-pub link-full-node : (H : Graph) (cl s r : ℕ) → In (N.Solvable s) (H .nodes) → length (H .nodes) ≤ 128 → 128 < length (asked H cl s r .nodes) → addExcluded (handing cl H) s r ≡ full (handing cl H)
+pub link-full-node : (H : Graph) (cl s r : ℕ) → In (N.Solvable s) (H .nodes) → length (H .nodes) ≤ 128 → 128 < length (asked H cl s r .nodes) → addExcluded (handing cl H) s r ≡ full
 unfolding addLink asked
 link-full-node H cl s r i m n = by (withNode (H .nodes) (N.Excluded r)) (with-node (H .nodes) (N.Excluded r)) n
   where
-    by : (ms : List ConflictNode) → With (H .nodes) (N.Excluded r) ms → 128 < length ms → addExcluded (handing cl H) s r ≡ full (handing cl H)
+    by : (ms : List ConflictNode) → With (H .nodes) (N.Excluded r) ms → 128 < length ms → addExcluded (handing cl H) s r ≡ full
     by ms (there j) h = let f : ⊥ = omega arith in absurd f
     by ms (new f) h =
         let l : length (snoc (H .nodes) (N.Excluded r)) ≡ length (H .nodes) + 1 = length-append (H .nodes) (N.Excluded r ∷ []) in
         rw (node-old (handing cl H) (N.Solvable s) i, addLink, node-full (handing cl H) (N.Excluded r) f (omega arith))
 
-pub link-full-edge : (H : Graph) (cl s r : ℕ) → In (N.Solvable s) (H .nodes) → length (asked H cl s r .nodes) ≤ 128 → 1024 ≤ length (H .edges) → addExcluded (handing cl H) s r ≡ full (record { nodes = asked H cl s r .nodes; edges = H .edges; firsts = asked H cl s r .firsts; hand = cl })
+pub link-full-edge : (H : Graph) (cl s r : ℕ) → In (N.Solvable s) (H .nodes) → length (asked H cl s r .nodes) ≤ 128 → 1024 ≤ length (H .edges) → addExcluded (handing cl H) s r ≡ full
 unfolding addLink addEdge asked
 link-full-edge H cl s r i n e =
     rw (node-old (handing cl H) (N.Solvable s) i, addLink, node-with (handing cl H) (N.Excluded r) n, le-ltb (length (H .edges)) 1024 e)

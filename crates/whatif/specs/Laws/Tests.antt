@@ -131,21 +131,11 @@ module _ (g : List ℕ) (s : Size) (S : Stored g s) where
       let x : nodeAt (graphIn g s) 1 ≡ N.Root = List·getD-eq-default (graphIn g s .nodes) N.Root (omega (arith, nodes-count g s S)) in
       rw x (ap isUnresolved (sym y ∙ ap nodeOf z)))
 
-  module _ (x : ConflictNode) (q : x ≡ nodeIn g 1) where
-    is-first : isUnresolved (nodeAt (graphIn g s) 1) ≡ isUnresolved x
-    is-first = sym one-is ∙ ap isUnresolved (sym q)
+  pub gone-is : (u : Bool) → u ≡ false → u ≡ isUnresolved (nodeIn g 1) → 1 ≡ goneCount (graphIn g s)
+  gone-is u t q = rw (← one-is, ← q, t)
 
-    pub gone-root : x ≡ N.Root → 1 ≡ goneCount (graphIn g s)
-    gone-root e = rw (is-first, e)
-
-    pub gone-solvable : (n : ℕ) → x ≡ N.Solvable n → 1 ≡ goneCount (graphIn g s)
-    gone-solvable n e = rw (is-first, e)
-
-    pub gone-not : x ≡ N.UnresolvedDependency → 0 ≡ goneCount (graphIn g s)
-    gone-not e = rw (is-first, e)
-
-    pub gone-excluded : (n : ℕ) → x ≡ N.Excluded n → 1 ≡ goneCount (graphIn g s)
-    gone-excluded n e = rw (is-first, e)
+  pub gone-not : (u : Bool) → u ≡ true → u ≡ isUnresolved (nodeIn g 1) → 0 ≡ goneCount (graphIn g s)
+  gone-not u t q = rw (← one-is, ← q, t)
 
 -- ---- 8
 

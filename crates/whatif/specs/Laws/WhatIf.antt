@@ -117,15 +117,15 @@ from T G e = by (buildOf T) refl
 
     by : (B : Built) → buildOf T ≡ B → From T G
     by (built b) q = end b q (unreached (settle (b .graph))) refl
-    by (stopped k i g) q = let z : refused k i ≡ drawn G = rw (q, graphOf) at e in clash (cc)
+    by (stopped k i) q = let z : refused k i ≡ drawn G = rw (q, graphOf) at e in clash (cc)
 
 drawn-by : (U : Tables) (b : Build) → buildOf U ≡ built b → unreached (settle (b .graph)) ≡ none → graphOf U ≡ drawn (settle (b .graph))
 unfolding graphOf finished
 drawn-by U b q u = rw (q, graphOf, u, finished)
 
-refused-by : (U : Tables) (k i : ℕ) (g : Graph) → buildOf U ≡ stopped k i g → graphOf U ≡ refused k i
+refused-by : (U : Tables) (k i : ℕ) → buildOf U ≡ stopped k i → graphOf U ≡ refused k i
 unfolding graphOf
-refused-by U k i g q = rw (q, graphOf)
+refused-by U k i q = rw (q, graphOf)
 
 module _ (T : Tables) (valid : Valid T) (U : Tables) (s r : ℕ) (E : Extended T U s r) (k : r < length (T .reasons)) where
   module _ (b : Build) (q : buildOf T ≡ built b) (L : Laid (settle (b .graph))) (i : In (N.Solvable s) (settle (b .graph) .nodes)) (ks : s < length (T .solvables)) where
@@ -164,11 +164,11 @@ module _ (T : Tables) (valid : Valid T) (U : Tables) (s r : ℕ) (E : Extended T
         let c : length (asked (settle (b .graph)) (length (T .clauses)) s r .nodes) + goneCount (settle (b .graph)) ≡ length (asked (b .graph) (length (T .clauses)) s r .nodes) = count-asked T (b .graph) shaped (length (T .clauses)) s r in
         let w : length (settle (b .graph) .edges) ≡ length (b .graph .edges) = settled-edges T (b .graph) shaped in
         split (ltb 128 (length (asked (b .graph) (length (T .clauses)) s r .nodes)))
-        (λ t. refused-by U 8 (length (T .clauses)) (handing (length (T .clauses)) (b .graph)) (extended-full T U valid s r E b q (handing (length (T .clauses)) (b .graph)) (link-full-node (b .graph) (length (T .clauses)) s r chosen-in (shaped .nodes-most) (ltb-true 128 (length (asked (b .graph) (length (T .clauses)) s r .nodes)) t))))
+        (λ t. refused-by U 8 (length (T .clauses)) (extended-full T U valid s r E b q (link-full-node (b .graph) (length (T .clauses)) s r chosen-in (shaped .nodes-most) (ltb-true 128 (length (asked (b .graph) (length (T .clauses)) s r .nodes)) t))))
         (λ t. let n : length (asked (b .graph) (length (T .clauses)) s r .nodes) ≤ 128 = ltb-false 128 (length (asked (b .graph) (length (T .clauses)) s r .nodes)) t in
         split (ltb (length (b .graph .edges)) 1024)
         (λ u. absurd (f (omega arith, (let x : length (b .graph .edges) < 1024 = ltb-true (length (b .graph .edges)) 1024 u in omega arith))))
-        (λ u. refused-by U 8 (length (T .clauses)) (record { nodes = asked (b .graph) (length (T .clauses)) s r .nodes; edges = b .graph .edges; firsts = asked (b .graph) (length (T .clauses)) s r .firsts; hand = length (T .clauses) }) (extended-full T U valid s r E b q (record { nodes = asked (b .graph) (length (T .clauses)) s r .nodes; edges = b .graph .edges; firsts = asked (b .graph) (length (T .clauses)) s r .firsts; hand = length (T .clauses) }) (link-full-edge (b .graph) (length (T .clauses)) s r chosen-in n (ltb-false (length (b .graph .edges)) 1024 u)))))
+        (λ u. refused-by U 8 (length (T .clauses)) (extended-full T U valid s r E b q (link-full-edge (b .graph) (length (T .clauses)) s r chosen-in n (ltb-false (length (b .graph .edges)) 1024 u)))))
 
   module _ (G : Graph) (d : graphOf T ≡ drawn G) (i : In (N.Solvable s) (G .nodes)) where
     known-solvable : s < length (T .solvables)

@@ -20,7 +20,8 @@ use Rattle.records.specs.declared.Shape.{Shape}
 use Rattle.records.specs.Shapes.{Rec, limit, shapeOf}
 use Rattle.records.specs.Tables.{Tables, noTables, tableOf, put, at, noRec}
 use Rattle.records.specs.Read.{shapeGood, numberGood, originGood}
-use Rattle.index.specs.Steps.{Passed, Steps, isIn, table-known, table-put, its-table, each-table, each-kind}
+use Rattle.records.specs.Steps.{Passed}
+use Rattle.index.specs.Steps.{Steps, isIn, table-known, table-put, its-table, each-table, each-kind}
 use Rattle.index.specs.Promise.{Right, Sound}
 use Rattle.writing.specs.Laws.Segments.{same-tables}
 

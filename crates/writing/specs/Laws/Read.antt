@@ -15,7 +15,7 @@ use Rattle.records.specs.declared.Step.the-variants.{Next, No}
 use Rattle.records.specs.Shapes.{Rec, shapeOf, limit}
 use Rattle.records.specs.Tables.{Tables, noTables, tableOf, put}
 use Rattle.records.specs.Read.{good, bad, readFrom, refusalIn}
-use Rattle.records.specs.Steps.{Fine, fine, read-unknown, read-next, read-stop}
+use Rattle.records.specs.Steps.{Passed, passed, read-unknown, read-next, read-stop}
 use Rattle.records.specs.Agree.{stepOf}
 use Rattle.records.specs.Laws.Step.{stepIn}
 use Rattle.index.specs.Steps.{isIn, table-put, its-table, each-table}
@@ -34,13 +34,13 @@ module _ (T : Tables) (r : Rec) where
   -- the record is refused, or goes into its table
   pub by-step : {X : Type 0}
       → ((n : ℕ) → stepIn T r ≡ No n → ((rs : List Rec) (i : ℕ) → readFrom (r ∷ rs) i T ≡ bad n i) → X)
-      → ((s : Shape) → shapeOf (r .kind) ≡ some s → Fine T s r → stepIn T r ≡ Next (s .table)
+      → ((s : Shape) → shapeOf (r .kind) ≡ some s → Passed T r s → stepIn T r ≡ Next (s .table)
       → ((rs : List Rec) (i : ℕ) → readFrom (r ∷ rs) i T ≡ readFrom rs (suc i) (put (s .table) r T)) → X)
       → X
   by-step {X} f g = go (shapeOf (r .kind)) refl
     where
       known : (s : Shape) → shapeOf (r .kind) ≡ some s → (n : ℕ) → refusalIn T s r ≡ n → X
-      known s e zero q = g s e (fine T s r q) (step-some s e ∙ ap (λ (n : ℕ). stepOf n (s .table)) q) (λ rs i. read-next r rs i T s e q)
+      known s e zero q = g s e (passed T r s e q) (step-some s e ∙ ap (λ (n : ℕ). stepOf n (s .table)) q) (λ rs i. read-next r rs i T s e q)
       known s e (suc n) q = f (suc n) (step-some s e ∙ ap (λ (n : ℕ). stepOf n (s .table)) q) (λ rs i. read-stop r rs i T s e n q)
 
       go : (o : Option Shape) → shapeOf (r .kind) ≡ o → X
@@ -74,7 +74,7 @@ Within T = (t : Table) → length (tableOf t T) ≤ limit t
 pub within-none : Within noTables
 within-none = each-table (λ t. length (tableOf t noTables) ≤ limit t) (omega arith) (omega arith) (omega arith) (omega arith) (omega arith) (omega arith) (omega arith) (omega arith) (omega arith)
 
-pub within-put : (T : Tables) (r : Rec) (s : Shape) → shapeOf (r .kind) ≡ some s → Fine T s r → Within T → Within (put (s .table) r T)
+pub within-put : (T : Tables) (r : Rec) (s : Shape) → shapeOf (r .kind) ≡ some s → Passed T r s → Within T → Within (put (s .table) r T)
 within-put T r s e f w u =
     let p = table-put u r s T e in
     split (isIn u r)

@@ -1,5 +1,5 @@
 use borrow.Author.Needs.{needs}
-use Rattle.explanation.specs.Turned.{Turned, kid-skip, kid-repeat, kid-show, known-at}
+use Rattle.explanation.specs.Turned.{Turned, kid-skip, kid-repeat, kid-show, known-at, framed-at}
 use native.Mathlib.Omega.{arith}
 use Rattle.explanation.proofs.turns.kid_turn.Statement.{statement}
 use Rattle.explanation.proofs.turns.kid_turn.Tie as tie
@@ -12,6 +12,21 @@ kid-turn-spec =
     (λ c κs. search needs) (λ c κs. (search needs, search needs)) (λ c. search needs)
     (λ c κs. omega (arith, c .before .before .before .before .before .before .before .before .pre))
     (λ c. search kid-skip) (λ c. search needs) (λ c. search kid-repeat) (λ c. search needs)
-    (λ c κs. (search needs, (search needs, (search needs, (search needs, (search needs, (search needs, search known-at)))))))
+    (λ c κs. (
+      search needs,
+      (
+        search needs,
+        (
+          search needs,
+          (
+            (search needs, (search needs, search framed-at)),
+            (
+              search needs,
+              (search needs, search known-at),
+            ),
+          ),
+        ),
+      ),
+    ))
     (λ c. search needs)
     (λ c. search (kid-show, c .before .before .before .before .before .before .before .before .before .before .before .before .before .pre)))

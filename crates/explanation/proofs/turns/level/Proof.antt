@@ -7,5 +7,6 @@ pub level-spec : {M : Type 1} → statement M
 level-spec =
     tie.close
     (tie.spec
-    (λ c. search needs) (λ c. search needs) (λ c. search needs) (λ c κs. search needs) (λ c. search step-kid)
-    (λ c. search needs) (λ c. search needs) (λ c κs. search needs) (λ c. search step-run) (λ c. search step-none))
+    (λ c. search needs) (λ c. search needs) (λ c. search needs) (λ c κs. search needs) (λ c. (search step-kid, search needs))
+    (λ c. search needs) (λ c. search needs) (λ c κs. search needs) (λ c. (search step-run, search needs))
+    (λ c. (search step-none, search needs)))

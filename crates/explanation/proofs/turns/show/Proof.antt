@@ -10,6 +10,6 @@ unfolding marksOf
 show-spec =
     tie.close
     (tie.spec
-    (λ c. search needs) (λ c κs. (search needs, (search lent-low, search needs)))
+    (λ c κs. (search needs, (search lent-low, search needs)))
     (λ c κs. (search needs, (search needs, (search needs, search needs)))) (λ c. search needs)
     (λ c. search show-settled))

@@ -9,7 +9,28 @@ unfolding Turned
 turn-spec =
     tie.close
     (tie.spec
-    (λ c κs. (search needs, (search needs, (search needs, (search needs, (search needs, (search level-kid, search needs)))))))
+    (λ c κs. (
+      search needs,
+      (
+        search needs,
+        (
+          search needs,
+          (
+            search needs,
+            (
+              search needs,
+              (
+                search level-kid,
+                (
+                  search needs,
+                  search needs,
+                ),
+              ),
+            ),
+          ),
+        ),
+      ),
+    ))
     (λ c. search needs) (λ c. search needs)
     (λ c κs. (search needs, (search needs, (search needs, (search needs, search level-run))))) (λ c. search needs)
     (λ c. c .before .before .run-turn .ensures _) (λ c κs. search needs)

@@ -1,5 +1,5 @@
 use borrow.Author.Needs.{needs}
-use Rattle.explanation.specs.Walk as W
+use Rattle.explanation.specs.Ends.{told-loops}
 use Rattle.explanation.proofs.walk.looped.Statement.{statement}
 use Rattle.explanation.proofs.walk.looped.Tie as tie
 
@@ -7,4 +7,4 @@ pub looped-spec : {M : Type 1} → statement M
 looped-spec =
     tie.close
     (tie.spec
-    (λ c κs. search needs) (λ c κs. search needs) (λ c κs. search needs) (λ c. search W.looped))
+    (λ c κs. search needs) (λ c κs. search needs) (λ c κs. search needs) (λ c. search told-loops))

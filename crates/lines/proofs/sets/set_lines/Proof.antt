@@ -1,5 +1,5 @@
 use borrow.Author.Needs.{needs}
-use Rattle.lines.specs.SetLaws.{Done, done-start, sets-full, sets-next, sets-end}
+use Rattle.lines.specs.SetLaws.{parents, Done, done-start, sets-full, sets-next, sets-end}
 use Prim.Native.Nat.{_≤_}
 use mathlib.Core.Path.{_≡_}
 use lib.ListN.{length}
@@ -11,7 +11,7 @@ use Rattle.lines.proofs.sets.set_lines.Statement.{statement}
 use Rattle.lines.proofs.sets.set_lines.Tie as tie
 
 abbrev Inv : tie.InvT-loop
-Inv file ix k out₀ g first end e₀ at₀ units₀ out e at units = (at ≤ length out) × ((length out ≡ length out₀) × ((units ≤ at) × Done (setsSaid (tablesOf file) (g .top) (marksOf g) (setsFrom k first end)) (setsSaid (tablesOf file) (g .top) (marksOf g) (setsFrom k first e)) out₀ out at units))
+Inv file ix k out₀ g first end e₀ at₀ units₀ out e at units = (at ≤ length out) × ((length out ≡ length out₀) × ((units ≤ at) × Done (setsSaid (tablesOf file) (g .top) (parents (marksOf g)) (setsFrom k first end)) (setsSaid (tablesOf file) (g .top) (parents (marksOf g)) (setsFrom k first e)) out₀ out at units))
 
 abbrev μ : tie.MeasureT-loop
 μ file ix k out₀ g first end e₀ at₀ units₀ out e at units = e

@@ -1,5 +1,5 @@
 use borrow.Author.Needs.{needs}
-use Rattle.store.specs.Adding.{settled-directs}
+use Rattle.store.specs.Finding.{settled-directs}
 use Rattle.store.proofs.behind.find_settled.Statement.{statement}
 use Rattle.store.proofs.behind.find_settled.Tie as tie
 

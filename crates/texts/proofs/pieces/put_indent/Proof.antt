@@ -8,5 +8,6 @@ put-indent-spec =
     tie.close
     (tie.spec
     (λ c κs. search needs) (λ c. search (needs, indent-none)) (λ c. search needs) (λ c κs. search needs)
-    (λ c κs. ((search (needs, indent-from), search needs), search (needs, indent-room))) (λ c. search needs) (λ c. search needs) (λ c. search needs) (λ c κs. search (needs, deepest-room, indent-room))
+    (λ c κs. ((search needs, search needs), ((search (needs, indent-from), search needs), search (needs, indent-room))))
+    (λ c. search needs) (λ c. search needs) (λ c. search needs) (λ c κs. search (needs, deepest-room, indent-room))
     (λ c. search needs) (λ c. search needs) (λ c. search (needs, indent-some)))

@@ -1,5 +1,5 @@
 use borrow.Author.Needs.{needs}
-use Rattle.whatif.specs.Laws.Tests.{gone-root, gone-solvable, gone-not, gone-excluded}
+use Rattle.whatif.specs.Laws.Tests.{gone-is, gone-not}
 use Rattle.whatif.proofs.tests.gone.Statement.{statement}
 use Rattle.whatif.proofs.tests.gone.Tie as tie
 
@@ -8,11 +8,5 @@ gone-spec =
     tie.close
     (tie.spec
     (λ c κs. search needs)
-    (λ c. search needs)
-    (λ c. search needs)
-    (λ c. search needs)
-    (λ c. search needs)
-    (λ c. (search (needs, gone-root), search needs))
-    (λ c. (search (needs, gone-solvable), search needs))
     (λ c. (search (needs, gone-not), search needs))
-    (λ c. (search (needs, gone-excluded), search needs)))
+    (λ c. (search (needs, gone-is), search needs)))
