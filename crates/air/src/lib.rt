@@ -4,9 +4,12 @@ ghost use Rattle.records.specs.Read.{tablesOf};
 ghost use Rattle.index.specs.Index.{Loaded};
 ghost use Rattle.store.specs.Table.{graphIn};
 ghost use Rattle.links.specs.Build.{Chains};
-ghost use Rattle.reach.specs.Queue.{lowestOf};
+ghost use Rattle.links.specs.Queue.{lowestOf};
 ghost use Rattle.air.specs.Profile.{isLock, lockAt, firstLock, graphProfile, profileOf};
+use index::Slots;
 use records::Clause;
+use store::ChainWords;
+use store::GraphWords;
 use store::Size;
 
 // Passed, or one of 15 to 17 with its place.
@@ -40,7 +43,7 @@ fn is_lock(c: Clause) -> bool
 }
 
 // Clause i is a Lock and in the core.
-fn lock_at(file: &[u8], ix: &[u16; 10432], i: usize) -> bool
+fn lock_at(file: &[u8], ix: &Slots, i: usize) -> bool
     requires { ⌜ Loaded (now file) (now ix) ⌝ }
     ensures { λ r. ⌜ r ≡ lockAt (tablesOf (now (file .entry))) i ⌝ }
 {
@@ -53,7 +56,7 @@ fn lock_at(file: &[u8], ix: &[u16; 10432], i: usize) -> bool
 
 // One more than the number of the first Lock in the core, or 0. A file has at most 1,024 clauses, and none past its last is in the
 // core.
-fn first_lock(file: &[u8], ix: &[u16; 10432]) -> usize
+fn first_lock(file: &[u8], ix: &Slots) -> usize
     requires { ⌜ Loaded (now file) (now ix) ⌝ }
     ensures { λ r. ⌜ r ≡ lowestOf (firstLock (tablesOf (now (file .entry)))) ⌝ }
 {
@@ -69,7 +72,7 @@ fn first_lock(file: &[u8], ix: &[u16; 10432]) -> usize
 }
 
 // 16, then 17.
-fn graph_profile(g: &[u64; 1152], s: Size, ls: &[u16; 3456]) -> Profile
+fn graph_profile(g: &GraphWords, s: Size, ls: &ChainWords) -> Profile
     requires { ⌜ Chains (now g) s (now ls) ⌝ }
     ensures { λ r. ⌜ r ≡ graphProfile (graphIn (now (g .entry)) s) ⌝ }
 {
@@ -85,7 +88,7 @@ fn graph_profile(g: &[u64; 1152], s: Size, ls: &[u16; 3456]) -> Profile
 }
 
 // 15, then 16 and 17.
-pub fn within(file: &[u8], ix: &[u16; 10432], g: &[u64; 1152], s: Size, ls: &[u16; 3456]) -> Profile
+pub fn within(file: &[u8], ix: &Slots, g: &GraphWords, s: Size, ls: &ChainWords) -> Profile
     requires { ⌜ Loaded (now file) (now ix) ⌝ }
     requires { ⌜ Chains (now g) s (now ls) ⌝ }
     ensures { λ r. ⌜ r ≡ profileOf (tablesOf (now (file .entry))) (graphIn (now (g .entry)) s) ⌝ }

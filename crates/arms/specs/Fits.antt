@@ -10,8 +10,8 @@ use Rattle.basis.specs.Guard.{guard}
 use Rattle.basis.specs.Members.{clash}
 use Rattle.records.specs.declared.Allowed.{Allowed}
 use Rattle.records.specs.declared.Allowed.the-variants as A
-use Rattle.records.specs.declared.Answer.{Answer}
-use Rattle.records.specs.declared.Answer.the-variants.{Accepted, Refused}
+use Rattle.records.specs.declared.ReadAnswer.{ReadAnswer}
+use Rattle.records.specs.declared.ReadAnswer.the-variants.{Accepted, Refused}
 use Rattle.records.specs.declared.Counts.{Counts}
 use Rattle.records.specs.declared.First.the-variants as F
 use Rattle.records.specs.declared.Found.{Found}
@@ -19,14 +19,16 @@ use Rattle.records.specs.declared.Found.the-variants.{Known}
 use Rattle.records.specs.declared.Shape.{Shape}
 use Rattle.records.specs.declared.Slot.{Slot}
 use Rattle.records.specs.declared.Slot.the-variants as S
-use Rattle.records.specs.declared.Step.{Step}
-use Rattle.records.specs.declared.Step.the-variants.{Next, No}
+use Rattle.records.specs.declared.CountStep.{CountStep}
+use Rattle.records.specs.declared.CountStep.the-variants.{Next, No}
 use Rattle.records.specs.declared.Table.{Table}
 use Rattle.records.specs.declared.Table.the-variants.{Names, Solvables, VersionSets, Requirements, Candidates, Reasons, Variables, Assigned, Clauses}
 use Rattle.records.specs.Shapes.{Rec, shapeOf, recordsOf}
 use Rattle.records.specs.Tables.{at}
 use Rattle.records.specs.Text.{textPass, firstPass}
-use Rattle.records.specs.Pass.{foundAt, countPass, limitPass, isNext, isBefore, hasRoom, fieldPass, namedZero, shapePass, namedPass, freePass, numberPass, numbersPass, allowsPass, markOrigin, originPass, originsPass, admitPass, checkAt, checkPass, moreOf, noted, turnPass, marksPass, leftPass, turn-on, marks-on, left-next}
+use Rattle.records.specs.Pass.{foundAt, countPass, limitPass, isNext, isBefore, hasRoom, fieldPass, namedZero, shapePass, namedPass, freePass, numberPass}
+use Rattle.records.specs.Pass.{numbersPass, allowsPass, markOrigin, originPass, originsPass, admitPass, checkAt, checkPass, moreOf, noted, turnPass, marksPass}
+use Rattle.records.specs.Pass.{leftPass, turn-on, marks-on, left-next}
 
 -- ---- what the arms ask
 
@@ -119,15 +121,15 @@ assignedFits c m r n k =
     (firstPass F.Unused r))))
 
 -- what an arm said; No 0 for nothing
-unfoldable pub saidBy : Bool → Table → Step
+unfoldable pub saidBy : Bool → Table → CountStep
 saidBy f t = cond f (Next t) (No 0)
 
 -- a step that goes on is the check's
-unfoldable pub Sure : Counts → List ℕ → Rec → Step → Type 0
+unfoldable pub Sure : Counts → List ℕ → Rec → CountStep → Type 0
 Sure c m r s = (t : Table) → s ≡ Next t → s ≡ checkPass c m r
 
 -- a turn by an arm: where it goes on, with the counts and the marks of the check; where it does not, with the marks as they were
-unfoldable pub SureTurn : Counts → List ℕ → Rec → ℕ → Answer → List ℕ → Type 0
+unfoldable pub SureTurn : Counts → List ℕ → Rec → ℕ → ReadAnswer → List ℕ → Type 0
 SureTurn c m r i s u =
     ((d : Counts) → s ≡ Accepted d → (s ≡ turnPass c m r i) × (u ≡ marksPass c m r)) × ((k p : ℕ) → s ≡ Refused k p → u ≡ m)
 
@@ -205,20 +207,22 @@ module _ (c : Counts) (m : List ℕ) (r : Rec) where
   all-fit s e h x y z =
       rw (e, x .field, y .field, z .field, h, x .number, y .number, z .number, x .origin, y .origin, z .origin)
 
-  by-shape : (s : Shape) (f : Bool) (q : Step) → foundAt (r .kind) ≡ Known s → q ≡ saidBy f (s .table) → (f ≡ true → Next (s .table) ≡ admitPass c m s r) → Sure c m r q
+  by-shape : (s : Shape) (f : Bool) (q : CountStep) → foundAt (r .kind) ≡ Known s → q ≡ saidBy f (s .table) → (f ≡ true → Next (s .table) ≡ admitPass c m s r)
+      → Sure c m r q
   unfolding Sure saidBy checkPass
   by-shape s true q h e g = λ t y. e ∙ (g refl ∙ ap (λ (o : Found). checkAt c m r o) (sym h))
   by-shape s false q h e g = λ t y. clash cc
 
   -- the arm of kind n, whose shape is s
-  by-arm : (k n : ℕ) (s : Shape) (f : Bool) (q : Step) → k ≡ n → k ≡ r .kind → foundAt n ≡ Known s → q ≡ saidBy f (s .table) → (f ≡ true → Next (s .table) ≡ admitPass c m s r) → Sure c m r q
+  by-arm : (k n : ℕ) (s : Shape) (f : Bool) (q : CountStep) → k ≡ n → k ≡ r .kind → foundAt n ≡ Known s → q ≡ saidBy f (s .table)
+      → (f ≡ true → Next (s .table) ≡ admitPass c m s r) → Sure c m r q
   by-arm k n s f q e w h p g = by-shape s f q (ap foundAt (sym w ∙ e) ∙ h) p g
 
   pub sure-none : Sure c m r (No 0)
   unfolding Sure
   sure-none = λ t y. clash cc
 
-  pub sure-step : (q : Step) (t : Table) → Sure c m r q → q ≡ Next t → q ≡ checkPass c m r
+  pub sure-step : (q : CountStep) (t : Table) → Sure c m r q → q ≡ Next t → q ≡ checkPass c m r
   unfolding Sure
   sure-step q t h e = h t e
 
@@ -301,7 +305,7 @@ module _ (c : Counts) (m : List ℕ) (r : Rec) where
 
   -- ---- one law a kind
 
-  module _ (k : ℕ) (f : Bool) (q : Step) where
+  module _ (k : ℕ) (f : Bool) (q : CountStep) where
     pub sure-name : k ≡ 1 → q ≡ saidBy f Names → f ≡ textedFits r (c .names) 128 → k ≡ r .kind → Sure c m r q
     unfolding foundAt shapeOf countPass limitPass
     sure-name e p h w = by-arm k 1 _ f q e w refl p (λ y. texted-fits Names (c .names) 128 refl refl (sym h ∙ y))
@@ -358,15 +362,18 @@ module _ (c : Counts) (m : List ℕ) (r : Rec) where
     unfolding foundAt shapeOf
     sure-forbid e p h w = by-arm k 21 _ f q e w refl p (λ y. pair-fits A.Solvable A.ForbidMultiple (sym h ∙ y))
 
-    pub sure-constrains : k ≡ 22 → q ≡ saidBy f Clauses → f ≡ boundedFits m r (c .clauses) (c .variables) (c .sets) A.SolvableOrRoot A.Solvable → k ≡ r .kind → Sure c m r q
+    pub sure-constrains : k ≡ 22 → q ≡ saidBy f Clauses → f ≡ boundedFits m r (c .clauses) (c .variables) (c .sets) A.SolvableOrRoot A.Solvable → k ≡ r .kind
+        → Sure c m r q
     unfolding foundAt shapeOf
     sure-constrains e p h w = by-arm k 22 _ f q e w refl p (λ y. bounded-fits A.SolvableOrRoot A.Solvable (sym h ∙ y))
 
-    pub sure-parent : k ≡ 23 → q ≡ saidBy f Clauses → f ≡ boundedFits m r (c .clauses) (c .variables) (c .sets) A.SolvableOrRoot A.Auxiliary → k ≡ r .kind → Sure c m r q
+    pub sure-parent : k ≡ 23 → q ≡ saidBy f Clauses → f ≡ boundedFits m r (c .clauses) (c .variables) (c .sets) A.SolvableOrRoot A.Auxiliary → k ≡ r .kind
+        → Sure c m r q
     unfolding foundAt shapeOf
     sure-parent e p h w = by-arm k 23 _ f q e w refl p (λ y. bounded-fits A.SolvableOrRoot A.Auxiliary (sym h ∙ y))
 
-    pub sure-barred : k ≡ 24 → q ≡ saidBy f Clauses → f ≡ boundedFits m r (c .clauses) (c .variables) (c .sets) A.Solvable A.Auxiliary → k ≡ r .kind → Sure c m r q
+    pub sure-barred : k ≡ 24 → q ≡ saidBy f Clauses → f ≡ boundedFits m r (c .clauses) (c .variables) (c .sets) A.Solvable A.Auxiliary → k ≡ r .kind
+        → Sure c m r q
     unfolding foundAt shapeOf
     sure-barred e p h w = by-arm k 24 _ f q e w refl p (λ y. bounded-fits A.Solvable A.Auxiliary (sym h ∙ y))
 
@@ -376,7 +383,7 @@ module _ (c : Counts) (m : List ℕ) (r : Rec) where
 
 -- ---- a turn by an arm
 
-module _ (c : Counts) (m : List ℕ) (r : Rec) (i : ℕ) (q : Step) where
+module _ (c : Counts) (m : List ℕ) (r : Rec) (i : ℕ) (q : CountStep) where
   pub sure-no : (k : ℕ) → q ≡ No k → SureTurn c m r i (Refused 0 0) m
   unfolding SureTurn
   sure-no k e = (λ d y. clash cc, λ l p y. refl)
@@ -387,11 +394,12 @@ module _ (c : Counts) (m : List ℕ) (r : Rec) (i : ℕ) (q : Step) where
       let z : q ≡ checkPass c m r = sure-step c m r q t h e in
       (λ f y. (turn-on c m r q z i t d e w, marks-on c m r q z t u e v), λ l p y. clash cc)
 
-module _ (file : List ℕ) (i : ℕ) (c : Counts) (m u : List ℕ) (w s : Answer) (inv : leftPass file i c m ≡ w) (h : SureTurn c m (at (recordsOf file) i) i s u) where
+module _ (file : List ℕ) (i : ℕ) (c : Counts) (m u : List ℕ) (w s : ReadAnswer) (inv : leftPass file i c m
+    ≡ w) (h : SureTurn c m (at (recordsOf file) i) i s u) where
   pub quick-next : (d : Counts) → s ≡ Accepted d → i < length file / 32 → leftPass file (i + 1) d u ≡ w
   unfolding SureTurn
   quick-next d e l = let z = h .0 d e in left-next file i c m w inv s l (z .0) d u e (z .1)
 
-  pub quick-stop : (k p : ℕ) (a : Answer) → s ≡ Refused k p → a ≡ leftPass file i c u → a ≡ w
+  pub quick-stop : (k p : ℕ) (a : ReadAnswer) → s ≡ Refused k p → a ≡ leftPass file i c u → a ≡ w
   unfolding SureTurn
   quick-stop k p a e z = z ∙ ap (leftPass file i c) (h .1 k p e) ∙ inv

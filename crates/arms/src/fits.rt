@@ -1,9 +1,9 @@
 // A good record by the arm of its kind: all that is asked of it at once, on plain numbers. Where an arm says no, `check` says why.
 use basis::wide16;
 use records::Allowed;
-use records::Answer;
+use records::CountStep;
 use records::Counts;
-use records::Step;
+use records::ReadAnswer;
 use records::Table;
 use records::check::mark_origin;
 use records::fields::a_at;
@@ -23,7 +23,8 @@ ghost use mathlib.Core.Path.{_≡_};
 ghost use Prim.Native.Nat.{_<_};
 ghost use Rattle.records.specs.Shapes.{recordsOf};
 ghost use Rattle.records.specs.Tables.{at};
-ghost use Rattle.arms.specs.Fits.{textedFits, namedFits, candidateFits, standsFits, variableFits, originFits, refersFits, aloneFits, partiesFit, pairFits, boundedFits, assignedFits, saidBy, Sure, SureTurn};
+ghost use Rattle.arms.specs.Fits.{textedFits, namedFits, candidateFits, standsFits, variableFits, originFits, refersFits, aloneFits, partiesFit};
+ghost use Rattle.arms.specs.Fits.{pairFits, boundedFits, assignedFits, saidBy, Sure, SureTurn};
 
 // Fields a, b and c as indices.
 fn wide_a(file: &[u8], i: usize) -> usize
@@ -253,17 +254,17 @@ fn assigned(file: &[u8], i: usize, c: Counts, m: &[u16], n: usize, k: usize) -> 
 }
 
 // What an arm said; 0 for nothing.
-fn said(f: bool, t: Table) -> Step
+fn said(f: bool, t: Table) -> CountStep
     ensures { λ r. ⌜ r ≡ saidBy f t ⌝ }
 {
     if f {
-        return Step::Next(t);
+        return CountStep::Next(t);
     }
-    Step::No(0)
+    CountStep::No(0)
 }
 
 // Record i by the arm of its kind.
-fn quick(file: &[u8], i: usize, c: Counts, m: &[u16]) -> Step
+fn quick(file: &[u8], i: usize, c: Counts, m: &[u16]) -> CountStep
     ensures { λ r. ⌜ Sure c (now (m .entry)) (at (recordsOf (now (file .entry))) i) r ⌝ }
 {
     let kind = kind_at(file, i);
@@ -394,23 +395,23 @@ fn quick(file: &[u8], i: usize, c: Counts, m: &[u16]) -> Step
             let f = pair(file, i, m, n, v, Allowed::Any, Allowed::Any);
             said(f, Table::Clauses)
         }
-        _ => Step::No(0),
+        _ => CountStep::No(0),
     }
 }
 
 // Record i by the arm of its kind: the counts after it, with its mark noted; a refusal of number 0, and no mark, where the arm says no.
-pub fn quick_turn(file: &[u8], i: usize, c: Counts, m: &mut [u16]) -> Answer
+pub fn quick_turn(file: &[u8], i: usize, c: Counts, m: &mut [u16]) -> ReadAnswer
     ensures { λ r. ⌜ SureTurn c (now (m .entry)) (at (recordsOf (now (file .entry))) i) i r (now (m .exit)) ⌝ }
 {
     let s = quick(file, i, c, m);
     match s {
-        Step::No(_) => Answer::Refused {
+        CountStep::No(_) => ReadAnswer::Refused {
             number: 0,
             place: 0,
         },
-        Step::Next(t) => {
+        CountStep::Next(t) => {
             note(file, i, t, m);
-            Answer::Accepted(more(t, c))
+            ReadAnswer::Accepted(more(t, c))
         }
     }
 }

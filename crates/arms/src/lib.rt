@@ -4,8 +4,8 @@
 mod fits;
 
 use fits::quick_turn;
-use records::Answer;
 use records::Counts;
+use records::ReadAnswer;
 use records::pass::turn;
 ghost use mathlib.Core.Path.{_≡_};
 ghost use Rattle.records.specs.Shapes.{recordsOf};
@@ -13,7 +13,7 @@ ghost use Rattle.records.specs.Read.{readOf, answerOf};
 ghost use Rattle.records.specs.Pass.{passFrom, leftPass, noCounts};
 
 // The records from i on, with the counts and marks of those before, by the check that says why a record is refused.
-fn rest(file: &[u8], m: &mut [u16], i: usize, c: Counts) -> Answer
+fn rest(file: &[u8], m: &mut [u16], i: usize, c: Counts) -> ReadAnswer
     ensures { λ r. ⌜ r ≡ leftPass (now (file .entry)) i c (now (m .entry)) ⌝ }
 {
     let n = file.len() / 32;
@@ -21,17 +21,17 @@ fn rest(file: &[u8], m: &mut [u16], i: usize, c: Counts) -> Answer
     let mut j = i;
     while j < n {
         let s = turn(file, j, d, m);
-        let Answer::Accepted(e) = s else {
+        let ReadAnswer::Accepted(e) = s else {
             return s;
         };
         d = e;
         j += 1;
     }
-    Answer::Accepted(d)
+    ReadAnswer::Accepted(d)
 }
 
 // All records in their order, with a mark of 0 for each variable at first: by the arms of their kinds until one says no.
-fn run(file: &[u8], m: &mut [u16]) -> Answer
+fn run(file: &[u8], m: &mut [u16]) -> ReadAnswer
     ensures { λ r. ⌜ r ≡ passFrom (recordsOf (now (file .entry))) 0 noCounts (now (m .entry)) ⌝ }
 {
     let n = file.len() / 32;
@@ -49,28 +49,28 @@ fn run(file: &[u8], m: &mut [u16]) -> Answer
     let mut i = 0;
     while i < n {
         let s = quick_turn(file, i, c, m);
-        let Answer::Accepted(d) = s else {
+        let ReadAnswer::Accepted(d) = s else {
             return rest(file, m, i, c);
         };
         c = d;
         i += 1;
     }
-    Answer::Accepted(c)
+    ReadAnswer::Accepted(c)
 }
 
 // Reads a file of records: how many each table has, or the first refusal (1 to 6) with its place.
-pub fn read(file: &[u8]) -> Answer
+pub fn read(file: &[u8]) -> ReadAnswer
     ensures { λ r. ⌜ r ≡ answerOf (readOf (now (file .entry))) ⌝ }
 {
     let len = file.len();
     if 65536 < len {
-        return Answer::Refused {
+        return ReadAnswer::Refused {
             number: 1,
             place: 0,
         };
     }
     if len % 32 != 0 {
-        return Answer::Refused {
+        return ReadAnswer::Refused {
             number: 1,
             place: 0,
         };

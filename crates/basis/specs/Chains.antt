@@ -196,11 +196,13 @@ module _ (L : Layout) (F : Fits L) (ls : List ℕ) (wide : length ls ≡ L .size
 -- ---- building, newest first
 
 -- no item yet: every head is 0
-pub chain-none : (L : Layout) (key : ℕ → ℕ) (ls : List ℕ) → Fits L → length ls ≡ L .size → ((n : ℕ) → n < L .keys → getD ls (slot (L .heads) n) 0 ≡ 0) → Chained L key ls 0
+pub chain-none : (L : Layout) (key : ℕ → ℕ) (ls : List ℕ) → Fits L → length ls ≡ L .size → ((n : ℕ) → n < L .keys → getD ls (slot (L .heads) n) 0 ≡ 0)
+    → Chained L key ls 0
 unfolding newest
 chain-none L key ls F w z = record { fits = F; wide = w; most = omega arith; head = z; link = λ e l k. absurd (not-suc-le-zero l) }
 
-chain-in : (L : Layout) (key : ℕ → ℕ) (ls : List ℕ) (i n : ℕ) → Chained L key ls i → n ≡ key i → n < L .keys → i < L .items → Chained L key (linked L ls i n) (suc i)
+chain-in : (L : Layout) (key : ℕ → ℕ) (ls : List ℕ) (i n : ℕ) → Chained L key ls i → n ≡ key i → n < L .keys → i < L .items
+    → Chained L key (linked L ls i n) (suc i)
 chain-in L key ls i n C q f s = record { fits = C .fits; wide = linked-wide L (C .fits) ls (C .wide) i n s f; most = s; head = heads; link = links }
   where
     heads : (k : ℕ) → k < L .keys → getD (linked L ls i n) (slot (L .heads) k) 0 ≡ newest key (suc i) k
@@ -217,16 +219,19 @@ chain-in L key ls i n C q f s = record { fits = C .fits; wide = linked-wide L (C
         linked-links L (C .fits) ls (C .wide) i n s f e (omega (arith, d)) d ∙ C .link e (omega (arith, d)) k)
 
 -- item i is put in, in a function of its own
-pub chain-link : (L : Layout) (key : ℕ → ℕ) (ls l : List ℕ) (i n : ℕ) → Chained L key ls i → l ≡ linked L ls i n → n ≡ key i → n < L .keys → i < L .items → Chained L key l (i + 1)
+pub chain-link : (L : Layout) (key : ℕ → ℕ) (ls l : List ℕ) (i n : ℕ) → Chained L key ls i → l ≡ linked L ls i n → n ≡ key i → n < L .keys → i < L .items
+    → Chained L key l (i + 1)
 chain-link L key ls l i n C e q f s = rw e (rw (← add-one i) at (chain-in L key ls i n C q f s))
 
 -- item i is put in; the loop runs while i < m
-pub chain-next : (L : Layout) (key : ℕ → ℕ) (ls l : List ℕ) (i n m : ℕ) → Chained L key ls i → l ≡ linked L ls i n → n ≡ key i → n < L .keys → i < m → m ≤ L .items → Chained L key l (i + 1)
+pub chain-next : (L : Layout) (key : ℕ → ℕ) (ls l : List ℕ) (i n m : ℕ) → Chained L key ls i → l ≡ linked L ls i n → n ≡ key i → n < L .keys → i < m
+    → m ≤ L .items → Chained L key l (i + 1)
 chain-next L key ls l i n m C e q f im mm = chain-link L key ls l i n C e q f (omega arith)
 
 -- ---- building, oldest first
 
-pub rise-none : (L : Layout) (key : ℕ → ℕ) (ls : List ℕ) (m : ℕ) → Fits L → length ls ≡ L .size → m ≤ L .items → ((n : ℕ) → n < L .keys → getD ls (slot (L .heads) n) 0 ≡ 0) → Risen L key ls m m
+pub rise-none : (L : Layout) (key : ℕ → ℕ) (ls : List ℕ) (m : ℕ) → Fits L → length ls ≡ L .size → m ≤ L .items
+    → ((n : ℕ) → n < L .keys → getD ls (slot (L .heads) n) 0 ≡ 0) → Risen L key ls m m
 rise-none L key ls m F w mm z =
     record { fits = F; wide = w; most = mm; head = λ n h. z n h ∙ sym (oldest-past key m m n (omega arith)); link = λ e a b k. absurd (never e a b) }
   where
@@ -253,7 +258,8 @@ rise-in L key ls m i n R q f im = record { fits = R .fits; wide = linked-wide L 
         linked-links L (R .fits) ls (R .wide) i n s f e (omega (arith, R .most)) d ∙ R .link e (omega (arith, d)) b k)
 
 -- item j - 1 is put in; the loop runs while 0 < j
-pub rise-next : (L : Layout) (key : ℕ → ℕ) (ls l : List ℕ) (m j n : ℕ) → Risen L key ls m j → l ≡ linked L ls (j - 1) n → n ≡ key (j - 1) → n < L .keys → 0 < j → j ≤ m → Risen L key l m (j - 1)
+pub rise-next : (L : Layout) (key : ℕ → ℕ) (ls l : List ℕ) (m j n : ℕ) → Risen L key ls m j → l ≡ linked L ls (j - 1) n → n ≡ key (j - 1) → n < L .keys → 0 < j
+    → j ≤ m → Risen L key l m (j - 1)
 rise-next L key ls l m j n R e q f p jm =
     let z : j ≡ suc (j - 1) = omega arith in
     rw e (rise-in L key ls m (j - 1) n (rw z at R) q f (omega arith))
@@ -266,22 +272,39 @@ pub record Outside (L : Layout) (a : ℕ) : Type 0 where
   pub off-heads : (n : ℕ) → n < L .keys → L .heads + n ≡ a → ⊥
 
 -- l holds the chains of ls
-pub record Same (L : Layout) (ls l : List ℕ) : Type 0 where
+pub record SameChains (L : Layout) (ls l : List ℕ) : Type 0 where
   pub long : length l ≡ length ls
   pub same-link : (e : ℕ) → e < L .items → getD l (slot (L .links) e) 0 ≡ getD ls (slot (L .links) e) 0
   pub same-head : (n : ℕ) → n < L .keys → getD l (slot (L .heads) n) 0 ≡ getD ls (slot (L .heads) n) 0
 
-pub same-put : (L : Layout) (ls l : List ℕ) (a v : ℕ) → l ≡ set ls a v → Outside L a → Same L ls l
+pub same-put : (L : Layout) (ls l : List ℕ) (a v : ℕ) → l ≡ set ls a v → Outside L a → SameChains L ls l
 same-put L ls l a v q o =
-    rw q (record { long = length-set ls a v; same-link = λ e h. getD-set-other ls a (slot (L .links) e) v 0 (λ z. o .off-links e h (sym (slot-is (L .links) e) ∙ z)); same-head = λ n h. getD-set-other ls a (slot (L .heads) n) v 0 (λ z. o .off-heads n h (sym (slot-is (L .heads) n) ∙ z)) })
+    rw q (record {
+      long = length-set ls a v;
+      same-link = λ e h. getD-set-other ls a (slot (L .links) e) v 0 (λ z. o .off-links e h (sym (slot-is (L .links) e)
+          ∙ z));
+      same-head = λ n h. getD-set-other ls a (slot (L .heads) n) v 0 (λ z. o .off-heads n h (sym (slot-is (L .heads) n) ∙ z));
+    })
 
-pub chain-same : (L : Layout) (key : ℕ → ℕ) (ls l : List ℕ) (m : ℕ) → Chained L key ls m → Same L ls l → Chained L key l m
+pub chain-same : (L : Layout) (key : ℕ → ℕ) (ls l : List ℕ) (m : ℕ) → Chained L key ls m → SameChains L ls l → Chained L key l m
 chain-same L key ls l m C S =
-    record { fits = C .fits; wide = S .long ∙ C .wide; most = C .most; head = λ n h. S .same-head n h ∙ C .head n h; link = λ e h k. S .same-link e (omega (arith, C .most)) ∙ C .link e h k }
+    record {
+      fits = C .fits;
+      wide = S .long ∙ C .wide;
+      most = C .most;
+      head = λ n h. S .same-head n h ∙ C .head n h;
+      link = λ e h k. S .same-link e (omega (arith, C .most)) ∙ C .link e h k;
+    }
 
-pub rise-same : (L : Layout) (key : ℕ → ℕ) (ls l : List ℕ) (m j : ℕ) → Risen L key ls m j → Same L ls l → Risen L key l m j
+pub rise-same : (L : Layout) (key : ℕ → ℕ) (ls l : List ℕ) (m j : ℕ) → Risen L key ls m j → SameChains L ls l → Risen L key l m j
 rise-same L key ls l m j R S =
-    record { fits = R .fits; wide = S .long ∙ R .wide; most = R .most; head = λ n h. S .same-head n h ∙ R .head n h; link = λ e a h k. S .same-link e (omega (arith, R .most)) ∙ R .link e a h k }
+    record {
+      fits = R .fits;
+      wide = S .long ∙ R .wide;
+      most = R .most;
+      head = λ n h. S .same-head n h ∙ R .head n h;
+      link = λ e a h k. S .same-link e (omega (arith, R .most)) ∙ R .link e a h k;
+    }
 
 -- a store elsewhere, as code leaves it
 pub chain-put : (L : Layout) (key : ℕ → ℕ) (ls l : List ℕ) (m a v : ℕ) → Chained L key ls m → Outside L a → l ≡ set ls a v → Chained L key l m
@@ -294,7 +317,10 @@ pub record Beside (L M : Layout) : Type 0 where
 
 pub beside-high : (L M : Layout) (t : ℕ) → L .links + L .items ≤ t → L .heads + L .keys ≤ t → t ≤ M .links → t ≤ M .heads → Beside M L
 beside-high L M t a b c d =
-    record { links-off = λ e h. record { off-links = λ i l q. omega arith; off-heads = λ i l q. omega arith }; heads-off = λ n h. record { off-links = λ i l q. omega arith; off-heads = λ i l q. omega arith } }
+    record {
+      links-off = λ e h. record { off-links = λ i l q. omega arith; off-heads = λ i l q. omega arith };
+      heads-off = λ n h. record { off-links = λ i l q. omega arith; off-heads = λ i l q. omega arith };
+    }
 
 -- l differs from ls in L's parts only: what a builder leaves of the table besides its chains
 pub record Only (L : Layout) (ls l : List ℕ) : Type 0 where
@@ -309,11 +335,19 @@ only-twice L ls l k S T = record { long = T .long ∙ S .long; kept = λ a o. T 
 
 only-head-set : (L : Layout) (ls : List ℕ) (n v : ℕ) → n < L .keys → Only L ls (set ls (slot (L .heads) n) v)
 only-head-set L ls n v f =
-    record { long = length-set ls (slot (L .heads) n) v; kept = λ a o. getD-set-other ls (slot (L .heads) n) a v 0 (λ q. o .off-heads n f (sym (slot-is (L .heads) n) ∙ sym q)) }
+    record {
+      long = length-set ls (slot (L .heads) n) v;
+      kept = λ a o.
+          getD-set-other ls (slot (L .heads) n) a v 0 (λ q. o .off-heads n f (sym (slot-is (L .heads) n) ∙ sym q));
+    }
 
 only-link-set : (L : Layout) (ls : List ℕ) (i v : ℕ) → i < L .items → Only L ls (set ls (slot (L .links) i) v)
 only-link-set L ls i v s =
-    record { long = length-set ls (slot (L .links) i) v; kept = λ a o. getD-set-other ls (slot (L .links) i) a v 0 (λ q. o .off-links i s (sym (slot-is (L .links) i) ∙ sym q)) }
+    record {
+      long = length-set ls (slot (L .links) i) v;
+      kept = λ a o.
+          getD-set-other ls (slot (L .links) i) a v 0 (λ q. o .off-links i s (sym (slot-is (L .links) i) ∙ sym q));
+    }
 
 -- head n was stored
 pub only-head : (L : Layout) (ls l k : List ℕ) (n v : ℕ) → Only L ls l → k ≡ set l (slot (L .heads) n) v → n < L .keys → Only L ls k
@@ -333,15 +367,20 @@ pub only-prev : (L : Layout) (ls l k : List ℕ) (j n m : ℕ) → Only L ls l �
 only-prev L ls l k j n m S q f p jm mm = rw q (only-in L ls l (j - 1) n S f (omega arith))
 
 -- what was built before in another layout of the table stands. The store comes first: it leads back from the table as it is
-pub only-same : (L M : Layout) (ls l : List ℕ) → Only M ls l → Beside M L → Same L ls l
+pub only-same : (L M : Layout) (ls l : List ℕ) → Only M ls l → Beside M L → SameChains L ls l
 only-same L M ls l S B =
-    record { long = S .long; same-link = λ e h. rw (slot-is (L .links) e) (S .kept (L .links + e) (B .links-off e h)); same-head = λ n h. rw (slot-is (L .heads) n) (S .kept (L .heads + n) (B .heads-off n h)) }
+    record {
+      long = S .long;
+      same-link = λ e h. rw (slot-is (L .links) e) (S .kept (L .links + e) (B .links-off e h));
+      same-head = λ n h. rw (slot-is (L .heads) n) (S .kept (L .heads + n) (B .heads-off n h));
+    }
 
 pub chain-only : (L M : Layout) (key : ℕ → ℕ) (ls l : List ℕ) (m : ℕ) → Only M ls l → Beside M L → Chained L key ls m → Chained L key l m
 chain-only L M key ls l m S B C = chain-same L key ls l m C (only-same L M ls l S B)
 
 -- the same past two builders
-pub chain-only-two : (L M N : Layout) (key : ℕ → ℕ) (ls l k : List ℕ) (m : ℕ) → Only N l k → Beside N L → Only M ls l → Beside M L → Chained L key ls m → Chained L key k m
+pub chain-only-two : (L M N : Layout) (key : ℕ → ℕ) (ls l k : List ℕ) (m : ℕ) → Only N l k → Beside N L → Only M ls l → Beside M L → Chained L key ls m
+    → Chained L key k m
 chain-only-two L M N key ls l k m T D S B C = chain-only L N key l k m T D (chain-only L M key ls l m S B C)
 
 -- ---- a table of any contents: its heads are cleared first
@@ -446,7 +485,8 @@ pub chain-word : (L : Layout) (k : ℕ → ℕ) (ws us ls : List ℕ) (m a w : �
 chain-word L k ws us ls m a w C q h = chain-agree L (keyed k ws) (keyed k us) ls m C (keyed-put k ws us m a w q h)
 
 -- word w was appended, and its item put into chain n
-pub chain-add : (L : Layout) (k : ℕ → ℕ) (ws us ls l : List ℕ) (m n w : ℕ) → Chained L (keyed k ws) ls m → us ≡ set ws m w → l ≡ linked L ls m n → n ≡ k w → n < L .keys → m < L .items → m < length ws → Chained L (keyed k us) l (m + 1)
+pub chain-add : (L : Layout) (k : ℕ → ℕ) (ws us ls l : List ℕ) (m n w : ℕ) → Chained L (keyed k ws) ls m → us ≡ set ws m w → l ≡ linked L ls m n → n ≡ k w
+    → n < L .keys → m < L .items → m < length ws → Chained L (keyed k us) l (m + 1)
 chain-add L k ws us ls l m n w C q e z f s h =
     chain-link L (keyed k us) ls l m n (chain-word L k ws us ls m m w C q (omega arith)) e
     (keyed-is k us m n (z ∙ ap k (sym (ap (λ (x : List ℕ). getD x m 0) q ∙ getD-set-same ws m w 0 h)))) f s

@@ -1,7 +1,7 @@
 -- Membership and "all of", as types that compute, their laws, and the pigeonhole.
 use mathlib.Core.Path.{_≡_, refl, sym, ap, _∙_, subst}
 use mathlib.Core.Logic.{_⊎_, inl, inr}
-use mathlib.Core.Bool.{Bool, true, false, true≢false, false≢true}
+use mathlib.Core.Bool.{Bool, true, false, _&&_, true≢false, false≢true}
 use mathlib.Core.List.{List, [], _∷_, _++_, map, reverse, reverseAux}
 use Prim.Native.Nat.{ℕ, zero, suc, _+_, _≤_, _<_, zero-le}
 use lib.ListN.{length}
@@ -25,6 +25,10 @@ clash z = let f : ⊥ = omega arith in absurd f
 
 pub no-both {ℓ} : {X : Type ℓ} (b : Bool) → b ≡ true → b ≡ false → X
 no-both b p q = absurd (true≢false (sym p ∙ q))
+
+pub and-true : (a b : Bool) → a && b ≡ true → (a ≡ true) × (b ≡ true)
+and-true true b e = (refl, e)
+and-true false b e = absurd (false≢true e)
 
 module _ {A : Type 0} where
   abbrev pub In : A → List A → Type 0

@@ -14,7 +14,9 @@ use lib.Dec.{eqb, ltb}
 use borrow.Author.Tests.{eqb-true, eqb-false, eq-eqb, ne-eqb, lt-ltb, le-ltb, not-true, not-false}
 use Rattle.basis.specs.Lists.{any, all, filter}
 use Rattle.basis.specs.Members.{split, either, In}
-use Rattle.basis.specs.Chains.{Layout, slot, newest, downs, oldest, ups, Chained, Risen, Same, Agree, keyed, chain-same, rise-same, newest-zero, newest-hit, newest-miss, downs-zero, downs-hit, downs-miss, oldest-hit, oldest-miss, oldest-past, ups-hit, ups-miss, ups-past}
+use Rattle.basis.specs.Chains.{Layout, slot, newest, downs, oldest, ups, Chained, Risen, SameChains, Agree, keyed, chain-same, rise-same, newest-zero}
+use Rattle.basis.specs.Chains.{newest-hit, newest-miss, downs-zero, downs-hit, downs-miss, oldest-hit, oldest-miss, oldest-past, ups-hit, ups-miss}
+use Rattle.basis.specs.Chains.{ups-past}
 
 -- ---- newest first
 -- What is left to walk at the stored value e is `downs key e n`: it begins as `downs key m n`, and e falls.
@@ -185,7 +187,7 @@ module _ (L : Layout) (key : ℕ → ℕ) (ls : List ℕ) (m n : ℕ) where
       (ups-hit key j m n (omega (arith, U .low)) (eq-eqb (key j) n (U .own j refl))
       ∙ ap (λ (l : List ℕ). j ∷ l) (sym (up-jump key (m - suc j) (suc j) m n refl) ∙ ap (upFrom key m n) (sym (pursue j r U (rw (sub-one (suc j)) at q)))))
 
-  pub up-same : (l : List ℕ) (e : ℕ) → Up L key ls m n e → Same L ls l → Up L key l m n e
+  pub up-same : (l : List ℕ) (e : ℕ) → Up L key ls m n e → SameChains L ls l → Up L key l m n e
   up-same l e U S = record { chain = rise-same L key ls l m 0 (U .chain) S; known = U .known; low = U .low; own = U .own }
 
 pub up-end : (key : ℕ → ℕ) (m n e : ℕ) → e ≤ 0 → upFrom key m n e ≡ []
@@ -207,9 +209,9 @@ unfoldable pub everyOf : (ℕ → Bool) → List ℕ → Bool
 everyOf p l = all p l
 
 -- one more than the first item that passes, or 0
-unfoldable pub firstOf : (ℕ → Bool) → List ℕ → ℕ
-firstOf p [] = 0
-firstOf p (i ∷ l) = elim (p i) [ true ↦ suc i | false ↦ firstOf p l ]
+unfoldable pub foundFirst : (ℕ → Bool) → List ℕ → ℕ
+foundFirst p [] = 0
+foundFirst p (i ∷ l) = elim (p i) [ true ↦ suc i | false ↦ foundFirst p l ]
 
 -- a value that each item changes
 unfoldable pub foldOf : {A : Type 0} → (A → ℕ → A) → A → List ℕ → A
@@ -225,13 +227,13 @@ module _ (p : ℕ → Bool) (xs l : List ℕ) (i : ℕ) (c : xs ≡ i ∷ l) (t 
   unfolding someOf
   some-miss h = rw c (rw ((sym q ∙ h), any))
 
-  first-hit : t ≡ true → firstOf p xs ≡ suc i
-  unfolding firstOf
-  first-hit h = rw c (rw ((sym q ∙ h), firstOf))
+  first-hit : t ≡ true → foundFirst p xs ≡ suc i
+  unfolding foundFirst
+  first-hit h = rw c (rw ((sym q ∙ h), foundFirst))
 
-  first-miss : t ≡ false → firstOf p xs ≡ firstOf p l
-  unfolding firstOf
-  first-miss h = rw c (rw ((sym q ∙ h), firstOf))
+  first-miss : t ≡ false → foundFirst p xs ≡ foundFirst p l
+  unfolding foundFirst
+  first-miss h = rw c (rw ((sym q ∙ h), foundFirst))
 
 -- ---- the same for each way, as code leaves it: W is the whole, which the loop's invariant equates with what is left.
 -- Test t of item e - 1 is a call's answer; `first` gives the stored value e itself.
@@ -240,17 +242,21 @@ module _ (L : Layout) (key : ℕ → ℕ) (ls : List ℕ) (m n : ℕ) where
   down-rest : (e : ℕ) → Down L key ls m n e → 0 < e → downs key e n ≡ (e - 1) ∷ downs key (getD ls (slot (L .links) (e - 1)) 0) n
   down-rest e D h = down-cons L key ls m n e (getD ls (slot (L .links) (e - 1)) 0) D h refl
 
-  pub some-down : (p : ℕ → Bool) (r : ℕ) → Chained L key ls m → n < L .keys → r ≡ getD ls (slot (L .heads) n) 0 → someOf p (downs key r n) ≡ someOf p (downs key m n)
+  pub some-down : (p : ℕ → Bool) (r : ℕ) → Chained L key ls m → n < L .keys → r ≡ getD ls (slot (L .heads) n) 0
+      → someOf p (downs key r n) ≡ someOf p (downs key m n)
   some-down p r C k q = ap (someOf p) (down-all L key ls m n r C k q)
 
-  pub some-down-hit : (p : ℕ → Bool) (e : ℕ) (t : Bool) (W : Bool) → someOf p (downs key e n) ≡ W → Down L key ls m n e → 0 < e → t ≡ p (e - 1) → t ≡ true → true ≡ W
+  pub some-down-hit : (p : ℕ → Bool) (e : ℕ) (t : Bool) (W : Bool) → someOf p (downs key e n) ≡ W → Down L key ls m n e → 0 < e → t ≡ p (e - 1) → t ≡ true
+      → true ≡ W
   some-down-hit p e t W i D h q b = sym (some-hit p (downs key e n) (downs key (getD ls (slot (L .links) (e - 1)) 0) n) (e - 1) (down-rest e D h) t q b) ∙ i
 
-  pub some-down-next : (p : ℕ → Bool) (e r : ℕ) (t : Bool) (W : Bool) → someOf p (downs key e n) ≡ W → Down L key ls m n e → 0 < e → t ≡ p (e - 1) → t ≡ false → r ≡ getD ls (slot (L .links) (e - 1)) 0 → someOf p (downs key r n) ≡ W
+  pub some-down-next : (p : ℕ → Bool) (e r : ℕ) (t : Bool) (W : Bool) → someOf p (downs key e n) ≡ W → Down L key ls m n e → 0 < e → t ≡ p (e - 1) → t ≡ false
+      → r ≡ getD ls (slot (L .links) (e - 1)) 0 → someOf p (downs key r n) ≡ W
   some-down-next p e r t W i D h q b z = sym (some-miss p (downs key e n) (downs key r n) (e - 1) (down-cons L key ls m n e r D h z) t q b) ∙ i
 
-  pub first-down : (p : ℕ → Bool) (r : ℕ) → Chained L key ls m → n < L .keys → r ≡ getD ls (slot (L .heads) n) 0 → firstOf p (downs key r n) ≡ firstOf p (downs key m n)
-  first-down p r C k q = ap (firstOf p) (down-all L key ls m n r C k q)
+  pub first-down : (p : ℕ → Bool) (r : ℕ) → Chained L key ls m → n < L .keys → r ≡ getD ls (slot (L .heads) n) 0
+      → foundFirst p (downs key r n) ≡ foundFirst p (downs key m n)
+  first-down p r C k q = ap (foundFirst p) (down-all L key ls m n r C k q)
 
 pub some-down-end : (p : ℕ → Bool) (key : ℕ → ℕ) (n e : ℕ) (W : Bool) → someOf p (downs key e n) ≡ W → e ≤ 0 → false ≡ W
 unfolding someOf
@@ -263,7 +269,8 @@ pub ruleset somes-down = (walks-down, some-down, some-down-hit, some-down-next, 
 
 module _ {X : Type 0} (k : X → ℕ) (xs : List X) (d : X) (key : ℕ → ℕ) (n : ℕ) where
   -- of the first m elements, newest first
-  pub downs-take : (m : ℕ) → m ≤ length xs → Agree key (λ e. k (getD xs e d)) m → map (λ (e : ℕ). getD xs e d) (downs key m n) ≡ filter (λ (x : X). eqb (k x) n) (reverse (take m xs))
+  pub downs-take : (m : ℕ) → m ≤ length xs → Agree key (λ e. k (getD xs e d)) m
+      → map (λ (e : ℕ). getD xs e d) (downs key m n) ≡ filter (λ (x : X). eqb (k x) n) (reverse (take m xs))
   downs-take zero h A = rw (downs-zero key n)
   downs-take (suc j) h A =
       let b : Agree key (λ e. k (getD xs e d)) j = record { agree = λ e l. A .agree e (omega arith) } in
@@ -274,13 +281,15 @@ module _ {X : Type 0} (k : X → ℕ) (xs : List X) (d : X) (key : ℕ → ℕ) 
       (λ t. rw (downs-hit key j n t, (rw q at t), filter) (ap (λ (l : List X). getD xs j d ∷ l) r))
       (λ t. rw (downs-miss key j n t, (rw q at t), filter) r))
 
-  ups-drop : (c e m : ℕ) → m - e ≡ c → m ≤ length xs → Agree key (λ e. k (getD xs e d)) m → map (λ (e : ℕ). getD xs e d) (ups key e m n) ≡ filter (λ (x : X). eqb (k x) n) (drop e (take m xs))
+  ups-drop : (c e m : ℕ) → m - e ≡ c → m ≤ length xs → Agree key (λ e. k (getD xs e d)) m
+      → map (λ (e : ℕ). getD xs e d) (ups key e m n) ≡ filter (λ (x : X). eqb (k x) n) (drop e (take m xs))
   ups-drop zero e m z h A =
       let l : length (take m xs) ≤ e = omega (arith, length-take-le m xs h) in
       rw (ups-past key e m n (omega arith), drop-of-length-le (take m xs) l)
   ups-drop (suc c) e m z h A =
       let l : e < m = omega arith in
-      let r : map (λ (e : ℕ). getD xs e d) (ups key (suc e) m n) ≡ filter (λ (x : X). eqb (k x) n) (drop (suc e) (take m xs)) = ups-drop c (suc e) m (omega arith) h A in
+      let r : map (λ (e : ℕ). getD xs e d) (ups key (suc e) m n) ≡ filter (λ (x : X). eqb (k x) n) (drop (suc e) (take m xs)) =
+      ups-drop c (suc e) m (omega arith) h A in
       let q : key e ≡ k (getD xs e d) = A .agree e l in
       let s : e < length (take m xs) = omega (arith, length-take-le m xs h) in
       rw (drop-cons (take m xs) e d s, getD-take m xs e d l)
@@ -289,7 +298,8 @@ module _ {X : Type 0} (k : X → ℕ) (xs : List X) (d : X) (key : ℕ → ℕ) 
       (λ t. rw (ups-miss key e m n l t, (rw q at t), filter) r))
 
   -- of the first m elements, oldest first
-  pub ups-take : (m : ℕ) → m ≤ length xs → Agree key (λ e. k (getD xs e d)) m → map (λ (e : ℕ). getD xs e d) (ups key 0 m n) ≡ filter (λ (x : X). eqb (k x) n) (take m xs)
+  pub ups-take : (m : ℕ) → m ≤ length xs → Agree key (λ e. k (getD xs e d)) m
+      → map (λ (e : ℕ). getD xs e d) (ups key 0 m n) ≡ filter (λ (x : X). eqb (k x) n) (take m xs)
   ups-take m h A = ups-drop (m - 0) 0 m refl h A
 
 -- the same of a whole list
@@ -314,7 +324,8 @@ pub downs-in : (key : ℕ → ℕ) (i m n : ℕ) → In i (downs key m n) → (i
 downs-in key i zero n j = absurd (rw (downs-zero key n) at j)
 downs-in key i (suc m) n j =
     split (eqb (key m) n)
-    (λ t. either (rw (downs-hit key m n t) at j) (λ e. (omega arith, ap key e ∙ eqb-true (key m) n t)) (λ o. let r = downs-in key i m n o in (omega (arith, r .0), r .1)))
+    (λ t. either (rw (downs-hit key m n t) at j) (λ e. (omega arith, ap key e ∙ eqb-true (key m) n t)) (λ o. let r = downs-in key i m n o in
+    (omega (arith, r .0), r .1)))
     (λ t. let r = downs-in key i m n (rw (downs-miss key m n t) at j) in (omega (arith, r .0), r .1))
 
 pub in-downs : (key : ℕ → ℕ) (i m n : ℕ) → i < m → key i ≡ n → In i (downs key m n)
@@ -332,7 +343,8 @@ ups-in′ key zero i e m n z j = absurd (rw (ups-past key e m n (omega arith)) a
 ups-in′ key (suc c) i e m n z j =
     let h : e < m = omega arith in
     split (eqb (key e) n)
-    (λ t. either (rw (ups-hit key e m n h t) at j) (λ q. (omega arith, omega arith, ap key q ∙ eqb-true (key e) n t)) (λ o. let r = ups-in′ key c i (suc e) m n (omega arith) o in (omega (arith, r .0), r .1, r .2)))
+    (λ t. either (rw (ups-hit key e m n h t) at j) (λ q. (omega arith, omega arith, ap key q ∙ eqb-true (key e) n t)) (λ o.
+    let r = ups-in′ key c i (suc e) m n (omega arith) o in (omega (arith, r .0), r .1, r .2)))
     (λ t. let r = ups-in′ key c i (suc e) m n (omega arith) (rw (ups-miss key e m n h t) at j) in (omega (arith, r .0), r .1, r .2))
 
 pub ups-in : (key : ℕ → ℕ) (i e m n : ℕ) → In i (ups key e m n) → (e ≤ i) × (i < m) × (key i ≡ n)
@@ -392,17 +404,18 @@ module _ (hash : ℕ → ℕ) (ws : List ℕ) (key : ℕ → ℕ) (w m : ℕ) (f
   some-has = some-map (eqb w) (λ e. getD ws e 0) (downs key m (hash w)) ∙ has-down
 
 -- the first item of the chain that has word w is the newest of all that have it
-pub first-newest : (word key : ℕ → ℕ) (p : ℕ → Bool) (w n m : ℕ) → ((i : ℕ) → i < m → p i ≡ eqb (word i) w) → ((i : ℕ) → i < m → word i ≡ w → key i ≡ n) → firstOf p (downs key m n) ≡ newest word m w
-unfolding firstOf
+pub first-newest : (word key : ℕ → ℕ) (p : ℕ → Bool) (w n m : ℕ) → ((i : ℕ) → i < m → p i ≡ eqb (word i) w) → ((i : ℕ) → i < m → word i ≡ w → key i ≡ n)
+    → foundFirst p (downs key m n) ≡ newest word m w
+unfolding foundFirst
 first-newest word key p w n zero f g = rw (downs-zero key n, newest-zero word w)
 first-newest word key p w n (suc j) f g =
     let q : p j ≡ eqb (word j) w = f j (omega arith) in
-    let r : firstOf p (downs key j n) ≡ newest word j w = first-newest word key p w n j (λ i h. f i (omega arith)) (λ i h. g i (omega arith)) in
+    let r : foundFirst p (downs key j n) ≡ newest word j w = first-newest word key p w n j (λ i h. f i (omega arith)) (λ i h. g i (omega arith)) in
     split (eqb (word j) w)
     (λ t. let u : eqb (key j) n ≡ true = eq-eqb (key j) n (g j (omega arith) (eqb-true (word j) w t)) in
-    rw (downs-hit key j n u, newest-hit word j w t) (rw ((q ∙ t), firstOf)))
+    rw (downs-hit key j n u, newest-hit word j w t) (rw ((q ∙ t), foundFirst)))
     (λ t. split (eqb (key j) n)
-    (λ u. rw (downs-hit key j n u, newest-miss word j w t) (rw ((q ∙ t), firstOf) r))
+    (λ u. rw (downs-hit key j n u, newest-miss word j w t) (rw ((q ∙ t), foundFirst) r))
     (λ u. rw (downs-miss key j n u, newest-miss word j w t) r))
 
 eqb-turn : (a b : ℕ) → eqb a b ≡ eqb b a
@@ -435,13 +448,15 @@ wordIs ws w i = eqb w (getD ws i 0)
 
 -- looking for w along its chain n, as code leaves it
 module _ (L : Layout) (hash : ℕ → ℕ) (ws ls : List ℕ) (m n w r : ℕ) where
-  pub has-start : Chained L (keyed hash ws) ls m → n ≡ hash w → n < L .keys → m ≤ length ws → r ≡ getD ls (slot (L .heads) n) 0 → someOf (wordIs ws w) (downs (keyed hash ws) r n) ≡ any (eqb w) (take m ws)
+  pub has-start : Chained L (keyed hash ws) ls m → n ≡ hash w → n < L .keys → m ≤ length ws → r ≡ getD ls (slot (L .heads) n) 0
+      → someOf (wordIs ws w) (downs (keyed hash ws) r n) ≡ any (eqb w) (take m ws)
   unfolding wordIs keyed
   has-start C z f h q =
       some-down L (keyed hash ws) ls m n (wordIs ws w) r C f q
       ∙ rw z (some-has hash ws (keyed hash ws) w m h (record { agree = λ e l. refl }))
 
-  pub find-start : Chained L (keyed hash ws) ls m → n ≡ hash w → n < L .keys → r ≡ getD ls (slot (L .heads) n) 0 → firstOf (wordIs ws w) (downs (keyed hash ws) r n) ≡ placeOf ws m w
+  pub find-start : Chained L (keyed hash ws) ls m → n ≡ hash w → n < L .keys → r ≡ getD ls (slot (L .heads) n) 0
+      → foundFirst (wordIs ws w) (downs (keyed hash ws) r n) ≡ placeOf ws m w
   unfolding wordIs keyed placeOf
   find-start C z f q =
       first-down L (keyed hash ws) ls m n (wordIs ws w) r C f q

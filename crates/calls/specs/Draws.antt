@@ -7,7 +7,7 @@ use Rattle.records.specs.Tables.{Tables}
 use Rattle.records.specs.Read.{Reading, good, bad, readOf}
 use Rattle.graph.specs.Graphs.{Outcome, drawn, refused, graphOf}
 use Rattle.machine.specs.Units.{Result}
-use Rattle.drawing.specs.declared.Answer as Drawn
+use Rattle.drawing.specs.declared.PenAnswer as Drawn
 use Rattle.drawing.specs.Draw.{drawnOf}
 use Rattle.drawing.specs.Graphviz.{drawShown}
 use Rattle.explanation.specs.Explain.{refusal}
@@ -36,5 +36,5 @@ drawFile file opt room = cond (leb opt 1) (drawBytes opt room file) (refusal 12 
 abbrev pub resultAnswer : Result → Answer
 resultAnswer r = record { number = r .number; place = r .place; bytes = r .bytes; units = r .units; depth = r .depth }
 
-abbrev pub drawingAs : Drawn.Answer → Answer
+abbrev pub drawingAs : Drawn.PenAnswer → Answer
 drawingAs r = record { number = r .number; place = r .place; bytes = r .bytes; units = r .units; depth = r .depth }

@@ -7,7 +7,7 @@ use lib.Dec.{ltb}
 use Rattle.store.specs.Graph.{Graph}
 use Rattle.graph.specs.Graphs.{Outcome, drawn, refused}
 use Rattle.graph.specs.Files.{outcomeOf}
-use Rattle.edgelist.specs.Edges.{edgesOver}
+use Rattle.lists.specs.Edges.{edgesOver}
 use Rattle.calls.specs.declared.Answer.{Answer}
 use Rattle.calls.specs.Answers.{refusalOf}
 
@@ -16,8 +16,8 @@ abbrev pub listedAnswer : ℕ → Answer
 listedAnswer n = record { number = 0; place = 0; bytes = 10 * n; units = 1; depth = 0 }
 
 -- "Fewer than 5 × edges: 10, place 0, nothing changed."
-abbrev pub edgesIn : Graph → ℕ → Answer
-edgesIn G len = cond (ltb len (5 * length (G .edges))) (refusalOf 10 0) (listedAnswer (length (G .edges)))
+abbrev pub edgesAsked : Graph → ℕ → Answer
+edgesAsked G len = cond (ltb len (5 * length (G .edges))) (refusalOf 10 0) (listedAnswer (length (G .edges)))
 
 -- "Fewer than 5 × edges: 10, place 0, nothing changed."
 abbrev pub edgesInto : Graph → List ℕ → List ℕ
@@ -26,7 +26,7 @@ edgesInto G l = cond (ltb (length l) (5 * length (G .edges))) l (edgesOver G l)
 -- "Refusals 1 to 9 as in `check`"; they change nothing either
 abbrev pub edgesBy : Outcome → ℕ → Answer
 edgesBy (refused k p) len = refusalOf k p
-edgesBy (drawn G) len = edgesIn G len
+edgesBy (drawn G) len = edgesAsked G len
 
 -- "Refusals change nothing that was lent"
 abbrev pub leavesBy : Outcome → List ℕ → List ℕ

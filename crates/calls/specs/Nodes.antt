@@ -5,9 +5,9 @@ use mathlib.Core.List.{List, _++_}
 use Prim.Native.Nat.{ℕ}
 use lib.ListN.{length, drop, replicate}
 use lib.Dec.{ltb}
-use Rattle.entries.specs.declared.NodeEntry.{NodeEntry}
-use Rattle.nodelist.specs.declared.Counted.{Counted}
-use Rattle.nodelist.specs.Nodes.{Nodes, entered, denied, nodesOf, listedBy}
+use Rattle.lists.specs.declared.entries.NodeEntry.{NodeEntry}
+use Rattle.lists.specs.declared.nodes.Counted.{Counted}
+use Rattle.lists.specs.Nodes.{Nodes, entered, denied, nodesOf, listedBy}
 use Rattle.calls.specs.declared.Answer.{Answer}
 use Rattle.calls.specs.Answers.{refusalOf}
 

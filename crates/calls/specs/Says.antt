@@ -15,7 +15,7 @@ use Rattle.plan.specs.Display.{solvableOf}
 use Rattle.plan.specs.Planned.{Planned}
 use Rattle.plan.specs.Marking.{readAs}
 use Rattle.lines.specs.Lines.{linesOf}
-use Rattle.explanation.specs.declared.walk.Told.{Told}
+use Rattle.explanation.specs.declared.walk.WalkAnswer.{WalkAnswer}
 use Rattle.explanation.specs.Walk.{Answered}
 use Rattle.explanation.specs.Contract.{ExplainedFile}
 use Rattle.calls.specs.declared.Answer.{Answer}
@@ -34,7 +34,8 @@ pub record Says (e : ℕ) (file : List ℕ) (opt : ℕ) (out left : List ℕ) (r
 -- of one that is asked for (document 02, order 10)
 pub record Shows (e : ℕ) (T : Tables) (G : Graph) (opt : ℕ) (out left : List ℕ) (r : Answer) : Type 0 where
   pub text : List ℕ
-  pub is : Explained (edited e (planOf (shownOf T G))) (linesOf (shownOf T G) opt) (solvableOf (shownOf T G)) (startOf (shownOf T G)) (length out) (resultBy r text)
+  pub is : Explained (edited e (planOf (shownOf T G))) (linesOf (shownOf T G) opt) (solvableOf (shownOf T G)) (startOf (shownOf T G)) (length out)
+      (resultBy r text)
   pub room : left ≡ over text out
 
 -- the edition that reports every package, and the one that does not
@@ -51,11 +52,11 @@ pub record PlannedAs (every : Bool) (S : Shown) (q k : List ℕ) : Type 0 where
   pub long : length before ≡ 1280
   pub read : q ≡ readAs every before
 
-abbrev pub toldAs : Told → Answer
+abbrev pub toldAs : WalkAnswer → Answer
 toldAs t = record { number = t .number; place = t .place; bytes = t .bytes; units = t .units; depth = t .depth }
 
 -- an answer that the walk over a plan gives
 pub record Walked (T : Tables) (q k : List ℕ) (t : Bool) (out left : List ℕ) (r : Answer) : Type 0 where
-  pub told : Told
+  pub told : WalkAnswer
   pub is : r ≡ toldAs told
   pub answered : Answered T q k t out left told

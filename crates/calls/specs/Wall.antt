@@ -6,7 +6,7 @@ use Rattle.records.specs.Read.{Reading, good, bad, readOf}
 use Rattle.graph.specs.Graphs.{Outcome, drawn, refused, graphOf}
 use Rattle.machine.specs.Units.{Result}
 use Rattle.explanation.specs.Explain.{refusal}
-use Rattle.exporting.specs.Export.{exportShown}
+use Rattle.wall.specs.Export.{exportShown}
 
 -- 7 to 9: "Refusals change nothing that was lent"
 abbrev pub exportBy : ℕ → Tables → Outcome → Result

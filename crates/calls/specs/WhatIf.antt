@@ -11,9 +11,9 @@ use Rattle.records.specs.Tables.{Tables}
 use Rattle.records.specs.Read.{Reading, good, bad, readOf}
 use Rattle.graph.specs.Graphs.{Outcome, drawn, refused}
 use Rattle.whatif.specs.Asked.{askTables}
-use Rattle.entries.specs.declared.NodeEntry.{NodeEntry}
-use Rattle.nodelist.specs.Nodes.{listedBy}
-use Rattle.asking.specs.Nodes.{askedNodes}
+use Rattle.lists.specs.declared.entries.NodeEntry.{NodeEntry}
+use Rattle.lists.specs.Nodes.{listedBy}
+use Rattle.lists.specs.Asked.{askedNodes}
 use Rattle.machine.specs.Units.{Result}
 use Rattle.plan.specs.Plan.{shownOf}
 use Rattle.texts.specs.Wrote.{over}
@@ -43,13 +43,13 @@ explainOutcome n T (refused k p) opt room = some (refusal k p)
 explainOutcome n T (drawn G) opt room = explainShown 1 n (shownOf T G) opt room
 
 -- "with that file's refusals first"
-abbrev pub explainRead : ℕ → ℕ → ℕ → ℕ → ℕ → Reading → Option Result
-explainRead n s r opt room (bad k p) = some (refusal k p)
-explainRead n s r opt room (good T) = explainOutcome n T (askTables T s r) opt room
+abbrev pub askRead : ℕ → ℕ → ℕ → ℕ → ℕ → Reading → Option Result
+askRead n s r opt room (bad k p) = some (refusal k p)
+askRead n s r opt room (good T) = explainOutcome n T (askTables T s r) opt room
 
 -- "12 is tested first", then the file's refusals, then the question's
 abbrev pub explainWhatIf : ℕ → List ℕ → ℕ → ℕ → ℕ → ℕ → Option Result
-explainWhatIf n file s r opt room = elim (leb opt 1) [ false ↦ some (refusal 12 0) | true ↦ explainRead n s r opt room (readOf file) ]
+explainWhatIf n file s r opt room = elim (leb opt 1) [ false ↦ some (refusal 12 0) | true ↦ askRead n s r opt room (readOf file) ]
 
 -- for some number of turns the definitions give the answer, and the room holds its text: "lent bytes past those written stay"
 pub record SaysWhatIf (file : List ℕ) (s r opt : ℕ) (out left : List ℕ) (a : Answer) : Type 0 where

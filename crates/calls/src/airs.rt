@@ -13,16 +13,20 @@ use crate::checks::refusal;
 use crate::explains::explain_whole;
 use air::Profile;
 use graph::Made;
+use index::Slots;
+use store::ChainWords;
+use store::GraphWords;
+use store::Scratch;
 use store::Size;
 
 // A graph that is drawn whole: 15, 16, 17, then the explanation by edition 1.
 fn air_whole(
     file: &[u8],
-    ix: &[u16; 10432],
-    g: &[u64; 1152],
+    ix: &Slots,
+    g: &GraphWords,
     s: Size,
-    ls: &[u16; 3456],
-    tr: &mut [u64; 1280],
+    ls: &ChainWords,
+    tr: &mut Scratch,
     top: bool,
     room: &mut [u8],
 ) -> Answer
@@ -41,10 +45,10 @@ fn air_whole(
 pub fn air_in(
     file: &[u8],
     top: bool,
-    ix: &mut [u16; 10432],
-    g: &mut [u64; 1152],
-    tr: &mut [u64; 1280],
-    ls: &mut [u16; 3456],
+    ix: &mut Slots,
+    g: &mut GraphWords,
+    tr: &mut Scratch,
+    ls: &mut ChainWords,
     room: &mut [u8],
 ) -> Answer
     requires { ⌜ Blank (now ix) ⌝ }

@@ -5,7 +5,7 @@ ghost use Rattle.records.specs.Read.{tablesOf};
 ghost use Rattle.index.specs.Index.{Loaded, Blank};
 ghost use Rattle.store.specs.Table.{graphIn};
 ghost use Rattle.links.specs.Build.{Chains};
-ghost use Rattle.labels.specs.Marks.{marksOf};
+ghost use Rattle.labels.specs.Marks.{labelBits};
 ghost use Rattle.graph.specs.Graphs.{graphOf, drawn};
 ghost use Rattle.shape.specs.Graphed.{Graphed};
 ghost use Rattle.whatif.specs.Asked.{askTables};
@@ -15,17 +15,22 @@ use crate::Answer;
 use crate::checks::refusal;
 use crate::explains::explain_marked;
 use graph::Made;
+use index::Slots;
+use store::ChainWords;
+use store::GraphWords;
+use store::PerNode;
+use store::Scratch;
 use store::Size;
 
 // What is shown of the graph asked for.
 fn show_asked(
     file: &[u8],
-    ix: &[u16; 10432],
-    g: &[u64; 1152],
+    ix: &Slots,
+    g: &GraphWords,
     s: Size,
-    ls: &[u16; 3456],
-    marks: &[u16; 128],
-    tr: &mut [u64; 1280],
+    ls: &ChainWords,
+    marks: &PerNode,
+    tr: &mut Scratch,
     solvable: u64,
     reason: u64,
     top: bool,
@@ -33,7 +38,7 @@ fn show_asked(
 ) -> Answer
     requires { ⌜ Loaded (now file) (now ix) ⌝ }
     requires { ⌜ Chains (now g) s (now ls) ⌝ }
-    requires { ⌜ now marks ≡ marksOf (graphIn (now g) s) ⌝ }
+    requires { ⌜ now marks ≡ labelBits (graphIn (now g) s) ⌝ }
     requires { ⌜ Graphed (tablesOf (now file)) (graphIn (now g) s) ⌝ }
     requires { ⌜ askTables (tablesOf (now file)) solvable reason ≡ drawn (graphIn (now g) s) ⌝ }
     ensures { λ r. ⌜ SaysWhatIf (now (file .entry)) solvable reason (optionOf top) (now (room .entry)) (now (room .exit)) r ⌝ }
@@ -44,11 +49,11 @@ fn show_asked(
 // A graph that is drawn whole: 4, 8, 17, then what is shown of the graph asked for.
 fn ask_whole(
     file: &[u8],
-    ix: &[u16; 10432],
-    g: &mut [u64; 1152],
+    ix: &Slots,
+    g: &mut GraphWords,
     s: Size,
-    ls: &mut [u16; 3456],
-    tr: &mut [u64; 1280],
+    ls: &mut ChainWords,
+    tr: &mut Scratch,
     solvable: u64,
     reason: u64,
     top: bool,
@@ -72,10 +77,10 @@ pub fn ask_in(
     solvable: u64,
     reason: u64,
     top: bool,
-    ix: &mut [u16; 10432],
-    g: &mut [u64; 1152],
-    tr: &mut [u64; 1280],
-    ls: &mut [u16; 3456],
+    ix: &mut Slots,
+    g: &mut GraphWords,
+    tr: &mut Scratch,
+    ls: &mut ChainWords,
     room: &mut [u8],
 ) -> Answer
     requires { ⌜ Blank (now ix) ⌝ }

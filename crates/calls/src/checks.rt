@@ -5,6 +5,10 @@ ghost use Rattle.index.specs.Index.{Blank};
 ghost use Rattle.calls.specs.Answers.{refusalOf, checkOf};
 use crate::Answer;
 use graph::Made;
+use index::Slots;
+use store::ChainWords;
+use store::GraphWords;
+use store::Scratch;
 
 // "the last three are 0 for 1 to 9 and 12"; 0 means done.
 pub fn refusal(number: u64, place: u64) -> Answer
@@ -29,10 +33,10 @@ pub fn wide(x: usize) -> u64
 // A graph that is drawn is done.
 pub fn check_in(
     file: &[u8],
-    ix: &mut [u16; 10432],
-    g: &mut [u64; 1152],
-    tr: &mut [u64; 1280],
-    ls: &mut [u16; 3456],
+    ix: &mut Slots,
+    g: &mut GraphWords,
+    tr: &mut Scratch,
+    ls: &mut ChainWords,
 ) -> Answer
     requires { ⌜ Blank (now ix) ⌝ }
     requires { ⌜ now g ≡ replicate 1152 0 ⌝ }

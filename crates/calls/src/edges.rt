@@ -4,10 +4,14 @@ ghost use Prim.Native.Nat.{_≤_};
 ghost use lib.ListN.{length, replicate};
 ghost use Rattle.index.specs.Index.{Blank};
 ghost use Rattle.store.specs.Table.{graphIn, Stored};
-ghost use Rattle.calls.specs.Edges.{listedAnswer, edgesIn, edgesInto, edgesAnswer, edgesLeft};
+ghost use Rattle.calls.specs.Edges.{listedAnswer, edgesAsked, edgesInto, edgesAnswer, edgesLeft};
 use crate::Answer;
 use crate::checks::refusal;
 use graph::Made;
+use index::Slots;
+use store::ChainWords;
+use store::GraphWords;
+use store::Scratch;
 use store::Size;
 
 fn listed(n: usize) -> Answer
@@ -25,25 +29,25 @@ fn listed(n: usize) -> Answer
 }
 
 // A graph that is drawn whole.
-fn edges_whole(g: &[u64; 1152], s: Size, list: &mut [u16]) -> Answer
+fn edges_whole(g: &GraphWords, s: Size, list: &mut [u16]) -> Answer
     requires { ⌜ Stored (now g) s ⌝ }
-    ensures { λ r. ⌜ r ≡ edgesIn (graphIn (now (g .entry)) s) (length (now (list .entry))) ⌝ }
+    ensures { λ r. ⌜ r ≡ edgesAsked (graphIn (now (g .entry)) s) (length (now (list .entry))) ⌝ }
     ensures { λ _. ⌜ now (list .exit) ≡ edgesInto (graphIn (now (g .entry)) s) (now (list .entry)) ⌝ }
 {
     let m = s.edges;
     if list.len() < 5 * m {
         return refusal(10, 0);
     }
-    edgelist::put_edges(g, s, list);
+    lists::edges::put_edges(g, s, list);
     listed(m)
 }
 
 pub fn edges_in(
     file: &[u8],
-    ix: &mut [u16; 10432],
-    g: &mut [u64; 1152],
-    tr: &mut [u64; 1280],
-    ls: &mut [u16; 3456],
+    ix: &mut Slots,
+    g: &mut GraphWords,
+    tr: &mut Scratch,
+    ls: &mut ChainWords,
     list: &mut [u16],
 ) -> Answer
     requires { ⌜ Blank (now ix) ⌝ }

@@ -6,7 +6,7 @@ ghost use Rattle.records.specs.Read.{tablesOf};
 ghost use Rattle.index.specs.Index.{Loaded, Blank};
 ghost use Rattle.store.specs.Table.{graphIn};
 ghost use Rattle.links.specs.Build.{Chains};
-ghost use Rattle.labels.specs.Marks.{marksOf};
+ghost use Rattle.labels.specs.Marks.{labelBits};
 ghost use Rattle.shape.specs.Graphed.{Graphed};
 ghost use Rattle.graph.specs.Graphs.{graphOf, drawn};
 ghost use Rattle.plan.specs.Plan.{shownOf};
@@ -18,24 +18,29 @@ ghost use Rattle.calls.specs.Says.{Says, Shows, PlannedAs, Walked, editi
 use crate::Answer;
 use crate::checks::refusal;
 use crate::checks::wide;
-use explanation::walk::Told;
+use explanation::walk::WalkAnswer;
 use graph::Made;
+use index::Slots;
+use store::ChainWords;
+use store::GraphWords;
+use store::PerNode;
+use store::Scratch;
 use store::Size;
 
 // Groups, then the plan, where the labels are known.
 pub fn plan_of(
     file: &[u8],
-    ix: &[u16; 10432],
-    g: &[u64; 1152],
+    ix: &Slots,
+    g: &GraphWords,
     s: Size,
-    ls: &[u16; 3456],
-    marks: &[u16; 128],
-    p: &mut [u64; 1280],
+    ls: &ChainWords,
+    marks: &PerNode,
+    p: &mut Scratch,
     k: &mut [u16; 1024],
 )
     requires { ⌜ Loaded (now file) (now ix) ⌝ }
     requires { ⌜ Chains (now g) s (now ls) ⌝ }
-    requires { ⌜ now marks ≡ marksOf (graphIn (now g) s) ⌝ }
+    requires { ⌜ now marks ≡ labelBits (graphIn (now g) s) ⌝ }
     requires { ⌜ FreshPlan (now p) (now k) ⌝ }
     ensures { λ _. ⌜ Planned (shownOf (tablesOf (now (file .entry))) (graphIn (now (g .entry)) s)) (now (p .exit)) (now (k .exit)) ⌝ }
     ensures { λ _. ⌜ length (now (p .exit)) ≡ 1280 ⌝ }
@@ -43,24 +48,24 @@ pub fn plan_of(
     let mut leads = [0u16; 128];
     naming::group_named(file, ix, g, s, ls, &mut leads);
     let mut gr = [0u16; 128];
-    measuring::build_plan(file, ix, g, s, ls, marks, &leads, &mut gr, p, k);
+    planning::build_plan(file, ix, g, s, ls, marks, &leads, &mut gr, p, k);
 }
 
 // The plan as the edition reads it (order 11).
 fn plan_as(
     file: &[u8],
-    ix: &[u16; 10432],
-    g: &[u64; 1152],
+    ix: &Slots,
+    g: &GraphWords,
     s: Size,
-    ls: &[u16; 3456],
-    marks: &[u16; 128],
-    p: &mut [u64; 1280],
+    ls: &ChainWords,
+    marks: &PerNode,
+    p: &mut Scratch,
     k: &mut [u16; 1024],
     every: bool,
 )
     requires { ⌜ Loaded (now file) (now ix) ⌝ }
     requires { ⌜ Chains (now g) s (now ls) ⌝ }
-    requires { ⌜ now marks ≡ marksOf (graphIn (now g) s) ⌝ }
+    requires { ⌜ now marks ≡ labelBits (graphIn (now g) s) ⌝ }
     requires { ⌜ FreshPlan (now p) (now k) ⌝ }
     ensures { λ _. ⌜ PlannedAs every (shownOf (tablesOf (now (file .entry))) (graphIn (now (g .entry)) s)) (now (p .exit)) (now (k .exit)) ⌝ }
 {
@@ -68,7 +73,7 @@ fn plan_as(
     plan::reading::read_as(p, every);
 }
 
-fn told(t: Told) -> Answer
+fn told(t: WalkAnswer) -> Answer
     ensures { λ r. ⌜ r ≡ toldAs t ⌝ }
 {
     Answer {
@@ -83,8 +88,8 @@ fn told(t: Told) -> Answer
 // The walk over a plan, as an answer.
 pub fn walk_plan(
     file: &[u8],
-    ix: &[u16; 10432],
-    p: &[u64; 1280],
+    ix: &Slots,
+    p: &Scratch,
     k: &[u16; 1024],
     top: bool,
     room: &mut [u8],
@@ -100,21 +105,22 @@ pub fn walk_plan(
 // What is shown of a graph whose labels are known. The table that held the triples is cleared and holds the plan.
 pub fn explain_marked(
     file: &[u8],
-    ix: &[u16; 10432],
-    g: &[u64; 1152],
+    ix: &Slots,
+    g: &GraphWords,
     s: Size,
-    ls: &[u16; 3456],
-    marks: &[u16; 128],
-    p: &mut [u64; 1280],
+    ls: &ChainWords,
+    marks: &PerNode,
+    p: &mut Scratch,
     top: bool,
     every: bool,
     room: &mut [u8],
 ) -> Answer
     requires { ⌜ Loaded (now file) (now ix) ⌝ }
     requires { ⌜ Chains (now g) s (now ls) ⌝ }
-    requires { ⌜ now marks ≡ marksOf (graphIn (now g) s) ⌝ }
+    requires { ⌜ now marks ≡ labelBits (graphIn (now g) s) ⌝ }
     requires { ⌜ Graphed (tablesOf (now file)) (graphIn (now g) s) ⌝ }
-    ensures { λ r. ⌜ Shows (editionOf every) (tablesOf (now (file .entry))) (graphIn (now (g .entry)) s) (optionOf top) (now (room .entry)) (now (room .exit)) r ⌝ }
+    ensures { λ r. ⌜ Shows (editionOf every) (tablesOf (now (file .entry))) (graphIn (now (g .entry)) s) (optionOf top) (now (room .entry)) (now (room .exit))
+        r ⌝ }
 {
     *p = [0u64; 1280];
     let mut k = [0u16; 1024];
@@ -125,11 +131,11 @@ pub fn explain_marked(
 // A graph that is drawn whole: its labels, then what is shown of it.
 pub fn explain_whole(
     file: &[u8],
-    ix: &[u16; 10432],
-    g: &[u64; 1152],
+    ix: &Slots,
+    g: &GraphWords,
     s: Size,
-    ls: &[u16; 3456],
-    p: &mut [u64; 1280],
+    ls: &ChainWords,
+    p: &mut Scratch,
     top: bool,
     every: bool,
     room: &mut [u8],
@@ -148,10 +154,10 @@ pub fn explain_in(
     file: &[u8],
     top: bool,
     every: bool,
-    ix: &mut [u16; 10432],
-    g: &mut [u64; 1152],
-    tr: &mut [u64; 1280],
-    ls: &mut [u16; 3456],
+    ix: &mut Slots,
+    g: &mut GraphWords,
+    tr: &mut Scratch,
+    ls: &mut ChainWords,
     room: &mut [u8],
 ) -> Answer
     requires { ⌜ Blank (now ix) ⌝ }

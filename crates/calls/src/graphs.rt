@@ -14,10 +14,15 @@ use crate::Answer;
 use crate::checks::refusal;
 use crate::checks::wide;
 use graph::Made;
+use index::Slots;
+use store::ChainWords;
+use store::GraphWords;
+use store::PerNode;
+use store::Scratch;
 use store::Size;
 
 // What was drawn as an answer.
-pub fn answer(d: drawing::Answer) -> Answer
+pub fn answer(d: drawing::PenAnswer) -> Answer
     ensures { λ r. ⌜ r ≡ drawingAs d ⌝ }
 {
     Answer {
@@ -32,12 +37,12 @@ pub fn answer(d: drawing::Answer) -> Answer
 // The groups' first members, where they are asked for.
 fn lead_if(
     file: &[u8],
-    ix: &[u16; 10432],
-    g: &[u64; 1152],
+    ix: &Slots,
+    g: &GraphWords,
     s: Size,
-    ls: &[u16; 3456],
+    ls: &ChainWords,
     simplify: bool,
-    leads: &mut [u16; 128],
+    leads: &mut PerNode,
 )
     requires { ⌜ Loaded (now file) (now ix) ⌝ }
     requires { ⌜ Chains (now g) s (now ls) ⌝ }
@@ -53,17 +58,19 @@ fn lead_if(
 // A graph that is drawn whole.
 fn draw_whole(
     file: &[u8],
-    ix: &[u16; 10432],
-    g: &[u64; 1152],
+    ix: &Slots,
+    g: &GraphWords,
     s: Size,
-    ls: &[u16; 3456],
+    ls: &ChainWords,
     simplify: bool,
     room: &mut [u8],
 ) -> Answer
     requires { ⌜ Loaded (now file) (now ix) ⌝ }
     requires { ⌜ Chains (now g) s (now ls) ⌝ }
-    ensures { λ r. ⌜ r ≡ resultAnswer (drawShown (drawnOf (optionOf simplify) (tablesOf (now (file .entry))) (graphIn (now (g .entry)) s)) (length (now (room .entry)))) ⌝ }
-    ensures { λ _. ⌜ now (room .exit) ≡ over (drawShown (drawnOf (optionOf simplify) (tablesOf (now (file .entry))) (graphIn (now (g .entry)) s)) (length (now (room .entry))) .text) (now (room .entry)) ⌝ }
+    ensures { λ r. ⌜ r ≡ resultAnswer (drawShown (drawnOf (optionOf simplify) (tablesOf (now (file .entry))) (graphIn (now (g .entry)) s))
+        (length (now (room .entry)))) ⌝ }
+    ensures { λ _. ⌜ now (room .exit) ≡ over (drawShown (drawnOf (optionOf simplify) (tablesOf (now (file .entry))) (graphIn (now (g .entry)) s))
+        (length (now (room .entry))) .text) (now (room .entry)) ⌝ }
 {
     let mut leads = [0u16; 128];
     lead_if(file, ix, g, s, ls, simplify, &mut leads);
@@ -74,10 +81,10 @@ fn draw_whole(
 pub fn draw_in(
     file: &[u8],
     simplify: bool,
-    ix: &mut [u16; 10432],
-    g: &mut [u64; 1152],
-    tr: &mut [u64; 1280],
-    ls: &mut [u16; 3456],
+    ix: &mut Slots,
+    g: &mut GraphWords,
+    tr: &mut Scratch,
+    ls: &mut ChainWords,
     room: &mut [u8],
 ) -> Answer
     requires { ⌜ Blank (now ix) ⌝ }

@@ -5,7 +5,7 @@ ghost use Rattle.records.specs.Read.{tablesOf};
 ghost use Rattle.index.specs.Index.{Loaded, Blank};
 ghost use Rattle.store.specs.Table.{graphIn};
 ghost use Rattle.links.specs.Build.{Chains};
-ghost use Rattle.labels.specs.Marks.{marksOf};
+ghost use Rattle.labels.specs.Marks.{labelBits};
 ghost use Rattle.graph.specs.Graphs.{graphOf, drawn};
 ghost use Rattle.planning.specs.Building.{FreshPlan};
 ghost use Rattle.explanation.specs.Walk.{Ready};
@@ -20,7 +20,12 @@ use crate::checks::refusal;
 use crate::explains::plan_of;
 use crate::explains::walk_plan;
 use graph::Made;
+use index::Slots;
 use season::Own;
+use store::ChainWords;
+use store::GraphWords;
+use store::PerNode;
+use store::Scratch;
 use store::Size;
 use tally::Counts;
 
@@ -62,18 +67,18 @@ fn enter_refused(report: &mut [u64], number: u64, place: u64) -> Answer
 // The plan as the edition reads it, and the counts of its graph, taken before.
 fn plan_counted(
     file: &[u8],
-    ix: &[u16; 10432],
-    g: &[u64; 1152],
+    ix: &Slots,
+    g: &GraphWords,
     s: Size,
-    ls: &[u16; 3456],
-    marks: &[u16; 128],
-    p: &mut [u64; 1280],
+    ls: &ChainWords,
+    marks: &PerNode,
+    p: &mut Scratch,
     k: &mut [u16; 1024],
     every: bool,
 ) -> Counts
     requires { ⌜ Loaded (now file) (now ix) ⌝ }
     requires { ⌜ Chains (now g) s (now ls) ⌝ }
-    requires { ⌜ now marks ≡ marksOf (graphIn (now g) s) ⌝ }
+    requires { ⌜ now marks ≡ labelBits (graphIn (now g) s) ⌝ }
     requires { ⌜ FreshPlan (now p) (now k) ⌝ }
     ensures { λ r. ⌜ CountedAs every (tablesOf (now (file .entry))) (graphIn (now (g .entry)) s) (now (p .exit)) (now (k .exit)) r ⌝ }
 {
@@ -86,18 +91,18 @@ fn plan_counted(
 // The same of the graph that a file draws.
 fn plan_file(
     file: &[u8],
-    ix: &[u16; 10432],
-    g: &[u64; 1152],
+    ix: &Slots,
+    g: &GraphWords,
     s: Size,
-    ls: &[u16; 3456],
-    marks: &[u16; 128],
-    p: &mut [u64; 1280],
+    ls: &ChainWords,
+    marks: &PerNode,
+    p: &mut Scratch,
     k: &mut [u16; 1024],
     every: bool,
 ) -> Counts
     requires { ⌜ Loaded (now file) (now ix) ⌝ }
     requires { ⌜ Chains (now g) s (now ls) ⌝ }
-    requires { ⌜ now marks ≡ marksOf (graphIn (now g) s) ⌝ }
+    requires { ⌜ now marks ≡ labelBits (graphIn (now g) s) ⌝ }
     requires { ⌜ graphOf (tablesOf (now file)) ≡ drawn (graphIn (now g) s) ⌝ }
     requires { ⌜ FreshPlan (now p) (now k) ⌝ }
     ensures { λ r. ⌜ CountedFile every (now (file .entry)) (now (p .exit)) (now (k .exit)) r ⌝ }
@@ -108,8 +113,8 @@ fn plan_file(
 // The walk over a plan, and its answer with the counts c added to the report.
 fn tell(
     file: &[u8],
-    ix: &[u16; 10432],
-    p: &[u64; 1280],
+    ix: &Slots,
+    p: &Scratch,
     k: &[u16; 1024],
     c: Counts,
     top: bool,
@@ -118,7 +123,8 @@ fn tell(
 ) -> Answer
     requires { ⌜ Loaded (now file) (now ix) ⌝ }
     requires { ⌜ Ready (tablesOf (now file)) (now p) (now k) ⌝ }
-    ensures { λ r. ⌜ Tells (tablesOf (now (file .entry))) (now (p .entry)) (now (k .entry)) c top (now (report .entry)) (now (report .exit)) (now (room .entry)) (now (room .exit)) r ⌝ }
+    ensures { λ r. ⌜ Tells (tablesOf (now (file .entry))) (now (p .entry)) (now (k .entry)) c top (now (report .entry)) (now (report .exit)) (now (room .entry))
+        (now (room .exit)) r ⌝ }
 {
     let a = walk_plan(file, ix, p, k, top, room);
     enter(report, a, c)
@@ -127,12 +133,12 @@ fn tell(
 // A file whose graph is drawn whole and labelled. The table that held the triples is cleared and holds the plan.
 fn season_marked(
     file: &[u8],
-    ix: &[u16; 10432],
-    g: &[u64; 1152],
+    ix: &Slots,
+    g: &GraphWords,
     s: Size,
-    ls: &[u16; 3456],
-    marks: &[u16; 128],
-    p: &mut [u64; 1280],
+    ls: &ChainWords,
+    marks: &PerNode,
+    p: &mut Scratch,
     top: bool,
     every: bool,
     report: &mut [u64],
@@ -140,9 +146,10 @@ fn season_marked(
 ) -> Answer
     requires { ⌜ Loaded (now file) (now ix) ⌝ }
     requires { ⌜ Chains (now g) s (now ls) ⌝ }
-    requires { ⌜ now marks ≡ marksOf (graphIn (now g) s) ⌝ }
+    requires { ⌜ now marks ≡ labelBits (graphIn (now g) s) ⌝ }
     requires { ⌜ graphOf (tablesOf (now file)) ≡ drawn (graphIn (now g) s) ⌝ }
-    ensures { λ r. ⌜ Entered (editionOf every) (now (file .entry)) (optionOf top) (now (report .entry)) (now (report .exit)) (now (room .entry)) (now (room .exit)) r ⌝ }
+    ensures { λ r. ⌜ Entered (editionOf every) (now (file .entry)) (optionOf top) (now (report .entry)) (now (report .exit)) (now (room .entry))
+        (now (room .exit)) r ⌝ }
 {
     *p = [0u64; 1280];
     let mut k = [0u16; 1024];
@@ -153,11 +160,11 @@ fn season_marked(
 // A file whose graph is drawn whole: its labels first.
 fn season_whole(
     file: &[u8],
-    ix: &[u16; 10432],
-    g: &[u64; 1152],
+    ix: &Slots,
+    g: &GraphWords,
     s: Size,
-    ls: &[u16; 3456],
-    p: &mut [u64; 1280],
+    ls: &ChainWords,
+    p: &mut Scratch,
     top: bool,
     every: bool,
     report: &mut [u64],
@@ -166,7 +173,8 @@ fn season_whole(
     requires { ⌜ Loaded (now file) (now ix) ⌝ }
     requires { ⌜ Chains (now g) s (now ls) ⌝ }
     requires { ⌜ graphOf (tablesOf (now file)) ≡ drawn (graphIn (now g) s) ⌝ }
-    ensures { λ r. ⌜ Entered (editionOf every) (now (file .entry)) (optionOf top) (now (report .entry)) (now (report .exit)) (now (room .entry)) (now (room .exit)) r ⌝ }
+    ensures { λ r. ⌜ Entered (editionOf every) (now (file .entry)) (optionOf top) (now (report .entry)) (now (report .exit)) (now (room .entry))
+        (now (room .exit)) r ⌝ }
 {
     let mut marks = [0u16; 128];
     labels::label(g, s, ls, &mut marks);
@@ -178,17 +186,18 @@ fn season_in(
     file: &[u8],
     top: bool,
     every: bool,
-    ix: &mut [u16; 10432],
-    g: &mut [u64; 1152],
-    tr: &mut [u64; 1280],
-    ls: &mut [u16; 3456],
+    ix: &mut Slots,
+    g: &mut GraphWords,
+    tr: &mut Scratch,
+    ls: &mut ChainWords,
     room: &mut [u8],
 ) -> Answer
     requires { ⌜ Blank (now ix) ⌝ }
     requires { ⌜ now g ≡ replicate 1152 0 ⌝ }
     requires { ⌜ length (now tr) ≡ 1280 ⌝ }
     requires { ⌜ now ls ≡ replicate 3456 0 ⌝ }
-    ensures { λ r. ⌜ Entered (editionOf every) (now (file .entry)) (optionOf top) (now (report .entry)) (now (report .exit)) (now (room .entry)) (now (room .exit)) r ⌝ }
+    ensures { λ r. ⌜ Entered (editionOf every) (now (file .entry)) (optionOf top) (now (report .entry)) (now (report .exit)) (now (room .entry))
+        (now (room .exit)) r ⌝ }
 {
     let m = graph::of_file(file, ix, g, tr, ls);
     match m {
@@ -203,10 +212,10 @@ pub fn season_of(
     file: &[u8],
     edition: u64,
     option: u64,
-    ix: &mut [u16; 10432],
-    g: &mut [u64; 1152],
-    tr: &mut [u64; 1280],
-    ls: &mut [u16; 3456],
+    ix: &mut Slots,
+    g: &mut GraphWords,
+    tr: &mut Scratch,
+    ls: &mut ChainWords,
     room: &mut [u8],
 ) -> Answer
     requires { ⌜ Blank (now ix) ⌝ }

@@ -5,32 +5,37 @@ ghost use Rattle.texts.specs.Wrote.{over};
 ghost use Rattle.records.specs.Read.{tablesOf};
 ghost use Rattle.index.specs.Index.{Loaded, Blank};
 ghost use Rattle.store.specs.Table.{graphIn, Stored};
-ghost use Rattle.exporting.specs.Export.{exportShown};
+ghost use Rattle.wall.specs.Export.{exportShown};
 ghost use Rattle.calls.specs.Draws.{resultAnswer};
 ghost use Rattle.calls.specs.Wall.{exportFile};
 use crate::Answer;
 use crate::checks::refusal;
 use crate::graphs::answer;
 use graph::Made;
+use index::Slots;
+use store::ChainWords;
+use store::GraphWords;
+use store::Scratch;
 use store::Size;
 
 // A graph that is drawn whole.
-fn export_whole(file: &[u8], ix: &[u16; 10432], g: &[u64; 1152], s: Size, room: &mut [u8]) -> Answer
+fn export_whole(file: &[u8], ix: &Slots, g: &GraphWords, s: Size, room: &mut [u8]) -> Answer
     requires { ⌜ Loaded (now file) (now ix) ⌝ }
     requires { ⌜ Stored (now g) s ⌝ }
     ensures { λ r. ⌜ r ≡ resultAnswer (exportShown (tablesOf (now (file .entry))) (graphIn (now (g .entry)) s) (length (now (room .entry)))) ⌝ }
-    ensures { λ _. ⌜ now (room .exit) ≡ over (exportShown (tablesOf (now (file .entry))) (graphIn (now (g .entry)) s) (length (now (room .entry))) .text) (now (room .entry)) ⌝ }
+    ensures { λ _. ⌜ now (room .exit) ≡ over (exportShown (tablesOf (now (file .entry))) (graphIn (now (g .entry)) s) (length (now (room .entry))) .text)
+        (now (room .entry)) ⌝ }
 {
-    let d = exporting::export(file, ix, g, s, room);
+    let d = wall::export::export(file, ix, g, s, room);
     answer(d)
 }
 
 pub fn export_in(
     file: &[u8],
-    ix: &mut [u16; 10432],
-    g: &mut [u64; 1152],
-    tr: &mut [u64; 1280],
-    ls: &mut [u16; 3456],
+    ix: &mut Slots,
+    g: &mut GraphWords,
+    tr: &mut Scratch,
+    ls: &mut ChainWords,
     room: &mut [u8],
 ) -> Answer
     requires { ⌜ Blank (now ix) ⌝ }

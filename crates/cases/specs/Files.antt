@@ -73,13 +73,15 @@ replay =
 -- P9: "root needs deck, deck needs panel, panel needs deck, one solvable each"
 abbrev pub deckPanel : List ℕ
 deckPanel =
-    name 0 "deck" ++ name 1 "panel" ++ solvable 0 0 "1" ++ solvable 1 1 "1" ++ requirement 0 "deck *" ++ requirement 1 "panel *" ++ candidate 0 0 ++ candidate 1 1
+    name 0 "deck" ++ name 1 "panel" ++ solvable 0 0 "1" ++ solvable 1 1 "1" ++ requirement 0 "deck *" ++ requirement 1 "panel *" ++ candidate 0 0
+    ++ candidate 1 1
     ++ rootVariable 0 ++ variableOf 1 0 ++ variableOf 2 1 ++ requires 0 0 ++ requires 1 1 ++ requires 2 0
 
 -- the same with panel's records first, so that deck is solvable 1
 abbrev pub panelDeck : List ℕ
 panelDeck =
-    name 0 "panel" ++ name 1 "deck" ++ solvable 0 0 "1" ++ solvable 1 1 "1" ++ requirement 0 "deck *" ++ requirement 1 "panel *" ++ candidate 0 1 ++ candidate 1 0
+    name 0 "panel" ++ name 1 "deck" ++ solvable 0 0 "1" ++ solvable 1 1 "1" ++ requirement 0 "deck *" ++ requirement 1 "panel *" ++ candidate 0 1
+    ++ candidate 1 0
     ++ rootVariable 0 ++ variableOf 1 1 ++ variableOf 2 0 ++ requires 0 0 ++ requires 1 1 ++ requires 2 0
 
 -- P10: "root needs x, x needs a merged pair, each of the pair needs x"

@@ -12,7 +12,7 @@ use Rattle.graph.specs.Graphs.{graphOf}
 use Rattle.machine.specs.Units.{TextUnit, textOf, fit, written}
 use Rattle.drawing.specs.Draw.{drawnOf}
 use Rattle.drawing.specs.Graphviz.{drawShown}
-use Rattle.nodelist.specs.Nodes.{entered, nodesOf}
+use Rattle.lists.specs.Nodes.{entered, nodesOf}
 use Rattle.calls.specs.Draws.{drawFile}
 use Rattle.cases.specs.Files.{monitor}
 use Rattle.cases.specs.Texts.{printed, monitorLines}

@@ -17,8 +17,8 @@ use Rattle.texts.specs.Wrote.{over}
 use Rattle.texts.specs.Indent.{indent}
 use Rattle.plan.specs.Plan.{shownOf}
 use Rattle.explanation.specs.Explain.{explainFile}
-use Rattle.entries.specs.declared.NodeEntry.{NodeEntry}
-use Rattle.nodelist.specs.Nodes.{Nodes, entered, denied, nodesDrawn, nodesRead, nodesOf, listedBy}
+use Rattle.lists.specs.declared.entries.NodeEntry.{NodeEntry}
+use Rattle.lists.specs.Nodes.{Nodes, entered, denied, nodesDrawn, nodesRead, nodesOf, listedBy}
 use Rattle.calls.specs.declared.Answer.{Answer}
 use Rattle.calls.specs.Answers.{refusalOf, outcomeAnswer, checkBy, checkOf}
 use Rattle.calls.specs.Nodes.{nodesBy, nodesAnswer, nodesLeft, listOver}
@@ -182,8 +182,18 @@ module _ (c : Case) (x : Computed c) where
 -- every row of the table is right
 pub right : All Right table
 right =
-    let later : All Computed (p7 ∷ p8 ∷ p9 ∷ p10 ∷ p11 ∷ indented ∷ deckSecond ∷ twoRuns ∷ []) = (row-p7, (row-p8, (row-p9, (row-p10, (row-p11, (row-indented, (row-deckSecond, (row-twoRuns, tt)))))))) in
-    all-map Computed Right table row-right (row-p1, (row-p2, (row-p3-core, (row-p3-outside, (row-p4-most, (row-p4-over, (row-p5, (row-p5-unresolved, (row-p6, later)))))))))
+    let later : All Computed (p7 ∷ p8 ∷ p9 ∷ p10 ∷ p11 ∷ indented ∷ deckSecond ∷ twoRuns ∷ []) =
+    (row-p7, (row-p8, (row-p9, (row-p10, (row-p11, (row-indented, (row-deckSecond, (row-twoRuns, tt)))))))) in
+    all-map Computed Right table row-right (
+      row-p1,
+      (
+        row-p2,
+        (
+          row-p3-core,
+          (row-p3-outside, (row-p4-most, (row-p4-over, (row-p5, (row-p5-unresolved, (row-p6, later)))))),
+        ),
+      ),
+    )
 
 -- ---- a node list in a list that is long enough
 

@@ -10,7 +10,7 @@ use Rattle.records.specs.Shapes.{cut, shapeOf}
 use Rattle.records.specs.Read.{readFrom, readOf}
 use Rattle.graph.specs.Graphs.{graphOf}
 use Rattle.texts.specs.Wrote.{over}
-use Rattle.season.specs.Report.{join, fits, files}
+use Rattle.season.specs.Report.{join, fitsWidths, files}
 use Rattle.season.specs.Season.{share}
 use Rattle.season.specs.Words.{deepIn, reportOf, wordsOf, joinBy, joinWords, shareWords}
 use Rattle.tally.specs.declared.Counts.{Counts}
@@ -129,7 +129,8 @@ seasoned c R x =
           let o = R .says out left (E .own) h (E .says) in (
             E .enters .answer
                 ∙ ap (λ (a : Answer). joinBy (c .before) (shareWords (ownOf a (fileCounts (c .case .file)))) (refusalOf 10 0) (refusalOf 14 0) a) (o .0)
-                ∙ ap (λ (k : Counts). joinBy (c .before) (shareWords (ownOf (c .case .answer) k)) (refusalOf 10 0) (refusalOf 14 0) (c .case .answer)) (x .graph)
+                ∙ ap (λ (k : Counts). joinBy (c .before) (shareWords (ownOf (c .case .answer) k)) (refusalOf 10 0) (refusalOf 14 0) (c .case .answer))
+                (x .graph)
                 ∙ x .answers,
             E .enters .report
                 ∙ ap (λ (a : Answer). joinWords (c .before) (shareWords (ownOf a (fileCounts (c .case .file))))) (o .0)
@@ -140,35 +141,35 @@ seasoned c R x =
     }
 
 row-one-file : Computed one-file
-unfolding fileCounts cut shapeOf readFrom readOf graphOf joinBy guard wordsOf reportOf deepIn join fits files share
+unfolding fileCounts cut shapeOf readFrom readOf graphOf joinBy guard wordsOf reportOf deepIn join fitsWidths files share
 row-one-file = record { long = refl; graph = refl; answers = refl; reports = refl }
 
 row-ten-adds : Computed ten-adds
-unfolding fileCounts cut shapeOf readFrom readOf graphOf joinBy guard wordsOf reportOf deepIn join fits files share
+unfolding fileCounts cut shapeOf readFrom readOf graphOf joinBy guard wordsOf reportOf deepIn join fitsWidths files share
 row-ten-adds = record { long = refl; graph = refl; answers = refl; reports = refl }
 
 row-unasked : Computed unasked
-unfolding fileCounts cut shapeOf readFrom readOf graphOf joinBy guard wordsOf reportOf deepIn join fits files share
+unfolding fileCounts cut shapeOf readFrom readOf graphOf joinBy guard wordsOf reportOf deepIn join fitsWidths files share
 row-unasked = record { long = refl; graph = refl; answers = refl; reports = refl }
 
 row-deeper-named : Computed deeper-named
-unfolding fileCounts cut shapeOf readFrom readOf graphOf joinBy guard wordsOf reportOf deepIn join fits files share
+unfolding fileCounts cut shapeOf readFrom readOf graphOf joinBy guard wordsOf reportOf deepIn join fitsWidths files share
 row-deeper-named = record { long = refl; graph = refl; answers = refl; reports = refl }
 
 row-refused : Computed refused
-unfolding fileCounts cut shapeOf readFrom readOf graphOf joinBy guard wordsOf reportOf deepIn join fits files share
+unfolding fileCounts cut shapeOf readFrom readOf graphOf joinBy guard wordsOf reportOf deepIn join fitsWidths files share
 row-refused = record { long = refl; graph = refl; answers = refl; reports = refl }
 
 row-full : Computed full
-unfolding fileCounts cut shapeOf readFrom readOf graphOf joinBy guard wordsOf reportOf deepIn join fits files share
+unfolding fileCounts cut shapeOf readFrom readOf graphOf joinBy guard wordsOf reportOf deepIn join fitsWidths files share
 row-full = record { long = refl; graph = refl; answers = refl; reports = refl }
 
 row-full-lines : Computed full-lines
-unfolding fileCounts cut shapeOf readFrom readOf graphOf joinBy guard wordsOf reportOf deepIn join fits files share
+unfolding fileCounts cut shapeOf readFrom readOf graphOf joinBy guard wordsOf reportOf deepIn join fitsWidths files share
 row-full-lines = record { long = refl; graph = refl; answers = refl; reports = refl }
 
 row-full-files : Computed full-files
-unfolding fileCounts cut shapeOf readFrom readOf graphOf joinBy guard wordsOf reportOf deepIn join fits files share
+unfolding fileCounts cut shapeOf readFrom readOf graphOf joinBy guard wordsOf reportOf deepIn join fitsWidths files share
 row-full-files = record { long = refl; graph = refl; answers = refl; reports = refl }
 
 -- P6 to P9 among document 01's cases
@@ -212,29 +213,29 @@ season-full-files = seasoned full-files right-p6 row-full-files
 
 -- the second's file 0 is file 4 behind four files
 pub follows : joinWords four (report 1 0 0 0 (1 ∷ 0 ∷ 0 ∷ 0 ∷ 1 ∷ 3 ∷ 0 ∷ 1 ∷ [])) ≡ report 2 1 1 1 (12 ∷ 11 ∷ 2 ∷ 8 ∷ 11 ∷ 3 ∷ 4 ∷ 1 ∷ [])
-unfolding joinBy guard wordsOf reportOf deepIn join fits files
+unfolding joinBy guard wordsOf reportOf deepIn join fitsWidths files
 follows = refl
 
 -- the first of two that are as deep
 pub stays : joinWords one one ≡ report 2 0 0 0 (8 ∷ 8 ∷ 2 ∷ 8 ∷ 6 ∷ 1 ∷ 0 ∷ 1 ∷ [])
-unfolding joinBy guard wordsOf reportOf deepIn join fits files
+unfolding joinBy guard wordsOf reportOf deepIn join fitsWidths files
 stays = refl
 
 -- a season cut behind its second file
 pub cut-joined : joinWords two (report 0 0 1 1 (3 ∷ 3 ∷ 0 ∷ 0 ∷ 5 ∷ 2 ∷ 1 ∷ 1 ∷ [])) ≡ four
-unfolding joinBy guard wordsOf reportOf deepIn join fits files
+unfolding joinBy guard wordsOf reportOf deepIn join fitsWidths files
 cut-joined = refl
 
 -- a file number that would pass 64 bits where it ends up in the result, and not where it does not
 pub far : joinAnswer one (set one 25 18446744073709551615) ≡ refusalOf 0 0
-unfolding joinBy guard wordsOf reportOf deepIn join fits files
+unfolding joinBy guard wordsOf reportOf deepIn join fitsWidths files
 far = refl
 
 pub too-far : joinAnswer one (set (set one 24 2) 25 18446744073709551615) ≡ refusalOf 14 0
-unfolding joinBy guard wordsOf reportOf deepIn join fits files
+unfolding joinBy guard wordsOf reportOf deepIn join fitsWidths files
 too-far = refl
 
 -- reports of other lengths
 pub short : (joinAnswer (replicate 26 0) one ≡ refusalOf 10 0) × (joinAnswer one (replicate 28 0) ≡ refusalOf 10 0) × (joinWords one (replicate 28 0) ≡ one)
-unfolding joinBy guard wordsOf reportOf deepIn join fits files
+unfolding joinBy guard wordsOf reportOf deepIn join fitsWidths files
 short = (refl, refl, refl)

@@ -10,7 +10,7 @@ use Rattle.basis.specs.Lists.{upto}
 use Rattle.basis.specs.Members.{All, all-map}
 use Rattle.records.specs.Shapes.{cut, shapeOf}
 use Rattle.records.specs.Read.{readFrom}
-use Rattle.nodelist.specs.Nodes.{Nodes, entered, nodesOf}
+use Rattle.lists.specs.Nodes.{Nodes, entered, nodesOf}
 use Rattle.calls.specs.declared.Answer.{Answer}
 use Rattle.cases.specs.Files.{wide}
 use Rattle.cases.specs.Texts.{printed, sixLines, sevenLines, eightLines}

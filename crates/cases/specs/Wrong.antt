@@ -35,7 +35,8 @@ the-program file opt out = let r = file-answers 1 file opt (length out) in recor
 pub same-program : (f : Program) → Meets f → (file : List ℕ) (opt : ℕ) (out : List ℕ)
     → (f file opt out .0 ≡ theProgram file opt out .0) × (f file opt out .1 ≡ theProgram file opt out .1)
 same-program f m file opt out =
-    says-one 1 file opt out (f file opt out .1) (theProgram file opt out .1) (f file opt out .0) (theProgram file opt out .0) (m file opt out) (the-program file opt out)
+    says-one 1 file opt out (f file opt out .1) (theProgram file opt out .1) (f file opt out .0) (theProgram file opt out .0) (m file opt out)
+    (the-program file opt out)
 
 -- ---- rows
 

@@ -6,14 +6,17 @@ ghost use Rattle.store.specs.Table.{graphIn, edgeIn, Stored};
 ghost use Rattle.links.specs.Build.{Chains};
 ghost use Rattle.labels.specs.Labels.{targets};
 ghost use Rattle.labels.specs.Frames.{Fresh};
-ghost use Rattle.reach.specs.Queue.{Marked, lowestOf};
+ghost use Rattle.links.specs.Queue.{Marked, lowestOf};
 ghost use Rattle.cycles.specs.Cycles.{cycleOf};
 ghost use Rattle.cycles.specs.Laws.Lowest.{Lowest};
 ghost use Rattle.cycles.specs.Laws.Walks.{OnCycle, litIn, Quick};
+use store::ChainWords;
+use store::GraphWords;
+use store::PerNode;
 use store::Size;
 
 // The source of edge e has a mark.
-fn lit(g: &[u64; 1152], s: Size, w: &[u16; 256], e: usize) -> bool
+fn lit(g: &GraphWords, s: Size, w: &[u16; 256], e: usize) -> bool
     requires { ⌜ (Stored (now g) s) × (e < s .edges) ⌝ }
     ensures { λ r. ⌜ r ≡ litIn (now (w .entry)) (edgeIn (now (g .entry)) e .source) ⌝ }
 {
@@ -25,7 +28,7 @@ fn lit(g: &[u64; 1152], s: Size, w: &[u16; 256], e: usize) -> bool
 }
 
 // An edge comes into n from a node with a mark.
-fn comes_back(g: &[u64; 1152], s: Size, ls: &[u16; 3456], w: &[u16; 256], n: usize) -> bool
+fn comes_back(g: &GraphWords, s: Size, ls: &ChainWords, w: &[u16; 256], n: usize) -> bool
     requires { ⌜ Chains (now g) s (now ls) ⌝ }
     requires { ⌜ n < s .nodes ⌝ }
     requires { ⌜ Marked (now g) s n (now w) ⌝ }
@@ -42,18 +45,18 @@ fn comes_back(g: &[u64; 1152], s: Size, ls: &[u16; 3456], w: &[u16; 256], n: usi
     false
 }
 
-fn on_cycle(g: &[u64; 1152], s: Size, ls: &[u16; 3456], n: usize) -> bool
+fn on_cycle(g: &GraphWords, s: Size, ls: &ChainWords, n: usize) -> bool
     requires { ⌜ Chains (now g) s (now ls) ⌝ }
     requires { ⌜ n < s .nodes ⌝ }
     ensures { λ r. ⌜ OnCycle (targets (graphIn (now (g .entry)) s)) n r ⌝ }
 {
     let mut w = [0u16; 256];
-    reach::mark(g, s, ls, &mut w, n);
+    links::reach::mark(g, s, ls, &mut w, n);
     comes_back(g, s, ls, &w, n)
 }
 
 // The nodes upward.
-fn lowest(g: &[u64; 1152], s: Size, ls: &[u16; 3456]) -> usize
+fn lowest(g: &GraphWords, s: Size, ls: &ChainWords) -> usize
     requires { ⌜ Chains (now g) s (now ls) ⌝ }
     ensures { λ r. ⌜ Lowest (targets (graphIn (now (g .entry)) s)) r ⌝ }
 {
@@ -68,7 +71,7 @@ fn lowest(g: &[u64; 1152], s: Size, ls: &[u16; 3456]) -> usize
     0
 }
 
-fn put(pos: &mut [u16; 128], x: usize, i: usize)
+fn put(pos: &mut PerNode, x: usize, i: usize)
     requires { ⌜ i < 128 ⌝ }
 {
     if x < 128 {
@@ -77,7 +80,7 @@ fn put(pos: &mut [u16; 128], x: usize, i: usize)
 }
 
 // Each node's place in post-order. Nothing is promised: `falls` looks at every edge.
-fn place(order: &[u16; 128], count: usize, pos: &mut [u16; 128])
+fn place(order: &PerNode, count: usize, pos: &mut PerNode)
     requires { ⌜ count ≤ 128 ⌝ }
 {
     let mut i: usize = 0;
@@ -89,7 +92,7 @@ fn place(order: &[u16; 128], count: usize, pos: &mut [u16; 128])
 }
 
 // Every edge leads to a lower number.
-fn falls(g: &[u64; 1152], s: Size, pos: &[u16; 128]) -> bool
+fn falls(g: &GraphWords, s: Size, pos: &PerNode) -> bool
     requires { ⌜ Stored (now g) s ⌝ }
     ensures { λ r. ⌜ Quick (now (g .entry)) (now (pos .entry)) (s .edges) r ⌝ }
 {
@@ -108,13 +111,13 @@ fn falls(g: &[u64; 1152], s: Size, pos: &[u16; 128]) -> bool
 }
 
 fn lowest_in(
-    g: &[u64; 1152],
+    g: &GraphWords,
     s: Size,
-    ls: &[u16; 3456],
-    seen: &mut [u16; 128],
-    order: &mut [u16; 128],
+    ls: &ChainWords,
+    seen: &mut PerNode,
+    order: &mut PerNode,
     frames: &mut [u32; 128],
-    pos: &mut [u16; 128],
+    pos: &mut PerNode,
 ) -> usize
     requires { ⌜ Chains (now g) s (now ls) ⌝ }
     requires { ⌜ Fresh (now seen) (now order) (now frames) ⌝ }
@@ -130,7 +133,7 @@ fn lowest_in(
 }
 
 // One more than the lowest node that leads back to itself, or 0.
-pub fn lowest_on_cycle(g: &[u64; 1152], s: Size, ls: &[u16; 3456]) -> usize
+pub fn lowest_on_cycle(g: &GraphWords, s: Size, ls: &ChainWords) -> usize
     requires { ⌜ Chains (now g) s (now ls) ⌝ }
     ensures { λ r. ⌜ r ≡ lowestOf (cycleOf (graphIn (now (g .entry)) s)) ⌝ }
 {

@@ -24,15 +24,15 @@ use Rattle.machine.specs.Units.{TextUnit, textOf, depthOf}
 use Rattle.plan.specs.Plan.{shownOf}
 use Rattle.texts.specs.Wrote.{over}
 use Rattle.drawing.specs.Draw.{drawnOf, drawingUnits}
-use Rattle.exporting.specs.Export.{exportUnits}
+use Rattle.wall.specs.Export.{exportUnits}
 use Rattle.wall.specs.Lent.{tgfCounts, tgfNodes, tgfEdges}
 use Rattle.wall.specs.Read.{readText}
 use Rattle.salvage.specs.Lent.{salvageAnswer, salvageRoom, salvageList}
 use Rattle.writing.specs.Write.{writeAnswer, writeRoom}
 use Rattle.settings.specs.Change.{changeOf, roomOf}
 use Rattle.settings.specs.Laws.Promises.{set-refused}
-use Rattle.entries.specs.declared.NodeEntry.{NodeEntry}
-use Rattle.nodelist.specs.Nodes.{flag, nodeEntries}
+use Rattle.lists.specs.declared.entries.NodeEntry.{NodeEntry}
+use Rattle.lists.specs.Nodes.{flag, nodeEntries}
 use Rattle.explanation.specs.Explain.{refusal, isEdition}
 use Rattle.explanation.specs.Openings.{howMany, openingsOf}
 use Rattle.explanation.specs.Contract.{Drawn}
@@ -53,7 +53,8 @@ use Rattle.calls.specs.Laws.WhatIf.{list-unchanged, what-if-never}
 use Rattle.calls.specs.Says.{Says, Shows}
 use Rattle.calls.specs.Laws.Says.{says-one}
 use Rattle.calls.specs.Laws.Second.{second-never}
-use Rattle.demands.specs.Rules.{Early, Refusing, Passed, UnitsOr, unitsIn, EndsIn, WholeUnits, NoRoom, Looping, OthersStay, groupsIn, singlesIn, entryAt, saysInstallable, saysMissing, linesIn, AllReadOff}
+use Rattle.demands.specs.Rules.{Early, Refusing, Passed, UnitsOr, unitsIn, EndsIn, WholeUnits, NoRoom, Looping, OthersStay, groupsIn, singlesIn, entryAt}
+use Rattle.demands.specs.Rules.{saysInstallable, saysMissing, linesIn, AllReadOff}
 use Rattle.demands.specs.Rules as Rules
 use Rattle.demands.specs.Laws.Calls.{check-passed, passed-check, passed-drawn}
 use Rattle.demands.specs.Laws.Counts.{once-file}
@@ -138,7 +139,8 @@ pub record InRoom (e : ℕ) (T : Tables) (G : Graph) (opt bound size : ℕ) (out
   pub never-only : r .number ≡ 11 → (n : ℕ) → EndsIn e T G n → ⊥
   pub less-only : r .number ≡ 10 → length out < size
 
-in-room : (e : ℕ) (T : Tables) → Valid T → (G : Graph) (opt bound : ℕ) → Shown.mostIn e T G ≡ bound → (out left : List ℕ) (r : Answer) → Shows e T G opt out left r
+in-room : (e : ℕ) (T : Tables) → Valid T → (G : Graph) (opt bound : ℕ) → Shown.mostIn e T G ≡ bound → (out left : List ℕ) (r : Answer)
+    → Shows e T G opt out left r
     → InRoom e T G opt bound (Shown.sizeIn e T G opt) out left r
 in-room e T valid G opt bound q out left r X =
     record {
@@ -164,7 +166,8 @@ pub record Demand3 (file : List ℕ) (opt : ℕ) (p : Passed file) : Type 0 wher
   pub size : ℕ
   pub size-text : (n : ℕ) → EndsIn 1 (p .tables) (p .graph) n → size ≡ length (textOf (unitsIn 1 (p .tables) (p .graph) opt n))
   pub in-rooms : (out left : List ℕ) (r : Answer) → Says 1 file opt out left r
-      → InRoom 1 (p .tables) (p .graph) opt (groupsIn (p .tables) (p .graph) + (groupsIn (p .tables) (p .graph) + 1) * singlesIn (p .tables) (p .graph)) size out left r
+      → InRoom 1 (p .tables) (p .graph) opt (groupsIn (p .tables) (p .graph)
+      + (groupsIn (p .tables) (p .graph) + 1) * singlesIn (p .tables) (p .graph)) size out left r
 
 pub third-demand : (file : List ℕ) (opt : ℕ) (p : Passed file) → opt ≤ 1 → Demand3 file opt p
 third-demand file opt p h =
@@ -176,7 +179,8 @@ third-demand file opt p h =
       bound-low = rw (Shown.first-bound T G) at (Shown.most-low 1 T G (graphed T valid G (p .draws) .0));
       size = Shown.sizeIn 1 T G opt;
       size-text = Shown.size-text 1 T G opt;
-      in-rooms = λ out left r S. in-room 1 T valid G opt (Rules.boundIn T G) (Shown.first-bound T G) out left r (Told.drawn-shows 1 file opt out left r S T G d);
+      in-rooms =
+          λ out left r S. in-room 1 T valid G opt (Rules.boundIn T G) (Shown.first-bound T G) out left r (Told.drawn-shows 1 file opt out left r S T G d);
     }
 
 -- document 02, order 11, edition 2: g + u, and 11 is never given
@@ -199,7 +203,8 @@ second-demand file opt p h =
     record {
       size = Shown.sizeIn 2 T G opt;
       size-text = Shown.size-text 2 T G opt;
-      in-rooms = λ out left r S. in-room 2 T valid G opt (Rules.onceIn T G) (Shown.second-bound T G) out left r (Told.drawn-shows 2 file opt out left r S T G d);
+      in-rooms =
+          λ out left r S. in-room 2 T valid G opt (Rules.onceIn T G) (Shown.second-bound T G) out left r (Told.drawn-shows 2 file opt out left r S T G d);
       no-eleven = λ out left r S. second-never file opt out left r S;
       openings-few = λ n. rw (once-file file opt T G d) at (second-openings n file opt);
     }
@@ -213,14 +218,17 @@ pub record Demand3Asked (file : List ℕ) (s q opt : ℕ) (T : Tables) (K : Grap
       → InRoom 1 T K opt (groupsIn T K + (groupsIn T K + 1) * singlesIn T K) size out left r
   pub no-eleven : (out left : List ℕ) (r : Answer) → SaysWhatIf file s q opt out left r → r .number ≡ 11 → ⊥
 
-pub asked-demand : (file : List ℕ) (s q opt : ℕ) → opt ≤ 1 → (T : Tables) → readOf file ≡ good T → (K : Graph) → askTables T s q ≡ drawn K → Demand3Asked file s q opt T K
+pub asked-demand : (file : List ℕ) (s q opt : ℕ) → opt ≤ 1 → (T : Tables) → readOf file ≡ good T → (K : Graph) → askTables T s q ≡ drawn K
+    → Demand3Asked file s q opt T K
 asked-demand file s q opt h T y K g =
     let valid : Valid T = promise file T y in
     record {
       bound-low = rw (Shown.first-bound T K) at (Shown.most-low 1 T K (outcome-graphed T valid s q K g));
       size = Shown.sizeIn 1 T K opt;
       size-text = Shown.size-text 1 T K opt;
-      in-rooms = λ out left r S. in-room 1 T valid K opt (Rules.boundIn T K) (Shown.first-bound T K) out left r (Others.what-if-shows file s q opt out left r S h T y K g);
+      in-rooms =
+          λ out left r S. in-room 1 T valid K opt (Rules.boundIn T K) (Shown.first-bound T K) out left r
+          (Others.what-if-shows file s q opt out left r S h T y K g);
       no-eleven = λ out left r S. what-if-never file s q opt out left r S;
     }
 

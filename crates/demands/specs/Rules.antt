@@ -20,13 +20,13 @@ use Rattle.machine.specs.Machine.{Plan, State, after, shows, loops, stopOf}
 use Rattle.machine.specs.Units.{TextUnit, Result, textOf, depthOf}
 use Rattle.machine.specs.Explained.{unitsFor}
 use Rattle.machine.specs.Edition.{edited}
-use Rattle.plan.specs.Plan.{Shown, shownOf, planOf, startOf, isRequiring, kindOf}
+use Rattle.plan.specs.Plan.{Shown, shownOf, planOf, startOf, isRequiring, lineKind}
 use Rattle.plan.specs.Display.{solvableOf, packageText}
 use Rattle.lines.specs.Lines.{topOf, runLine, setLine, linesOf}
 use Rattle.texts.specs.Indent.{indent, atTop}
 use Rattle.texts.specs.Wrote.{over}
 use Rattle.drawing.specs.Graphviz.{unitOf}
-use Rattle.entries.specs.declared.NodeEntry.{NodeEntry}
+use Rattle.lists.specs.declared.entries.NodeEntry.{NodeEntry}
 use Rattle.explanation.specs.Explain.{refusal}
 use Rattle.calls.specs.declared.Answer.{Answer}
 
@@ -187,8 +187,8 @@ ownOpenings ofSet = 0
 -- what the line says behind its indent: `runLine`, `packageLines` and `setLine` are the `writeln!`s of `fmt_graph`
 abbrev pub Wording : Shown → ℕ → List Bool → Line → List ℕ → Type 0
 Wording S opt ms ofRun l = (r : Run) × (l ≡ indent (topOf opt) ms ++ runLine S (atTop ms) r ++ utf8 "\n")
-Wording S opt ms ofPackage l = (n : ℕ) × (rest : List ℕ) × (isRequiring (kindOf S n) ≡ false) × (l ≡ indent (topOf opt) ms ++ packageText S n ++ rest)
-Wording S opt ms ofOpening l = (n : ℕ) × (isRequiring (kindOf S n) ≡ true) × (l ≡ indent (topOf opt) ms ++ packageText S n ++ utf8 " would require\n")
+Wording S opt ms ofPackage l = (n : ℕ) × (rest : List ℕ) × (isRequiring (lineKind S n) ≡ false) × (l ≡ indent (topOf opt) ms ++ packageText S n ++ rest)
+Wording S opt ms ofOpening l = (n : ℕ) × (isRequiring (lineKind S n) ≡ true) × (l ≡ indent (topOf opt) ms ++ packageText S n ++ utf8 " would require\n")
 Wording S opt ms ofSet l = (v : ℕ) × (l ≡ indent (topOf opt) ms ++ setLine S v ++ utf8 "\n")
 
 -- a line below the opened packages `branch`, the latest first: its levels are twice these packages, and its own; its openings are these, and its own
@@ -203,7 +203,8 @@ pub record ReadOff (S : Shown) (opt : ℕ) (branch : List ℕ) (u : TextUnit) : 
 abbrev pub OpenedBy : Shown → ℕ → List TextUnit → List ℕ → Type 0
 OpenedBy S opt us [] = Unit {0}
 OpenedBy S opt us (n ∷ b) =
-    ((u : TextUnit) × In u us × ((x : ReadOff S opt b u) × (x .line ≡ ofOpening) × (u .bytes ≡ indent (topOf opt) (x .marks) ++ packageText S n ++ utf8 " would require\n")))
+    ((u : TextUnit) × In u us × ((x : ReadOff S opt b u) × (x .line ≡ ofOpening)
+    × (u .bytes ≡ indent (topOf opt) (x .marks) ++ packageText S n ++ utf8 " would require\n")))
     × OpenedBy S opt us b
 
 -- all of these lines, behind the lines `before`: each with its branch, which lines before it opened

@@ -13,27 +13,27 @@ use Rattle.store.specs.declared.ConflictNode.the-variants as N
 use Rattle.store.specs.declared.Edge.{Edge}
 use Rattle.store.specs.Graph.{Graph, out, nodeAt}
 use Rattle.groups.specs.Groups.{headOr, mates}
-use Rattle.strokes.specs.Stroke.{isRed, stroke}
+use Rattle.display.specs.Stroke.{isRed, stroke}
 
 -- the graph with, for each node, 0 if it is in no group, else one more than the number of its group's first member
 -- (`merged_nodes`, line 522)
-pub record Drawn : Type 0 where
+pub record Sketch : Type 0 where
   pub tables : Tables
   pub graph : Graph
   pub merged : List ℕ
 
 -- "A group has two or more"
-abbrev pub markOf : List ℕ → ℕ
-markOf ms = cond (ltb 1 (length ms)) (suc (headOr 0 ms)) 0
+abbrev pub mergeMark : List ℕ → ℕ
+mergeMark ms = cond (ltb 1 (length ms)) (suc (headOr 0 ms)) 0
 
 -- "For the graph text, option 1 simplifies."; else `HashMap::default()`
-unfoldable pub drawnOf : ℕ → Tables → Graph → Drawn
+unfoldable pub drawnOf : ℕ → Tables → Graph → Sketch
 unfolding mates
 drawnOf opt T G =
     record {
       tables = T;
       graph = G;
-      merged = cond (eqb opt 1) (map (λ n. markOf (mates (λ s. nameText T (solvableName T s)) G n)) (upto (length (G .nodes)) 0)) [];
+      merged = cond (eqb opt 1) (map (λ n. mergeMark (mates (λ s. nameText T (solvableName T s)) G n)) (upto (length (G .nodes)) 0)) [];
     }
 
 -- the root and the solvables have edges; of a merged group only the first is drawn (lines 530 to 544)
@@ -43,18 +43,18 @@ drawnAt ms (N.Solvable s) n = eqb (cond (ltb 0 (getD ms n 0)) (getD ms n 0 - 1) 
 drawnAt ms N.UnresolvedDependency n = false
 drawnAt ms (N.Excluded r) n = false
 
-module _ (D : Drawn) where
+module _ (D : Sketch) where
   -- `merged_nodes` has the node (line 577)
-  abbrev pub isMerged : ℕ → Bool
-  isMerged n = ltb 0 (getD (D .merged) n 0)
+  abbrev pub mergedDrawn : ℕ → Bool
+  mergedDrawn n = ltb 0 (getD (D .merged) n 0)
 
   -- `merged.ids[0]` (line 578)
-  abbrev pub firstOf : ℕ → ℕ
-  firstOf n = getD (D .merged) n 0 - 1
+  abbrev pub memberFirst : ℕ → ℕ
+  memberFirst n = getD (D .merged) n 0 - 1
 
   -- "If the target node has been merged, replace it by the first id in the group" (lines 573 to 578)
-  abbrev pub leadOf : ℕ → ℕ
-  leadOf n = cond (isMerged n) (firstOf n) n
+  abbrev pub leadDrawn : ℕ → ℕ
+  leadDrawn n = cond (mergedDrawn n) (memberFirst n) n
 
   -- ---- edges
 
@@ -62,15 +62,15 @@ module _ (D : Drawn) where
   unfoldable pub edgeText : ℕ → Edge → List ℕ
   unfolding stroke isRed
   edgeText n e =
-      stroke (D .tables) (nodeAt (D .graph) n) (nodeAt (D .graph) (leadOf (e .target))) (isRed (e .weight) (nodeAt (D .graph) (e .target))) (e .weight)
+      stroke (D .tables) (nodeAt (D .graph) n) (nodeAt (D .graph) (leadDrawn (e .target))) (isRed (e .weight) (nodeAt (D .graph) (e .target))) (e .weight)
 
   -- of the edges to one merged group only the newest, whatever its label; `seen` are the groups so far (`added_edges`, lines 576 to 586)
-  unfoldable pub kept : List Edge → List ℕ → List Edge
-  kept [] seen = []
-  kept (e ∷ es) seen =
-      elim (isMerged (e .target)) [
-        | false ↦ e ∷ kept es seen
-        | true ↦ elim (has (firstOf (e .target)) seen) [ true ↦ kept es seen | false ↦ e ∷ kept es (firstOf (e .target) ∷ seen) ]
+  unfoldable pub drawnEdges : List Edge → List ℕ → List Edge
+  drawnEdges [] seen = []
+  drawnEdges (e ∷ es) seen =
+      elim (mergedDrawn (e .target)) [
+        | false ↦ e ∷ drawnEdges es seen
+        | true ↦ elim (has (memberFirst (e .target)) seen) [ true ↦ drawnEdges es seen | false ↦ e ∷ drawnEdges es (memberFirst (e .target) ∷ seen) ]
       ]
 
   -- ---- nodes
@@ -82,8 +82,8 @@ module _ (D : Drawn) where
 
   -- the edges of node n (lines 546 to 602)
   unfoldable pub edgeUnits : ℕ → List (List ℕ)
-  unfolding edgeText kept out
-  edgeUnits n = map (edgeText n) (kept (out (D .graph) n) [])
+  unfolding edgeText drawnEdges out
+  edgeUnits n = map (edgeText n) (drawnEdges (out (D .graph) n) [])
 
   -- the edges of node n, if it is drawn (lines 529 to 603)
   unfoldable pub nodeUnits : ℕ → List (List ℕ)

@@ -11,19 +11,20 @@ use Rattle.machine.specs.Units.{TextUnit, Result, textOf, fit}
 use Rattle.machine.specs.Fit.{text-append}
 use Rattle.machine.specs.Tally.{Tally, tally-none, tally-line, tally-whole, tally-full}
 use Rattle.texts.specs.Wrote.{over}
-use Rattle.drawing.specs.declared.Answer.{Answer}
-use Rattle.drawing.specs.Draw.{Drawn, drawingUnits}
-use Rattle.drawing.specs.Graphviz.{unitOf, shownOf, drawShown, answerIn}
+use Rattle.drawing.specs.declared.PenAnswer.{PenAnswer}
+use Rattle.drawing.specs.Draw.{Sketch, drawingUnits}
+use Rattle.drawing.specs.Graphviz.{unitOf, fitUnits, drawShown, answerIn}
 use Rattle.drawing.specs.Pen.{takes, putIn, answerAfter, roomAfter, Adds, takes-fits}
 
-abbrev going : ℕ → ℕ → Answer
+abbrev going : ℕ → ℕ → PenAnswer
 going at n = record { number = 0; place = 0; bytes = at; units = n; depth = 0 }
 
 -- u behind t in the room o
 put-over : (t u o : List ℕ) → putIn (over t o) (length t) u ≡ over (t ++ u) o
 put-over t u o =
     let x = drop (length t) o in
-    let h : drop (length t + length u) (t ++ x) ≡ drop (length u) x = sym (drop-drop (length u) (length t) (t ++ x)) ∙ ap (drop (length u)) (drop-append-seam t x) in
+    let h : drop (length t + length u) (t ++ x) ≡ drop (length u) x = sym (drop-drop (length u) (length t) (t ++ x))
+    ∙ ap (drop (length u)) (drop-append-seam t x) in
     rw (take-append-seam t x, h, length-append, ← drop-drop) (sym (append-assoc t u (drop (length u) x)))
 
 over-long : (t o : List ℕ) → length t ≤ length o → length (over t o) ≡ length o
@@ -34,7 +35,7 @@ record Stands (ws : List TextUnit) (at n : ℕ) (o : List ℕ) : Type 0 where
   tally : Tally ws at n 0
   fits : at ≤ length o
 
-record Ends (R : Result) (o : List ℕ) (b : List ℕ) (q : Answer) : Type 0 where
+record Ends (R : Result) (o : List ℕ) (b : List ℕ) (q : PenAnswer) : Type 0 where
   answer : q ≡ answerIn R
   room : b ≡ over (R .text) o
 
@@ -64,9 +65,9 @@ module _ (o : List ℕ) where
       rw (l, t, answerAfter, roomAfter, e) (record { answer = refl; room = refl }))
 
 -- the whole text, from an empty answer
-module _ (D : Drawn) (o b : List ℕ) (q : Answer) (A : Adds (drawingUnits D) o (record { number = 0; place = 0; bytes = 0; units = 0; depth = 0 }) b q) where
+module _ (D : Sketch) (o b : List ℕ) (q : PenAnswer) (A : Adds (drawingUnits D) o (record { number = 0; place = 0; bytes = 0; units = 0; depth = 0 }) b q) where
   whole : Ends (drawShown D (length o)) o b q
-  unfolding drawShown shownOf
+  unfolding drawShown fitUnits
   whole = rw (A .answer, A .room) (ends o (drawingUnits D) [] 0 0 (record { tally = tally-none; fits = omega arith }))
 
   pub drawn-answer : q ≡ answerIn (drawShown D (length o))
@@ -76,13 +77,13 @@ module _ (D : Drawn) (o b : List ℕ) (q : Answer) (A : Adds (drawingUnits D) o 
   drawn-room = whole .room
 
 -- any units, from an empty answer
-module _ (us : List (List ℕ)) (o b : List ℕ) (q : Answer) (A : Adds us o (record { number = 0; place = 0; bytes = 0; units = 0; depth = 0 }) b q) where
-  shown : Ends (shownOf us (length o)) o b q
-  unfolding shownOf
+module _ (us : List (List ℕ)) (o b : List ℕ) (q : PenAnswer) (A : Adds us o (record { number = 0; place = 0; bytes = 0; units = 0; depth = 0 }) b q) where
+  shown : Ends (fitUnits us (length o)) o b q
+  unfolding fitUnits
   shown = rw (A .answer, A .room) (ends o us [] 0 0 (record { tally = tally-none; fits = omega arith }))
 
-  pub shown-answer : q ≡ answerIn (shownOf us (length o))
+  pub shown-answer : q ≡ answerIn (fitUnits us (length o))
   shown-answer = shown .answer
 
-  pub shown-room : b ≡ over (shownOf us (length o) .text) o
+  pub shown-room : b ≡ over (fitUnits us (length o) .text) o
   shown-room = shown .room

@@ -4,6 +4,6 @@ pub mod Pen
 pub mod Fits
 pub mod Stamps
 pub mod Walk
-pub mod Marks
+pub mod MergeMarks
 pub mod Same
 pub mod Samples

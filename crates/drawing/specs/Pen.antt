@@ -11,27 +11,27 @@ use borrow.Author.Tests.{eq-eqb, le-leb, lt-leb, leb-true}
 use borrow.Rule.Slice.PartMut.{putMid}
 use Rattle.basis.specs.Members.{split}
 use Rattle.texts.specs.Wrote.{Wrote}
-use Rattle.drawing.specs.declared.Answer.{Answer}
+use Rattle.drawing.specs.declared.PenAnswer.{PenAnswer}
 
 -- a unit is taken while no earlier one was refused, if it fits behind them
-abbrev pub takes : ℕ → List ℕ → Answer → Bool
+abbrev pub takes : ℕ → List ℕ → PenAnswer → Bool
 takes k u p = eqb (p .number) 0 && leb (p .bytes + length u) k
 
-abbrev pub more : List ℕ → Answer → Answer
+abbrev pub more : List ℕ → PenAnswer → PenAnswer
 more u p = record { number = 0; place = 0; bytes = p .bytes + length u; units = p .units + 1; depth = 0 }
 
 -- 10, place "units written"
-abbrev pub stopped : Answer → Answer
+abbrev pub stopped : PenAnswer → PenAnswer
 stopped p = record { number = 10; place = p .units; bytes = p .bytes; units = p .units; depth = 0 }
 
 abbrev pub putIn : List ℕ → ℕ → List ℕ → List ℕ
 putIn a n u = take n a ++ (u ++ drop (n + length u) a)
 
-unfoldable pub answerAfter : ℕ → List (List ℕ) → Answer → Answer
+unfoldable pub answerAfter : ℕ → List (List ℕ) → PenAnswer → PenAnswer
 answerAfter k [] p = p
 answerAfter k (u ∷ us) p = elim (takes k u p) [ true ↦ answerAfter k us (more u p) | false ↦ stopped p ]
 
-unfoldable pub roomAfter : List (List ℕ) → List ℕ → Answer → List ℕ
+unfoldable pub roomAfter : List (List ℕ) → List ℕ → PenAnswer → List ℕ
 roomAfter [] a p = a
 roomAfter (u ∷ us) a p = elim (takes (length a) u p) [ true ↦ roomAfter us (putIn a (p .bytes) u) (more u p) | false ↦ a ]
 
@@ -44,40 +44,41 @@ both false y e = absurd (clash e)
     clash : false ≡ true → ⊥
     clash z = let q : _≡_ {A = ℕ} 0 1 = cc in omega arith
 
-pub takes-fits : (k : ℕ) (u : List ℕ) (p : Answer) → takes k u p ≡ true → p .bytes + length u ≤ k
+pub takes-fits : (k : ℕ) (u : List ℕ) (p : PenAnswer) → takes k u p ≡ true → p .bytes + length u ≤ k
 takes-fits k u p t = leb-true (p .bytes + length u) k (both (eqb (p .number) 0) (leb (p .bytes + length u) k) t)
 
 pub put-long : (a : List ℕ) (n : ℕ) (u : List ℕ) → n + length u ≤ length a → length (putIn a n u) ≡ length a
 put-long a n u h =
     rw (length-append, length-append, length-drop, length-take-le n a (let z : n ≤ length a = omega arith in z)) (omega arith)
 
-after-stopped : (k : ℕ) (us : List (List ℕ)) (p : Answer) → answerAfter k us (stopped p) ≡ stopped p
+after-stopped : (k : ℕ) (us : List (List ℕ)) (p : PenAnswer) → answerAfter k us (stopped p) ≡ stopped p
 unfolding answerAfter
 after-stopped k [] p = refl
 after-stopped k (u ∷ us) p = refl
 
-room-stopped : (us : List (List ℕ)) (a : List ℕ) (p : Answer) → roomAfter us a (stopped p) ≡ a
+room-stopped : (us : List (List ℕ)) (a : List ℕ) (p : PenAnswer) → roomAfter us a (stopped p) ≡ a
 unfolding roomAfter
 room-stopped [] a p = refl
 room-stopped (u ∷ us) a p = refl
 
-answer-append : (k : ℕ) (us vs : List (List ℕ)) (p : Answer) → answerAfter k (us ++ vs) p ≡ answerAfter k vs (answerAfter k us p)
+answer-append : (k : ℕ) (us vs : List (List ℕ)) (p : PenAnswer) → answerAfter k (us ++ vs) p ≡ answerAfter k vs (answerAfter k us p)
 unfolding answerAfter
 answer-append k [] vs p = refl
 answer-append k (u ∷ us) vs p =
     split (takes k u p) (λ t. rw (t, answerAfter) (answer-append k us vs (more u p))) (λ t. rw (t, answerAfter) (sym (after-stopped k vs p)))
 
-room-append : (us vs : List (List ℕ)) (a : List ℕ) (p : Answer) → roomAfter (us ++ vs) a p ≡ roomAfter vs (roomAfter us a p) (answerAfter (length a) us p)
+room-append : (us vs : List (List ℕ)) (a : List ℕ) (p : PenAnswer) → roomAfter (us ++ vs) a p ≡ roomAfter vs (roomAfter us a p) (answerAfter (length a) us p)
 unfolding answerAfter roomAfter
 room-append [] vs a p = refl
 room-append (u ∷ us) vs a p =
     split (takes (length a) u p)
     (λ t. rw (t, answerAfter, roomAfter)
     (room-append us vs (putIn a (p .bytes) u) (more u p)
-    ∙ ap (λ (k : ℕ). roomAfter vs (roomAfter us (putIn a (p .bytes) u) (more u p)) (answerAfter k us (more u p))) (put-long a (p .bytes) u (takes-fits (length a) u p t))))
+    ∙ ap (λ (k : ℕ). roomAfter vs (roomAfter us (putIn a (p .bytes) u) (more u p)) (answerAfter k us (more u p)))
+    (put-long a (p .bytes) u (takes-fits (length a) u p t))))
     (λ t. rw (t, answerAfter, roomAfter) (sym (room-stopped vs a p)))
 
-room-long : (us : List (List ℕ)) (a : List ℕ) (p : Answer) → length (roomAfter us a p) ≡ length a
+room-long : (us : List (List ℕ)) (a : List ℕ) (p : PenAnswer) → length (roomAfter us a p) ≡ length a
 unfolding roomAfter
 room-long [] a p = refl
 room-long (u ∷ us) a p =
@@ -87,25 +88,31 @@ room-long (u ∷ us) a p =
 
 -- ---- an answer so far
 
-pub record Fine (a : List ℕ) (p : Answer) : Type 0 where
+pub record Fine (a : List ℕ) (p : PenAnswer) : Type 0 where
   pub low : p .bytes ≤ length a
   pub few : p .units ≤ p .bytes
   pub whole : (p .number ≡ 0 → ⊥) → p ≡ stopped p
 
 -- the units us went into room a, as far as they fit: room b and answer q are left
-pub record Adds (us : List (List ℕ)) (a : List ℕ) (p : Answer) (b : List ℕ) (q : Answer) : Type 0 where
+pub record Adds (us : List (List ℕ)) (a : List ℕ) (p : PenAnswer) (b : List ℕ) (q : PenAnswer) : Type 0 where
   pub answer : q ≡ answerAfter (length a) us p
   pub room : b ≡ roomAfter us a p
   pub fine : Fine b q
 
-pub adds-none : (a : List ℕ) (p : Answer) → Fine a p → Adds [] a p a p
+pub adds-none : (a : List ℕ) (p : PenAnswer) → Fine a p → Adds [] a p a p
 unfolding answerAfter roomAfter
 adds-none a p f = record { answer = refl; room = refl; fine = f }
 
-module _ (u a : List ℕ) (p : Answer) (f : Fine a p) (z : p .number ≡ 0) where
+module _ (u a : List ℕ) (p : PenAnswer) (f : Fine a p) (z : p .number ≡ 0) where
   -- u was written behind what stands
   pub adds-one : (e : List ℕ) (m : ℕ) → Wrote u (take (length a - p .bytes) (drop (p .bytes) a)) e m → 0 < length u
-      → Adds (u ∷ []) a p (putMid (p .bytes) (length a - p .bytes) a e) (record { number = 0; place = 0; bytes = p .bytes + m; units = p .units + 1; depth = 0 })
+      → Adds (u ∷ []) a p (putMid (p .bytes) (length a - p .bytes) a e) (record {
+        number = 0;
+        place = 0;
+        bytes = p .bytes + m;
+        units = p .units + 1;
+        depth = 0;
+      })
   unfolding answerAfter roomAfter
   adds-one e m w s =
       let n : ℕ = p .bytes in
@@ -138,17 +145,17 @@ module _ (u a : List ℕ) (p : Answer) (f : Fine a p) (z : p .number ≡ 0) wher
 
 -- ---- what is left to write: done with it, all is done
 
-pub record Left (all : List (List ℕ)) (a : List ℕ) (p : Answer) (left : List (List ℕ)) (b : List ℕ) (q : Answer) : Type 0 where
+pub record PenLeft (all : List (List ℕ)) (a : List ℕ) (p : PenAnswer) (left : List (List ℕ)) (b : List ℕ) (q : PenAnswer) : Type 0 where
   pub long : length b ≡ length a
   pub answer : answerAfter (length b) left q ≡ answerAfter (length a) all p
   pub room : roomAfter left b q ≡ roomAfter all a p
   pub fine : Fine b q
 
-pub left-start : (all : List (List ℕ)) (a : List ℕ) (p : Answer) → Fine a p → Left all a p all a p
+pub left-start : (all : List (List ℕ)) (a : List ℕ) (p : PenAnswer) → Fine a p → PenLeft all a p all a p
 left-start all a p f = record { long = refl; answer = refl; room = refl; fine = f }
 
-module _ (all : List (List ℕ)) (a : List ℕ) (p : Answer) (left : List (List ℕ)) (b : List ℕ) (q : Answer) where
-  pub left-next : (us : List (List ℕ)) (c : List ℕ) (r : Answer) → Left all a p (us ++ left) b q → Adds us b q c r → Left all a p left c r
+module _ (all : List (List ℕ)) (a : List ℕ) (p : PenAnswer) (left : List (List ℕ)) (b : List ℕ) (q : PenAnswer) where
+  pub left-next : (us : List (List ℕ)) (c : List ℕ) (r : PenAnswer) → PenLeft all a p (us ++ left) b q → Adds us b q c r → PenLeft all a p left c r
   left-next us c r L A =
       record {
         long = rw (A .room, room-long) (L .long);
@@ -157,12 +164,12 @@ module _ (all : List (List ℕ)) (a : List ℕ) (p : Answer) (left : List (List 
         fine = A .fine;
       }
 
-  pub left-end : left ≡ [] → Left all a p left b q → Adds all a p b q
+  pub left-end : left ≡ [] → PenLeft all a p left b q → Adds all a p b q
   unfolding answerAfter roomAfter
-  left-end e L = let M : Left all a p [] b q = rw e at L in record { answer = M .answer; room = M .room; fine = M .fine }
+  left-end e L = let M : PenLeft all a p [] b q = rw e at L in record { answer = M .answer; room = M .room; fine = M .fine }
 
   -- a unit was refused: nothing more is written
-  pub left-stop : Left all a p left b q → (q .number ≡ 0 → ⊥) → Adds all a p b q
+  pub left-stop : PenLeft all a p left b q → (q .number ≡ 0 → ⊥) → Adds all a p b q
   left-stop L n =
       let e : q ≡ stopped q = L .fine .whole n in
       record {

@@ -22,14 +22,15 @@ use Rattle.links.specs.Build.{Chains}
 use Rattle.groups.specs.Groups.{titleOf, leadBy, mates, leadOf}
 use Rattle.groups.specs.Leads.{titleIn, leadsTo, leads-at, SameNames, leads-same}
 use Rattle.texts.specs.Wrote.{over}
-use Rattle.drawing.specs.declared.Answer.{Answer}
-use Rattle.drawing.specs.Draw.{Drawn, markOf, drawnOf, drawnAt, edgeText, kept, isDrawn, edgeUnits, nodeUnits, allUnits, restUnits, drawingUnits}
+use Rattle.drawing.specs.declared.PenAnswer.{PenAnswer}
+use Rattle.drawing.specs.Draw.{Sketch, mergeMark, drawnOf, drawnAt, edgeText, drawnEdges, isDrawn, edgeUnits, nodeUnits, allUnits, restUnits}
+use Rattle.drawing.specs.Draw.{drawingUnits}
 use Rattle.drawing.specs.Graphviz.{drawShown, answerIn}
 use Rattle.drawing.specs.Stamps.{kept-single, kept-met, kept-new}
 use Rattle.drawing.specs.Walk.{drawnIn, Ready}
-use Rattle.drawing.specs.Marks.{lead, marksTo, Marked, marked-all, mark-most}
+use Rattle.drawing.specs.MergeMarks.{lead, marksTo, Marked, marked-all, mark-most}
 
-abbrev drawnBy : Tables → Graph → List ℕ → Drawn
+abbrev drawnBy : Tables → Graph → List ℕ → Sketch
 drawnBy T G m = record { tables = T; graph = G; merged = m }
 
 drawn-at : (a b : List ℕ) (n : ℕ) → getD a n 0 ≡ getD b n 0 → (x : ConflictNode) → drawnAt a x n ≡ drawnAt b x n
@@ -52,23 +53,28 @@ module _ (T : Tables) (G : Graph) (a b : List ℕ) (h : (j : ℕ) → getD a j 0
   unfolding edgeText
   edge-same n e = rw (h (e .target))
 
-  kept-same : (es : List Edge) (seen : List ℕ) → kept (drawnBy T G a) es seen ≡ kept (drawnBy T G b) es seen
-  unfolding kept
+  kept-same : (es : List Edge) (seen : List ℕ) → drawnEdges (drawnBy T G a) es seen ≡ drawnEdges (drawnBy T G b) es seen
+  unfolding drawnEdges
   kept-same [] seen = refl
   kept-same (e ∷ es) seen =
       split (ltb 0 (getD b (e .target) 0))
       (λ t. split (has (getD b (e .target) 0 - 1) seen)
       (λ u. kept-met (drawnBy T G a) e es seen (rw (h (e .target)) t) (rw (h (e .target)) u) ∙ kept-same es seen ∙ sym (kept-met (drawnBy T G b) e es seen t u))
       (λ u. kept-new (drawnBy T G a) e es seen (rw (h (e .target)) t) (rw (h (e .target)) u)
-      ∙ ap (λ (k : ℕ). e ∷ kept (drawnBy T G a) es ((k - 1) ∷ seen)) (h (e .target))
+      ∙ ap (λ (k : ℕ). e ∷ drawnEdges (drawnBy T G a) es ((k - 1) ∷ seen)) (h (e .target))
       ∙ ap (λ (l : List Edge). e ∷ l) (kept-same es ((getD b (e .target) 0 - 1) ∷ seen))
       ∙ sym (kept-new (drawnBy T G b) e es seen t u)))
-      (λ t. kept-single (drawnBy T G a) e es seen (rw (h (e .target)) t) ∙ ap (λ (l : List Edge). e ∷ l) (kept-same es seen) ∙ sym (kept-single (drawnBy T G b) e es seen t))
+      (λ t. kept-single (drawnBy T G a) e es seen (rw (h (e .target)) t) ∙ ap (λ (l : List Edge). e ∷ l) (kept-same es seen)
+      ∙ sym (kept-single (drawnBy T G b) e es seen t))
 
   node-same : (n : ℕ) → nodeUnits (drawnBy T G a) n ≡ nodeUnits (drawnBy T G b) n
   unfolding nodeUnits isDrawn edgeUnits
   node-same n =
-      rw (drawn-at a b n (h n) (nodeAt G n), kept-same (out G n) [], map-same (edgeText (drawnBy T G a) n) (edgeText (drawnBy T G b) n) (edge-same n) (kept (drawnBy T G b) (out G n) []))
+      rw (
+        drawn-at a b n (h n) (nodeAt G n),
+        kept-same (out G n) [],
+        map-same (edgeText (drawnBy T G a) n) (edgeText (drawnBy T G b) n) (edge-same n) (drawnEdges (drawnBy T G b) (out G n) []),
+      )
 
   shown-same : (k : ℕ) → drawShown (drawnBy T G a) k ≡ drawShown (drawnBy T G b) k
   unfolding drawShown drawingUnits restUnits allUnits
@@ -92,7 +98,8 @@ map-past f c i h =
 fresh : (l : ℕ) → getD (replicate {A = ℕ} 128 0) l 0 ≡ 0
 fresh l =
     split (ltb l 128) (λ t. getD-replicate {A = ℕ} 128 l 0 0 (ltb-true l 128 t))
-    (λ t. let h : length (replicate {A = ℕ} 128 0) ≤ l = rw (length-replicate {A = ℕ} 128 0) (ltb-false l 128 t) in List·getD-eq-default {A = ℕ} (replicate 128 0) 0 {n = l} h)
+    (λ t. let h : length (replicate {A = ℕ} 128 0) ≤ l = rw (length-replicate {A = ℕ} 128 0) (ltb-false l 128 t) in
+    List·getD-eq-default {A = ℕ} (replicate 128 0) 0 {n = l} h)
 
 abbrev pub nameOf : Tables → ℕ → List ℕ
 nameOf T s = nameText T (solvableName T s)
@@ -102,7 +109,8 @@ pub record Leading (T : Tables) (G : Graph) (leads : List ℕ) : Type 0 where
   pub lead : (j : ℕ) → j < length (G .nodes) → getD leads j 0 ≡ leadOf (nameOf T) G j
 
 -- from what `groups::group` ensures; ids number the names by their texts
-pub leading : (T : Tables) (G : Graph) (ids leads l : List ℕ) (k : ℕ) → leads ≡ leadsTo (titleIn ids) G k l → SameNames G (titleIn ids) (titleOf (nameOf T) G) → k ≡ length (G .nodes) → k ≤ length l → Leading T G leads
+pub leading : (T : Tables) (G : Graph) (ids leads l : List ℕ) (k : ℕ) → leads ≡ leadsTo (titleIn ids) G k l → SameNames G (titleIn ids) (titleOf (nameOf T) G)
+    → k ≡ length (G .nodes) → k ≤ length l → Leading T G leads
 unfolding leadOf
 leading T G ids leads l k q S e h =
     record { lead = λ j i. rw (q, leads-same G (titleIn ids) (titleOf (nameOf T) G) S k l) (leads-at (titleOf (nameOf T) G) G k l h j (rw e i)) }
@@ -127,19 +135,29 @@ module _ (T : Tables) (g : List ℕ) (s : Size) (ls m : List ℕ) (z : m ≡ rep
   unfolding drawnOf
   plain k = shown-same T (graphIn g s) m [] (λ j. rw z (fresh j)) k
 
-  pub plain-answer : (k : ℕ) (t : Bool) (r : Answer) → t ≡ false → r ≡ answerIn (drawShown (drawnIn T g s m) k) → r ≡ answerIn (drawShown (drawnOf (optionOf t) T (graphIn g s)) k)
+  pub plain-answer : (k : ℕ) (t : Bool) (r : PenAnswer) → t ≡ false → r ≡ answerIn (drawShown (drawnIn T g s m) k)
+      → r ≡ answerIn (drawShown (drawnOf (optionOf t) T (graphIn g s)) k)
   plain-answer k t r e q = rw (e, ← plain k) q
 
-  pub plain-room : (a b : List ℕ) (t : Bool) → t ≡ false → b ≡ over (drawShown (drawnIn T g s m) (length a) .text) a → b ≡ over (drawShown (drawnOf (optionOf t) T (graphIn g s)) (length a) .text) a
+  pub plain-room : (a b : List ℕ) (t : Bool) → t ≡ false → b ≡ over (drawShown (drawnIn T g s m) (length a) .text) a
+      → b ≡ over (drawShown (drawnOf (optionOf t) T (graphIn g s)) (length a) .text) a
   plain-room a b t e q = rw (e, ← plain (length a)) q
 
 pub plain-ready : (g : List ℕ) (s : Size) (ls m : List ℕ) → m ≡ replicate {A = ℕ} 128 0 → Chains g s ls → Ready g s ls m
 plain-ready g s ls m z C =
-    record { chains = C; merging = record { long = rw z (length-replicate {A = ℕ} 128 0); few = C .stored .nodes-most; most = λ n. rw (z, fresh n) (omega arith) } }
+    record {
+      chains = C;
+      merging = record {
+        long = rw z (length-replicate {A = ℕ} 128 0);
+        few = C .stored .nodes-most;
+        most = λ n. rw (z, fresh n) (omega arith);
+      };
+    }
 
 -- ---- with groups; v: the marks that the pass left
 
-module _ (T : Tables) (g : List ℕ) (s : Size) (ls leads m v : List ℕ) (L : Leading T (graphIn g s) leads) (C : Chains g s ls) (z : m ≡ replicate {A = ℕ} 128 0) (q : v ≡ marksTo leads (s .nodes) m) where
+module _ (T : Tables) (g : List ℕ) (s : Size) (ls leads m v : List ℕ) (L : Leading T (graphIn g s) leads) (C : Chains g s ls) (z : m
+    ≡ replicate {A = ℕ} 128 0) (q : v ≡ marksTo leads (s .nodes) m) where
   count : length (graphIn g s .nodes) ≡ s .nodes
   count = nodes-count g s (C .stored)
 
@@ -162,27 +180,31 @@ module _ (T : Tables) (g : List ℕ) (s : Size) (ls leads m v : List ℕ) (L : L
 
   merged : (k : ℕ) → drawShown (drawnIn T g s v) k ≡ drawShown (drawnOf 1 T (graphIn g s)) k
   unfolding drawnOf
-  merged k = shown-same T (graphIn g s) v (map (λ n. markOf (mates (nameOf T) (graphIn g s) n)) (upto (length (graphIn g s .nodes)) 0)) each k
+  merged k = shown-same T (graphIn g s) v (map (λ n. mergeMark (mates (nameOf T) (graphIn g s) n)) (upto (length (graphIn g s .nodes)) 0)) each k
     where
-      each : (j : ℕ) → getD v j 0 ≡ getD (map (λ n. markOf (mates (nameOf T) (graphIn g s) n)) (upto (length (graphIn g s .nodes)) 0)) j 0
+      each : (j : ℕ) → getD v j 0 ≡ getD (map (λ n. mergeMark (mates (nameOf T) (graphIn g s) n)) (upto (length (graphIn g s .nodes)) 0)) j 0
       each j =
           split (ltb j (length (graphIn g s .nodes)))
           (λ t. let i = ltb-true j (length (graphIn g s .nodes)) t in
           let y : 0 + j ≡ j = omega arith in
-          marks .each j i ∙ sym (map-upto (λ n. markOf (mates (nameOf T) (graphIn g s) n)) (length (graphIn g s .nodes)) 0 j i ∙ ap (λ (n : ℕ). markOf (mates (nameOf T) (graphIn g s) n)) y))
+          marks .each j i ∙ sym (map-upto (λ n. mergeMark (mates (nameOf T) (graphIn g s) n)) (length (graphIn g s .nodes)) 0 j i
+          ∙ ap (λ (n : ℕ). mergeMark (mates (nameOf T) (graphIn g s) n)) y))
           (λ t. let i = ltb-false j (length (graphIn g s .nodes)) t in
-          marks .past j i ∙ sym (map-past (λ n. markOf (mates (nameOf T) (graphIn g s) n)) (length (graphIn g s .nodes)) j i))
+          marks .past j i ∙ sym (map-past (λ n. mergeMark (mates (nameOf T) (graphIn g s) n)) (length (graphIn g s .nodes)) j i))
 
-  pub merged-answer : (k : ℕ) (r : Answer) → r ≡ answerIn (drawShown (drawnIn T g s v) k) → r ≡ answerIn (drawShown (drawnOf 1 T (graphIn g s)) k)
+  pub merged-answer : (k : ℕ) (r : PenAnswer) → r ≡ answerIn (drawShown (drawnIn T g s v) k) → r ≡ answerIn (drawShown (drawnOf 1 T (graphIn g s)) k)
   merged-answer k r e = rw (← merged k) e
 
-  pub merged-room : (a b : List ℕ) → b ≡ over (drawShown (drawnIn T g s v) (length a) .text) a → b ≡ over (drawShown (drawnOf 1 T (graphIn g s)) (length a) .text) a
+  pub merged-room : (a b : List ℕ) → b ≡ over (drawShown (drawnIn T g s v) (length a) .text) a
+      → b ≡ over (drawShown (drawnOf 1 T (graphIn g s)) (length a) .text) a
   merged-room a b e = rw (← merged (length a)) e
 
-pub option-answer : (t : Bool) (T : Tables) (G : Graph) (k : ℕ) (r : Answer) → r ≡ answerIn (drawShown (drawnOf 1 T G) k) → t ≡ true → r ≡ answerIn (drawShown (drawnOf (optionOf t) T G) k)
+pub option-answer : (t : Bool) (T : Tables) (G : Graph) (k : ℕ) (r : PenAnswer) → r ≡ answerIn (drawShown (drawnOf 1 T G) k) → t ≡ true
+    → r ≡ answerIn (drawShown (drawnOf (optionOf t) T G) k)
 option-answer t T G k r q e = rw e q
 
-pub option-room : (t : Bool) (T : Tables) (G : Graph) (a b : List ℕ) → b ≡ over (drawShown (drawnOf 1 T G) (length a) .text) a → t ≡ true → b ≡ over (drawShown (drawnOf (optionOf t) T G) (length a) .text) a
+pub option-room : (t : Bool) (T : Tables) (G : Graph) (a b : List ℕ) → b ≡ over (drawShown (drawnOf 1 T G) (length a) .text) a → t ≡ true
+    → b ≡ over (drawShown (drawnOf (optionOf t) T G) (length a) .text) a
 option-room t T G a b q e = rw e q
 
 pub nodes-few : (g : List ℕ) (s : Size) (ls : List ℕ) → Chains g s ls → s .nodes ≤ 128

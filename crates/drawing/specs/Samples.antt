@@ -47,12 +47,15 @@ abbrev shown : ℕ → ℕ → Result
 shown opt room = drawShown (drawnOf opt tables graph) room
 
 -- "P7 as simplified graph text, with no newline"
-pub simplified : shown 1 200 .text ≡ utf8 "digraph {\"<root>\" -> \"replay 2\"[color=black, label=\"replay *\"];\"replay 2\" -> \"unresolved\"[color=red, label=\"codec 9\"];}"
+pub simplified : shown 1 200 .text
+    ≡ utf8 "digraph {\"<root>\" -> \"replay 2\"[color=black, label=\"replay *\"];\"replay 2\" -> \"unresolved\"[color=red, label=\"codec 9\"];}"
 unfolding drawShown drawnOf
 simplified = refl
 
 -- not simplified: the newest edge first
-pub plain : shown 0 400 .text ≡ utf8 "digraph {\"<root>\" -> \"replay 1\"[color=black, label=\"replay *\"];\"<root>\" -> \"replay 2\"[color=black, label=\"replay *\"];\"replay 2\" -> \"unresolved\"[color=red, label=\"codec 9\"];\"replay 1\" -> \"unresolved\"[color=red, label=\"codec 9\"];}"
+pub plain : shown 0 400 .text
+    ≡ utf8
+    "digraph {\"<root>\" -> \"replay 1\"[color=black, label=\"replay *\"];\"<root>\" -> \"replay 2\"[color=black, label=\"replay *\"];\"replay 2\" -> \"unresolved\"[color=red, label=\"codec 9\"];\"replay 1\" -> \"unresolved\"[color=red, label=\"codec 9\"];}"
 unfolding drawShown drawnOf
 plain = refl
 

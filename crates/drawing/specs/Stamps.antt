@@ -12,7 +12,7 @@ use borrow.Author.Tests.{eqb-true, eqb-false, eq-eqb, ne-eqb, lt-ltb, ltb-true, 
 use Rattle.basis.specs.Lists.{any, has}
 use Rattle.basis.specs.Members.{split}
 use Rattle.store.specs.declared.Edge.{Edge}
-use Rattle.drawing.specs.Draw.{Drawn, edgeText, kept}
+use Rattle.drawing.specs.Draw.{Sketch, edgeText, drawnEdges}
 
 -- k: what stands for the target in `merged`
 unfoldable pub keeps : List ℕ → ℕ → ℕ → Bool
@@ -47,7 +47,8 @@ pub record Stamped (w : List ℕ) (n : ℕ) : Type 0 where
 fresh-low : (l : ℕ) → getD (replicate 128 0) l 0 ≤ 0
 fresh-low l =
     split (ltb l 128) (λ t. rw (getD-replicate {A = ℕ} 128 l 0 0 (ltb-true l 128 t)) (omega arith))
-    (λ t. let h : length (replicate {A = ℕ} 128 0) ≤ l = rw (length-replicate {A = ℕ} 128 0) (ltb-false l 128 t) in rw (List·getD-eq-default {A = ℕ} (replicate 128 0) 0 {n = l} h) (omega arith))
+    (λ t. let h : length (replicate {A = ℕ} 128 0) ≤ l = rw (length-replicate {A = ℕ} 128 0) (ltb-false l 128 t) in
+    rw (List·getD-eq-default {A = ℕ} (replicate 128 0) 0 {n = l} h) (omega arith))
 
 pub stamped-fresh : Stamped (replicate 128 0) 0
 stamped-fresh = record { long = length-replicate {A = ℕ} 128 0; low = fresh-low }
@@ -80,21 +81,22 @@ pub record Merging (m : List ℕ) (nodes : ℕ) : Type 0 where
 
 -- ---- the edges that are kept
 
-module _ (D : Drawn) (e : Edge) (es : List Edge) (seen : List ℕ) where
-  pub kept-single : ltb 0 (getD (D .merged) (e .target) 0) ≡ false → kept D (e ∷ es) seen ≡ e ∷ kept D es seen
-  unfolding kept
-  kept-single t = rw (t, kept)
+module _ (D : Sketch) (e : Edge) (es : List Edge) (seen : List ℕ) where
+  pub kept-single : ltb 0 (getD (D .merged) (e .target) 0) ≡ false → drawnEdges D (e ∷ es) seen ≡ e ∷ drawnEdges D es seen
+  unfolding drawnEdges
+  kept-single t = rw (t, drawnEdges)
 
   module _ (t : ltb 0 (getD (D .merged) (e .target) 0) ≡ true) where
-    pub kept-met : has (getD (D .merged) (e .target) 0 - 1) seen ≡ true → kept D (e ∷ es) seen ≡ kept D es seen
-    unfolding kept
-    kept-met u = rw (t, kept, u)
+    pub kept-met : has (getD (D .merged) (e .target) 0 - 1) seen ≡ true → drawnEdges D (e ∷ es) seen ≡ drawnEdges D es seen
+    unfolding drawnEdges
+    kept-met u = rw (t, drawnEdges, u)
 
-    pub kept-new : has (getD (D .merged) (e .target) 0 - 1) seen ≡ false → kept D (e ∷ es) seen ≡ e ∷ kept D es ((getD (D .merged) (e .target) 0 - 1) ∷ seen)
-    unfolding kept
-    kept-new u = rw (t, kept, u)
+    pub kept-new : has (getD (D .merged) (e .target) 0 - 1) seen ≡ false
+        → drawnEdges D (e ∷ es) seen ≡ e ∷ drawnEdges D es ((getD (D .merged) (e .target) 0 - 1) ∷ seen)
+    unfolding drawnEdges
+    kept-new u = rw (t, drawnEdges, u)
 
-module _ (D : Drawn) (n : ℕ) where
+module _ (D : Sketch) (n : ℕ) where
   abbrev pub markAt : Edge → ℕ
   markAt e = getD (D .merged) (e .target) 0
 
@@ -152,8 +154,8 @@ module _ (D : Drawn) (n : ℕ) where
     unfolding keptIn
     skips e es w v q z = rw (q, keptIn, z)
 
-    kept-in : (es : List Edge) (seen w : List ℕ) → length w ≡ 128 → Agree w seen → keptIn es w ≡ kept D es seen
-    unfolding keptIn kept
+    kept-in : (es : List Edge) (seen w : List ℕ) → length w ≡ 128 → Agree w seen → keptIn es w ≡ drawnEdges D es seen
+    unfolding keptIn drawnEdges
     kept-in [] seen w h A = refl
     kept-in (e ∷ es) seen w h A =
         split (ltb 0 (markAt e))
@@ -168,7 +170,8 @@ module _ (D : Drawn) (n : ℕ) where
         ∙ kept-in es seen (set w (markAt e - 1) (n + 1)) (rw length-set h) (agree-again w seen (markAt e - 1) h i u A)
         ∙ sym (kept-met D e es seen t u))
         (λ u. takes e es w (set w (markAt e - 1) (n + 1)) (kp ∙ ap not u) mk
-        ∙ ap (λ (l : List Edge). e ∷ l) (kept-in es ((markAt e - 1) ∷ seen) (set w (markAt e - 1) (n + 1)) (rw length-set h) (agree-set w seen (markAt e - 1) h i A))
+        ∙ ap (λ (l : List Edge). e ∷ l) (kept-in es ((markAt e - 1) ∷ seen) (set w (markAt e - 1) (n + 1)) (rw length-set h)
+        (agree-set w seen (markAt e - 1) h i A))
         ∙ sym (kept-new D e es seen t u)))
         (λ t.
         let z : markAt e ≡ 0 = let y = ltb-false 0 (markAt e) t in omega arith in
@@ -177,7 +180,7 @@ module _ (D : Drawn) (n : ℕ) where
         ∙ sym (kept-single D e es seen t))
 
     -- before a source's first edge no group is met
-    pub kept-start : (es : List Edge) (w : List ℕ) → Stamped w n → keptIn es w ≡ kept D es []
+    pub kept-start : (es : List Edge) (w : List ℕ) → Stamped w n → keptIn es w ≡ drawnEdges D es []
     kept-start es w S = kept-in es [] w (S .long) (record { same = λ l i. ne-eqb (getD w l 0) (n + 1) (λ q. never l q) })
       where
         never : (l : ℕ) → getD w l 0 ≡ n + 1 → ⊥

@@ -3,6 +3,10 @@ mod marks;
 mod units;
 mod walk;
 
+use index::Slots;
+use store::ChainWords;
+use store::GraphWords;
+use store::PerNode;
 use store::Size;
 ghost use mathlib.Core.Path.{_≡_};
 ghost use lib.ListN.{length, replicate};
@@ -19,7 +23,7 @@ ghost use Rattle.drawing.specs.Walk.{drawnIn, Ready};
 ghost use Rattle.drawing.specs.Same.{Leading, Given, optionOf};
 
 // "An answer holds number, place, bytes, units, depth". While the text is written the number is 0.
-pub struct Answer {
+pub struct PenAnswer {
     pub number: usize,
     pub place: usize,
     pub bytes: usize,
@@ -30,15 +34,15 @@ pub struct Answer {
 // The edges and the closing brace.
 fn draw_rest(
     file: &[u8],
-    ix: &[u16; 10432],
-    g: &[u64; 1152],
+    ix: &Slots,
+    g: &GraphWords,
     s: Size,
-    ls: &[u16; 3456],
-    m: &[u16; 128],
+    ls: &ChainWords,
+    m: &PerNode,
     w: &mut [u8; 128],
     out: &mut [u8],
-    p: Answer,
-) -> Answer
+    p: PenAnswer,
+) -> PenAnswer
     requires { ⌜ Loaded (now file) (now ix) ⌝ }
     requires { ⌜ Ready (now g) s (now ls) (now m) ⌝ }
     requires { ⌜ Stamped (now w) 0 ⌝ }
@@ -55,21 +59,22 @@ fn draw_rest(
 
 fn draw_from(
     file: &[u8],
-    ix: &[u16; 10432],
-    g: &[u64; 1152],
+    ix: &Slots,
+    g: &GraphWords,
     s: Size,
-    ls: &[u16; 3456],
-    m: &[u16; 128],
+    ls: &ChainWords,
+    m: &PerNode,
     w: &mut [u8; 128],
     out: &mut [u8],
-    p: Answer,
-) -> Answer
+    p: PenAnswer,
+) -> PenAnswer
     requires { ⌜ Loaded (now file) (now ix) ⌝ }
     requires { ⌜ Ready (now g) s (now ls) (now m) ⌝ }
     requires { ⌜ Stamped (now w) 0 ⌝ }
     requires { ⌜ Fine (now out) p ⌝ }
     requires { ⌜ p .number ≡ 0 ⌝ }
-    ensures { λ r. ⌜ Adds (drawingUnits (drawnIn (tablesOf (now (file .entry))) (now (g .entry)) s (now (m .entry)))) (now (out .entry)) p (now (out .exit)) r ⌝ }
+    ensures { λ r. ⌜ Adds (drawingUnits (drawnIn (tablesOf (now (file .entry))) (now (g .entry)) s (now (m .entry)))) (now (out .entry)) p (now (out .exit))
+        r ⌝ }
 {
     let q = units::add_opening(out, p);
     if q.number != 0 {
@@ -80,21 +85,22 @@ fn draw_from(
 
 fn draw_in(
     file: &[u8],
-    ix: &[u16; 10432],
-    g: &[u64; 1152],
+    ix: &Slots,
+    g: &GraphWords,
     s: Size,
-    ls: &[u16; 3456],
-    m: &[u16; 128],
+    ls: &ChainWords,
+    m: &PerNode,
     w: &mut [u8; 128],
     out: &mut [u8],
-) -> Answer
+) -> PenAnswer
     requires { ⌜ Loaded (now file) (now ix) ⌝ }
     requires { ⌜ Ready (now g) s (now ls) (now m) ⌝ }
     requires { ⌜ Stamped (now w) 0 ⌝ }
     ensures { λ r. ⌜ r ≡ answerIn (drawShown (drawnIn (tablesOf (now (file .entry))) (now (g .entry)) s (now (m .entry))) (length (now (out .entry)))) ⌝ }
-    ensures { λ r. ⌜ now (out .exit) ≡ over (drawShown (drawnIn (tablesOf (now (file .entry))) (now (g .entry)) s (now (m .entry))) (length (now (out .entry))) .text) (now (out .entry)) ⌝ }
+    ensures { λ r. ⌜ now (out .exit) ≡ over (drawShown (drawnIn (tablesOf (now (file .entry))) (now (g .entry)) s (now (m .entry)))
+        (length (now (out .entry))) .text) (now (out .entry)) ⌝ }
 {
-    let p = Answer {
+    let p = PenAnswer {
         number: 0,
         place: 0,
         bytes: 0,
@@ -107,17 +113,18 @@ fn draw_in(
 // The text of a graph with its merge marks, one a node: 0, or one more than its group's first member.
 fn draw_marked(
     file: &[u8],
-    ix: &[u16; 10432],
-    g: &[u64; 1152],
+    ix: &Slots,
+    g: &GraphWords,
     s: Size,
-    ls: &[u16; 3456],
-    m: &[u16; 128],
+    ls: &ChainWords,
+    m: &PerNode,
     out: &mut [u8],
-) -> Answer
+) -> PenAnswer
     requires { ⌜ Loaded (now file) (now ix) ⌝ }
     requires { ⌜ Ready (now g) s (now ls) (now m) ⌝ }
     ensures { λ r. ⌜ r ≡ answerIn (drawShown (drawnIn (tablesOf (now (file .entry))) (now (g .entry)) s (now (m .entry))) (length (now (out .entry)))) ⌝ }
-    ensures { λ r. ⌜ now (out .exit) ≡ over (drawShown (drawnIn (tablesOf (now (file .entry))) (now (g .entry)) s (now (m .entry))) (length (now (out .entry))) .text) (now (out .entry)) ⌝ }
+    ensures { λ r. ⌜ now (out .exit) ≡ over (drawShown (drawnIn (tablesOf (now (file .entry))) (now (g .entry)) s (now (m .entry)))
+        (length (now (out .entry))) .text) (now (out .entry)) ⌝ }
 {
     let mut w = [0u8; 128];
     draw_in(file, ix, g, s, ls, m, &mut w, out)
@@ -126,20 +133,21 @@ fn draw_marked(
 // With the groups, whose first members `leads` holds; m takes the marks.
 fn draw_merged(
     file: &[u8],
-    ix: &[u16; 10432],
-    g: &[u64; 1152],
+    ix: &Slots,
+    g: &GraphWords,
     s: Size,
-    ls: &[u16; 3456],
-    leads: &[u16; 128],
-    m: &mut [u16; 128],
+    ls: &ChainWords,
+    leads: &PerNode,
+    m: &mut PerNode,
     out: &mut [u8],
-) -> Answer
+) -> PenAnswer
     requires { ⌜ Loaded (now file) (now ix) ⌝ }
     requires { ⌜ Chains (now g) s (now ls) ⌝ }
     requires { ⌜ Leading (tablesOf (now file)) (graphIn (now g) s) (now leads) ⌝ }
     requires { ⌜ now m ≡ replicate 128 0 ⌝ }
     ensures { λ r. ⌜ r ≡ answerIn (drawShown (drawnOf 1 (tablesOf (now (file .entry))) (graphIn (now (g .entry)) s)) (length (now (out .entry)))) ⌝ }
-    ensures { λ r. ⌜ now (out .exit) ≡ over (drawShown (drawnOf 1 (tablesOf (now (file .entry))) (graphIn (now (g .entry)) s)) (length (now (out .entry))) .text) (now (out .entry)) ⌝ }
+    ensures { λ r. ⌜ now (out .exit) ≡ over (drawShown (drawnOf 1 (tablesOf (now (file .entry))) (graphIn (now (g .entry)) s))
+        (length (now (out .entry))) .text) (now (out .entry)) ⌝ }
 {
     marks::mark_groups(leads, s.nodes, m);
     draw_marked(file, ix, g, s, ls, m, out)
@@ -147,21 +155,23 @@ fn draw_merged(
 
 fn draw_either(
     file: &[u8],
-    ix: &[u16; 10432],
-    g: &[u64; 1152],
+    ix: &Slots,
+    g: &GraphWords,
     s: Size,
-    ls: &[u16; 3456],
-    leads: &[u16; 128],
+    ls: &ChainWords,
+    leads: &PerNode,
     simplify: bool,
-    m: &mut [u16; 128],
+    m: &mut PerNode,
     out: &mut [u8],
-) -> Answer
+) -> PenAnswer
     requires { ⌜ Loaded (now file) (now ix) ⌝ }
     requires { ⌜ Chains (now g) s (now ls) ⌝ }
     requires { ⌜ Given simplify (tablesOf (now file)) (graphIn (now g) s) (now leads) ⌝ }
     requires { ⌜ now m ≡ replicate 128 0 ⌝ }
-    ensures { λ r. ⌜ r ≡ answerIn (drawShown (drawnOf (optionOf simplify) (tablesOf (now (file .entry))) (graphIn (now (g .entry)) s)) (length (now (out .entry)))) ⌝ }
-    ensures { λ r. ⌜ now (out .exit) ≡ over (drawShown (drawnOf (optionOf simplify) (tablesOf (now (file .entry))) (graphIn (now (g .entry)) s)) (length (now (out .entry))) .text) (now (out .entry)) ⌝ }
+    ensures { λ r. ⌜ r ≡ answerIn (drawShown (drawnOf (optionOf simplify) (tablesOf (now (file .entry))) (graphIn (now (g .entry)) s))
+        (length (now (out .entry)))) ⌝ }
+    ensures { λ r. ⌜ now (out .exit) ≡ over (drawShown (drawnOf (optionOf simplify) (tablesOf (now (file .entry))) (graphIn (now (g .entry)) s))
+        (length (now (out .entry))) .text) (now (out .entry)) ⌝ }
 {
     if simplify {
         return draw_merged(file, ix, g, s, ls, leads, m, out);
@@ -172,19 +182,21 @@ fn draw_either(
 // The graph text of a graph, as far as it fits: `leads` holds each node's first member, and is read where the text is simplified.
 pub fn draw(
     file: &[u8],
-    ix: &[u16; 10432],
-    g: &[u64; 1152],
+    ix: &Slots,
+    g: &GraphWords,
     s: Size,
-    ls: &[u16; 3456],
-    leads: &[u16; 128],
+    ls: &ChainWords,
+    leads: &PerNode,
     simplify: bool,
     out: &mut [u8],
-) -> Answer
+) -> PenAnswer
     requires { ⌜ Loaded (now file) (now ix) ⌝ }
     requires { ⌜ Chains (now g) s (now ls) ⌝ }
     requires { ⌜ Given simplify (tablesOf (now file)) (graphIn (now g) s) (now leads) ⌝ }
-    ensures { λ r. ⌜ r ≡ answerIn (drawShown (drawnOf (optionOf simplify) (tablesOf (now (file .entry))) (graphIn (now (g .entry)) s)) (length (now (out .entry)))) ⌝ }
-    ensures { λ r. ⌜ now (out .exit) ≡ over (drawShown (drawnOf (optionOf simplify) (tablesOf (now (file .entry))) (graphIn (now (g .entry)) s)) (length (now (out .entry))) .text) (now (out .entry)) ⌝ }
+    ensures { λ r. ⌜ r ≡ answerIn (drawShown (drawnOf (optionOf simplify) (tablesOf (now (file .entry))) (graphIn (now (g .entry)) s))
+        (length (now (out .entry)))) ⌝ }
+    ensures { λ r. ⌜ now (out .exit) ≡ over (drawShown (drawnOf (optionOf simplify) (tablesOf (now (file .entry))) (graphIn (now (g .entry)) s))
+        (length (now (out .entry))) .text) (now (out .entry)) ⌝ }
 {
     let mut m = [0u16; 128];
     draw_either(file, ix, g, s, ls, leads, simplify, &mut m, out)

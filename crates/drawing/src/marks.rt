@@ -1,10 +1,11 @@
 // The merge marks of the nodes, from the first member of each.
 ghost use mathlib.Core.Path.{_≡_};
 ghost use Prim.Native.Nat.{_<_, _≤_};
-ghost use Rattle.drawing.specs.Marks.{markOne, marksTo};
+ghost use Rattle.drawing.specs.MergeMarks.{markOne, marksTo};
+use store::PerNode;
 
 // Node n, if its first member is another, marks both.
-fn mark_group(leads: &[u16; 128], m: &mut [u16; 128], n: usize)
+fn mark_group(leads: &PerNode, m: &mut PerNode, n: usize)
     requires { ⌜ n < 128 ⌝ }
     ensures { λ _. ⌜ now (m .exit) ≡ markOne (now (leads .entry)) (now (m .entry)) n ⌝ }
 {
@@ -17,7 +18,7 @@ fn mark_group(leads: &[u16; 128], m: &mut [u16; 128], n: usize)
     m[n] = v;
 }
 
-pub fn mark_groups(leads: &[u16; 128], k: usize, m: &mut [u16; 128])
+pub fn mark_groups(leads: &PerNode, k: usize, m: &mut PerNode)
     requires { ⌜ k ≤ 128 ⌝ }
     ensures { λ _. ⌜ now (m .exit) ≡ marksTo (now (leads .entry)) k (now (m .entry)) ⌝ }
 {

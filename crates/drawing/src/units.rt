@@ -1,26 +1,28 @@
 // One unit behind the earlier ones: its length first, then the test of the room, then its bytes. A unit that does not fit leaves
 // the room as it is, and the answer is 10.
-use super::Answer;
+use super::PenAnswer;
+use index::Slots;
 use store::ConflictEdge;
 use store::ConflictNode;
+use store::GraphWords;
 use texts::graphviz;
 ghost use mathlib.Core.Path.{_≡_};
 ghost use mathlib.Core.List.{[], _∷_};
 ghost use Rattle.basis.specs.Quote.{utf8};
 ghost use Rattle.records.specs.Read.{tablesOf};
 ghost use Rattle.index.specs.Index.{Loaded};
-ghost use Rattle.strokes.specs.Stroke.{stroke};
+ghost use Rattle.display.specs.Stroke.{stroke};
 ghost use Rattle.drawing.specs.Pen.{Fine, Adds};
 ghost use Rattle.drawing.specs.Walk.{strokeAt};
 
-pub fn add_opening(out: &mut [u8], p: Answer) -> Answer
+pub fn add_opening(out: &mut [u8], p: PenAnswer) -> PenAnswer
     requires { ⌜ Fine (now out) p ⌝ }
     requires { ⌜ p .number ≡ 0 ⌝ }
     ensures { λ r. ⌜ Adds (utf8 "digraph {" ∷ []) (now (out .entry)) p (now (out .exit)) r ⌝ }
 {
     let at = p.bytes;
     if out.len() - at < 9 {
-        return Answer {
+        return PenAnswer {
             number: 10,
             place: p.units,
             bytes: at,
@@ -29,7 +31,7 @@ pub fn add_opening(out: &mut [u8], p: Answer) -> Answer
         };
     }
     let k = graphviz::digraph(&mut out[at..]);
-    Answer {
+    PenAnswer {
         number: 0,
         place: 0,
         bytes: at + k,
@@ -38,14 +40,14 @@ pub fn add_opening(out: &mut [u8], p: Answer) -> Answer
     }
 }
 
-pub fn add_closing(out: &mut [u8], p: Answer) -> Answer
+pub fn add_closing(out: &mut [u8], p: PenAnswer) -> PenAnswer
     requires { ⌜ Fine (now out) p ⌝ }
     requires { ⌜ p .number ≡ 0 ⌝ }
     ensures { λ r. ⌜ Adds (utf8 "}" ∷ []) (now (out .entry)) p (now (out .exit)) r ⌝ }
 {
     let at = p.bytes;
     if out.len() - at < 1 {
-        return Answer {
+        return PenAnswer {
             number: 10,
             place: p.units,
             bytes: at,
@@ -54,7 +56,7 @@ pub fn add_closing(out: &mut [u8], p: Answer) -> Answer
         };
     }
     let k = graphviz::brace(&mut out[at..]);
-    Answer {
+    PenAnswer {
         number: 0,
         place: 0,
         bytes: at + k,
@@ -65,23 +67,23 @@ pub fn add_closing(out: &mut [u8], p: Answer) -> Answer
 
 pub fn add_stroke(
     file: &[u8],
-    ix: &[u16; 10432],
+    ix: &Slots,
     out: &mut [u8],
-    p: Answer,
+    p: PenAnswer,
     x: ConflictNode,
     y: ConflictNode,
     red: bool,
     w: ConflictEdge,
-) -> Answer
+) -> PenAnswer
     requires { ⌜ Loaded (now file) (now ix) ⌝ }
     requires { ⌜ Fine (now out) p ⌝ }
     requires { ⌜ p .number ≡ 0 ⌝ }
     ensures { λ r. ⌜ Adds (stroke (tablesOf (now (file .entry))) x y red w ∷ []) (now (out .entry)) p (now (out .exit)) r ⌝ }
 {
     let at = p.bytes;
-    let n = strokes::sizes::stroke_size(file, ix, x, y, red, w);
+    let n = display::stroke_sizes::stroke_size(file, ix, x, y, red, w);
     if out.len() - at < n {
-        return Answer {
+        return PenAnswer {
             number: 10,
             place: p.units,
             bytes: at,
@@ -89,8 +91,8 @@ pub fn add_stroke(
             depth: 0,
         };
     }
-    let k = strokes::put_stroke(file, ix, &mut out[at..], x, y, red, w);
-    Answer {
+    let k = display::strokes::put_stroke(file, ix, &mut out[at..], x, y, red, w);
+    PenAnswer {
         number: 0,
         place: 0,
         bytes: at + k,
@@ -102,14 +104,14 @@ pub fn add_stroke(
 // Edge i from node n, drawn to node l.
 pub fn add_edge(
     file: &[u8],
-    ix: &[u16; 10432],
-    g: &[u64; 1152],
+    ix: &Slots,
+    g: &GraphWords,
     n: usize,
     l: usize,
     i: usize,
     out: &mut [u8],
-    p: Answer,
-) -> Answer
+    p: PenAnswer,
+) -> PenAnswer
     requires { ⌜ Loaded (now file) (now ix) ⌝ }
     requires { ⌜ Fine (now out) p ⌝ }
     requires { ⌜ p .number ≡ 0 ⌝ }
@@ -121,6 +123,6 @@ pub fn add_edge(
     let y = store::node_at(g, l);
     let t = store::target_at(g, i);
     let v = store::node_at(g, t);
-    let red = strokes::is_red(w, v);
+    let red = display::strokes::is_red(w, v);
     add_stroke(file, ix, out, p, x, y, red, w)
 }

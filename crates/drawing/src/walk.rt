@@ -1,7 +1,11 @@
 // The nodes in their order, and the edges of each, newest first.
-use super::Answer;
+use super::PenAnswer;
 use super::units::add_edge;
+use index::Slots;
+use store::ChainWords;
 use store::ConflictNode;
+use store::GraphWords;
+use store::PerNode;
 use store::Size;
 ghost use mathlib.Core.Path.{_≡_};
 ghost use Prim.Native.Nat.{_+_, _<_};
@@ -30,21 +34,22 @@ fn stamp(w: &mut [u8; 128], l: usize, n: usize) -> bool
 // Edge i of node n, unless its target's group was met before.
 fn step(
     file: &[u8],
-    ix: &[u16; 10432],
-    g: &[u64; 1152],
+    ix: &Slots,
+    g: &GraphWords,
     s: Size,
-    m: &[u16; 128],
+    m: &PerNode,
     w: &mut [u8; 128],
     n: usize,
     i: usize,
     out: &mut [u8],
-    p: Answer,
-) -> Answer
+    p: PenAnswer,
+) -> PenAnswer
     requires { ⌜ Loaded (now file) (now ix) ⌝ }
     requires { ⌜ Edged (now g) s (now m) n i ⌝ }
     requires { ⌜ Fine (now out) p ⌝ }
     requires { ⌜ p .number ≡ 0 ⌝ }
-    ensures { λ r. ⌜ Adds (stepUnits (drawnIn (tablesOf (now (file .entry))) (now (g .entry)) s (now (m .entry))) n (now (w .entry)) (edgeIn (now (g .entry)) i)) (now (out .entry)) p (now (out .exit)) r ⌝ }
+    ensures { λ r. ⌜ Adds (stepUnits (drawnIn (tablesOf (now (file .entry))) (now (g .entry)) s (now (m .entry))) n (now (w .entry))
+        (edgeIn (now (g .entry)) i)) (now (out .entry)) p (now (out .exit)) r ⌝ }
     ensures { λ r. ⌜ now (w .exit) ≡ marked (now (w .entry)) (getD (now (m .entry)) (edgeIn (now (g .entry)) i .target) 0) n ⌝ }
 {
     let t = store::target_at(g, i);
@@ -62,23 +67,24 @@ fn step(
 
 fn add_edges(
     file: &[u8],
-    ix: &[u16; 10432],
-    g: &[u64; 1152],
+    ix: &Slots,
+    g: &GraphWords,
     s: Size,
-    ls: &[u16; 3456],
-    m: &[u16; 128],
+    ls: &ChainWords,
+    m: &PerNode,
     w: &mut [u8; 128],
     n: usize,
     out: &mut [u8],
-    p: Answer,
-) -> Answer
+    p: PenAnswer,
+) -> PenAnswer
     requires { ⌜ Loaded (now file) (now ix) ⌝ }
     requires { ⌜ Ready (now g) s (now ls) (now m) ⌝ }
     requires { ⌜ n < s .nodes ⌝ }
     requires { ⌜ Stamped (now w) n ⌝ }
     requires { ⌜ Fine (now out) p ⌝ }
     requires { ⌜ p .number ≡ 0 ⌝ }
-    ensures { λ r. ⌜ Adds (edgeUnits (drawnIn (tablesOf (now (file .entry))) (now (g .entry)) s (now (m .entry))) n) (now (out .entry)) p (now (out .exit)) r ⌝ }
+    ensures { λ r. ⌜ Adds (edgeUnits (drawnIn (tablesOf (now (file .entry))) (now (g .entry)) s (now (m .entry))) n) (now (out .entry)) p (now (out .exit))
+        r ⌝ }
     ensures { λ r. ⌜ Stamped (now (w .exit)) (n + 1) ⌝ }
 {
     let mut e = links::first_out(ls, n);
@@ -95,7 +101,7 @@ fn add_edges(
 }
 
 // Whether node n's edges are drawn: the root's and the solvables', of a merged group the first member's.
-fn is_drawn(g: &[u64; 1152], m: &[u16; 128], n: usize) -> bool
+fn is_drawn(g: &GraphWords, m: &PerNode, n: usize) -> bool
     requires { ⌜ n < 128 ⌝ }
     ensures { λ r. ⌜ r ≡ drawnAt (now (m .entry)) (nodeIn (now (g .entry)) n) n ⌝ }
 {
@@ -116,23 +122,24 @@ fn is_drawn(g: &[u64; 1152], m: &[u16; 128], n: usize) -> bool
 
 fn add_node(
     file: &[u8],
-    ix: &[u16; 10432],
-    g: &[u64; 1152],
+    ix: &Slots,
+    g: &GraphWords,
     s: Size,
-    ls: &[u16; 3456],
-    m: &[u16; 128],
+    ls: &ChainWords,
+    m: &PerNode,
     w: &mut [u8; 128],
     n: usize,
     out: &mut [u8],
-    p: Answer,
-) -> Answer
+    p: PenAnswer,
+) -> PenAnswer
     requires { ⌜ Loaded (now file) (now ix) ⌝ }
     requires { ⌜ Ready (now g) s (now ls) (now m) ⌝ }
     requires { ⌜ n < s .nodes ⌝ }
     requires { ⌜ Stamped (now w) n ⌝ }
     requires { ⌜ Fine (now out) p ⌝ }
     requires { ⌜ p .number ≡ 0 ⌝ }
-    ensures { λ r. ⌜ Adds (nodeUnits (drawnIn (tablesOf (now (file .entry))) (now (g .entry)) s (now (m .entry))) n) (now (out .entry)) p (now (out .exit)) r ⌝ }
+    ensures { λ r. ⌜ Adds (nodeUnits (drawnIn (tablesOf (now (file .entry))) (now (g .entry)) s (now (m .entry))) n) (now (out .entry)) p (now (out .exit))
+        r ⌝ }
     ensures { λ r. ⌜ Stamped (now (w .exit)) (n + 1) ⌝ }
 {
     let d = is_drawn(g, m, n);
@@ -144,15 +151,15 @@ fn add_node(
 
 pub fn add_nodes(
     file: &[u8],
-    ix: &[u16; 10432],
-    g: &[u64; 1152],
+    ix: &Slots,
+    g: &GraphWords,
     s: Size,
-    ls: &[u16; 3456],
-    m: &[u16; 128],
+    ls: &ChainWords,
+    m: &PerNode,
     w: &mut [u8; 128],
     out: &mut [u8],
-    p: Answer,
-) -> Answer
+    p: PenAnswer,
+) -> PenAnswer
     requires { ⌜ Loaded (now file) (now ix) ⌝ }
     requires { ⌜ Ready (now g) s (now ls) (now m) ⌝ }
     requires { ⌜ Stamped (now w) 0 ⌝ }

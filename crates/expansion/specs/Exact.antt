@@ -10,8 +10,8 @@ use Rattle.store.specs.declared.Size.{Size}
 use Rattle.store.specs.Graph.{Graph}
 use Rattle.store.specs.Table.{graphIn}
 use Rattle.store.specs.Exact.{size-one, table-one}
-use Rattle.triples.specs.Triple.{Triple}
-use Rattle.triples.specs.Hashed.{tripleOf, Triples, madeIn, lastIn, held}
+use Rattle.expansion.specs.Triple.{Triple}
+use Rattle.expansion.specs.Hashed.{tripleOf, Triples, madeIn, lastIn, held}
 use Rattle.expansion.specs.declared.Work.{Work}
 use Rattle.expansion.specs.declared.Progress.{Progress}
 use Rattle.expansion.specs.declared.Progress.the-variants as P
@@ -38,8 +38,10 @@ module _ (X : StepSoFar) (g h tr us w m : List ℕ) where
   pub expanded-one : (r q : Progress) → Expanded X g tr w r → Expanded X h us m q → (r ≡ q) × (g ≡ h)
   expanded-one (P.On k) (P.On j) R Q =
       let z : onTo (buildIn g tr w k) ≡ onTo (buildIn h us m j) = R .is ∙ sym (Q .is) in
-      let e : buildIn g tr w k ≡ buildIn h us m j = cc in
-      (ap P.On (work-one g h tr us w m k j (R .holds) (Q .holds) e), table-one g h (k .size) (j .size) (R .holds .growing .stored) (Q .holds .growing .stored) (ap (λ (b : Build). b .graph) e))
+      let e : buildIn g tr w k ≡ buildIn h us m j = cc in (
+        ap P.On (work-one g h tr us w m k j (R .holds) (Q .holds) e),
+        table-one g h (k .size) (j .size) (R .holds .growing .stored) (Q .holds .growing .stored) (ap (λ (b : Build). b .graph) e),
+      )
   expanded-one (P.Full s) (P.Full t) R Q =
       let z : stopAt (graphIn g s) ≡ stopAt (graphIn h t) = R .is ∙ sym (Q .is) in
       let e : graphIn g s ≡ graphIn h t = cc in
@@ -48,7 +50,8 @@ module _ (X : StepSoFar) (g h tr us w m : List ℕ) where
   expanded-one (P.Full s) (P.On j) R Q = let z : stopAt (graphIn g s) ≡ onTo (buildIn h us m j) = R .is ∙ sym (Q .is) in clash (cc)
 
   -- the triples made, and the last solvable of each name, where it goes on
-  pub expanded-made : (k j : Work) → Expanded X g tr w (P.On k) → Expanded X h us m (P.On j) → (madeIn tr (k .triples) ≡ madeIn us (j .triples)) × (lastIn w ≡ lastIn m)
+  pub expanded-made : (k j : Work) → Expanded X g tr w (P.On k) → Expanded X h us m (P.On j) → (madeIn tr (k .triples) ≡ madeIn us (j .triples))
+      × (lastIn w ≡ lastIn m)
   expanded-made k j R Q =
       let z : onTo (buildIn g tr w k) ≡ onTo (buildIn h us m j) = R .is ∙ sym (Q .is) in
       let e : buildIn g tr w k ≡ buildIn h us m j = cc in

@@ -27,10 +27,10 @@ use Rattle.index.specs.Found.{loaded-valid}
 use Rattle.store.specs.declared.Size.{Size}
 use Rattle.store.specs.Graph.{Graph}
 use Rattle.store.specs.Table.{graphIn, Growing, edges-count}
-use Rattle.triples.specs.Hashed.{lastIn, triples-put}
+use Rattle.expansion.specs.Hashed.{lastIn, triples-put}
 use Rattle.linking.specs.declared.Grown.{Grown}
 use Rattle.linking.specs.declared.Grown.the-variants as G
-use Rattle.linking.specs.Links.{solvableIn, nameIn, Link, requiresOf, requirers, excludedLinks, lockLinks, constrainsLinks}
+use Rattle.linking.specs.Links.{solvableIn, nameForbidden, Link, requiresOf, requirers, excludedLinks, lockLinks, constrainsLinks}
 use Rattle.linking.specs.Working.{LinkedSoFar, moreTo, shortAt, linkAllIn, forbidAllIn, lastBy}
 use Rattle.linking.specs.Growth.{grownIn, Grew, edges-all, edges-forbid}
 use Rattle.expansion.specs.declared.Work.{Work}
@@ -46,8 +46,37 @@ use Rattle.expansion.specs.State.{buildIn, Holds, progressIn, HoldsIn, E
 
 variable-slot : (k : ℕ) (s : Shape) → shapeOf k ≡ some s → s .table ≡ Variables → s .c ≡ S.Named
 variable-slot =
-    each-kind (λ o. (s : Shape) → o ≡ some s → s .table ≡ Variables → s .c ≡ S.Named)
-    (λ s e h. cc, (λ s e h. cc, (λ s e h. cc, (λ s e h. cc, (λ s e h. cc, (λ s e h. cc, (λ s e h. cc, (λ s e h. cc, (λ s e h. cc, (λ s e h. cc, (λ s e h. cc, (λ s e h. cc, (λ s e h. cc, (λ s e h. cc, (λ s e h. cc, (λ s e h. cc, (λ s e h. cc, (λ s e h. cc, tt))))))))))))))))))
+    each-kind (λ o. (s : Shape) → o ≡ some s → s .table ≡ Variables → s .c ≡ S.Named) (
+      λ s e h. cc,
+      (
+        λ s e h. cc,
+        (
+          λ s e h. cc,
+          (
+            λ s e h. cc,
+            (
+              λ s e h. cc,
+              (
+                λ s e h. cc,
+                (
+                  λ s e h. cc,
+                  (
+                    λ s e h. cc,
+                    (
+                      λ s e h. cc,
+                      (
+                        λ s e h. cc,
+                        (λ s e h. cc, (λ s e h. cc, (λ s e h. cc, (λ s e h. cc, (λ s e h. cc, (λ s e h. cc, (λ s e h. cc, (λ s e h. cc, tt)))))))),
+                      ),
+                    ),
+                  ),
+                ),
+              ),
+            ),
+          ),
+        ),
+      ),
+    )
     (λ s e h. cc)
 
 is-solvable : (o c n : ℕ) → originBy o c ≡ O.Solvable n → (o ≡ 1) × (c ≡ n)
@@ -126,27 +155,41 @@ widen-full k r s e = ap (widened k) (sym e)
 pub ruleset widens = (widen-on, widen-full)
 
 module _ (g tr w h : List ℕ) (k : Work) (H : Holds g tr w k) where
-  fewer : (s : Size) (W : LinkedSoFar) → moreTo (graphIn h s) ≡ W → Growing h s → ((j : Graph) → W ≡ moreTo j → length (graphIn g (k .size) .edges) ≤ length (j .edges)) → k .triples ≤ s .edges
+  fewer : (s : Size) (W : LinkedSoFar) → moreTo (graphIn h s) ≡ W → Growing h s
+      → ((j : Graph) → W ≡ moreTo j → length (graphIn g (k .size) .edges) ≤ length (j .edges)) → k .triples ≤ s .edges
   fewer s W q P f =
       omega (arith, f (graphIn h s) (sym q), edges-count h s (P .stored), edges-count g (k .size) (H .growing .stored), H .few)
 
   -- the links ls went in
-  pub links-done : (ls : List Link) (r : Grown) (d : Progress) → Grew (linkAllIn ls (graphIn g (k .size))) h r → d ≡ widened k r → Expanded (keptIn (buildIn g tr w k) (linkAllIn ls (graphIn g (k .size)))) h tr w d
+  pub links-done : (ls : List Link) (r : Grown) (d : Progress) → Grew (linkAllIn ls (graphIn g (k .size))) h r → d ≡ widened k r
+      → Expanded (keptIn (buildIn g tr w k) (linkAllIn ls (graphIn g (k .size)))) h tr w d
   links-done ls (G.On s) d R q =
       rw q
       (record {
         is = ap (keptIn (buildIn g tr w k)) (R .is);
-        holds = record { growing = R .growing; triples = H .triples; few = fewer s (linkAllIn ls (graphIn g (k .size))) (R .is) (R .growing) (λ j e. edges-all ls (graphIn g (k .size)) j e) };
+        holds =
+            record {
+              growing = R .growing;
+              triples = H .triples;
+              few = fewer s (linkAllIn ls (graphIn g (k .size))) (R .is) (R .growing) (λ j e.
+                  edges-all ls (graphIn g (k .size)) j e);
+            };
       })
   links-done ls (G.Full s) d R q = rw q (record { is = ap (keptIn (buildIn g tr w k)) (R .is); holds = R .growing })
 
   -- p, the last solvable under name n as the table holds it, was linked to s, which is the last one now
-  last-done : (p n s : ℕ) (l : List ℕ) (r : Grown) → Grew (forbidAllIn (graphIn g (k .size)) (lastBy p) s) h r → n < 128 → l ≡ set w (3072 + n) (s + 1) → Expanded (lastlyIn (buildIn g tr w k) n s (forbidAllIn (graphIn g (k .size)) (lastBy p) s)) h tr l (widened k r)
+  last-done : (p n s : ℕ) (l : List ℕ) (r : Grown) → Grew (forbidAllIn (graphIn g (k .size)) (lastBy p) s) h r → n < 128 → l ≡ set w (3072 + n) (s + 1)
+      → Expanded (lastlyIn (buildIn g tr w k) n s (forbidAllIn (graphIn g (k .size)) (lastBy p) s)) h tr l (widened k r)
   last-done p n s l (G.On z) R f q =
       let m : lastsIn l ≡ set (lastsIn w) n (some s) = lasts-put w l n s q f in
       record {
         is = rw (← (R .is), m);
-        holds = record { growing = R .growing; triples = triples-put tr w l (k .triples) n (s + 1) (H .triples) q f; few = fewer z (forbidAllIn (graphIn g (k .size)) (lastBy p) s) (R .is) (R .growing) (λ j e. edges-forbid (graphIn g (k .size)) j (lastBy p) s e) };
+        holds =
+            record {
+              growing = R .growing;
+              triples = triples-put tr w l (k .triples) n (s + 1) (H .triples) q f;
+              few = fewer z (forbidAllIn (graphIn g (k .size)) (lastBy p) s) (R .is) (R .growing) (λ j e. edges-forbid (graphIn g (k .size)) j (lastBy p) s e);
+            };
       }
   last-done p n s l (G.Full z) R f q = record { is = rw (← (R .is)); holds = R .growing }
 
@@ -157,15 +200,19 @@ module _ (T : Tables) (a b : ℕ) (o : Origin) (q : o ≡ originOf T a) (g tr w 
   unfolding forbidClauseIn
   forbid-skip e = record { is = rw (← q, e); holds = H }
 
-  pub forbid-unnamed : (u : Origin) (n : ℕ) → u ≡ originOf T b → o ≡ O.Solvable n → nameIn u ≡ [] → Expanded (forbidClauseIn T a b (buildIn g tr w k)) g tr w (P.On k)
+  pub forbid-unnamed : (u : Origin) (n : ℕ) → u ≡ originOf T b → o ≡ O.Solvable n → nameForbidden u ≡ []
+      → Expanded (forbidClauseIn T a b (buildIn g tr w k)) g tr w (P.On k)
   unfolding forbidClauseIn
   forbid-unnamed u n z e f = record { is = rw (← q, ← z, e, f); holds = H }
 
   -- m′ is the name's number as an index
-  pub forbid-done : (u : Origin) (n m m′ p : ℕ) (h l : List ℕ) (r : Grown) (d : Progress) → u ≡ originOf T b → o ≡ O.Solvable n → u ≡ O.ForbidMultiple m → m′ ≡ m → m′ < 128 → p ≡ getD (lastIn w) m′ 0 → Grew (forbidAllIn (graphIn g (k .size)) (lastBy p) n) h r → l ≡ set w (3072 + m′) (n + 1) → d ≡ widened k r → Expanded (forbidClauseIn T a b (buildIn g tr w k)) h tr l d
+  pub forbid-done : (u : Origin) (n m m′ p : ℕ) (h l : List ℕ) (r : Grown) (d : Progress) → u ≡ originOf T b → o ≡ O.Solvable n → u ≡ O.ForbidMultiple m
+      → m′ ≡ m → m′ < 128 → p ≡ getD (lastIn w) m′ 0 → Grew (forbidAllIn (graphIn g (k .size)) (lastBy p) n) h r → l ≡ set w (3072 + m′) (n + 1)
+      → d ≡ widened k r → Expanded (forbidClauseIn T a b (buildIn g tr w k)) h tr l d
   unfolding forbidClauseIn
   forbid-done u n m m′ p h l r d z e f x y t R s v =
-      let D : Expanded (lastlyIn (buildIn g tr w k) m′ n (forbidAllIn (graphIn g (k .size)) (lastBy p) n)) h tr l d = rw v (last-done g tr w h k H p m′ n l r R y s) in
+      let D : Expanded (lastlyIn (buildIn g tr w k) m′ n (forbidAllIn (graphIn g (k .size)) (lastBy p) n)) h tr l d =
+      rw v (last-done g tr w h k H p m′ n l r R y s) in
       record { is = D .is ∙ rw (← q, ← z, e, f, ← x, t, ← lasts-read w m′); holds = D .holds }
 
 pub ruleset forbids = (forbid-skip, forbid-unnamed, forbid-done)
@@ -185,35 +232,43 @@ module _ (T : Tables) (c : Clause) (g tr w g′ tr′ w′ : List ℕ) (k : Work
   unfolding expandIn
   expand-any a b e H = record { is = rw e; holds = H }
 
-  pub expand-excluded : (a r : ℕ) (u : Grown) (d : Progress) → c ≡ C.Excluded a r → Holds g tr w k → Grew (linkAllIn (excludedLinks T a r) (graphIn g (k .size))) g′ u → d ≡ widened k u → Expanded (expandIn T c (buildIn g tr w k)) g′ tr w d
+  pub expand-excluded : (a r : ℕ) (u : Grown) (d : Progress) → c ≡ C.Excluded a r → Holds g tr w k
+      → Grew (linkAllIn (excludedLinks T a r) (graphIn g (k .size))) g′ u → d ≡ widened k u → Expanded (expandIn T c (buildIn g tr w k)) g′ tr w d
   unfolding expandIn
   expand-excluded a r u d e H R q = rw e (links-done g tr w g′ k H (excludedLinks T a r) u d R q)
 
-  pub expand-requires : (a q : ℕ) (u : Grown) (d : Progress) → c ≡ C.Requires a q → Holds g tr w k → Grew (linkAllIn (requiresOf T q (requirers T a)) (graphIn g (k .size))) g′ u → d ≡ widened k u → Expanded (expandIn T c (buildIn g tr w k)) g′ tr w d
+  pub expand-requires : (a q : ℕ) (u : Grown) (d : Progress) → c ≡ C.Requires a q → Holds g tr w k
+      → Grew (linkAllIn (requiresOf T q (requirers T a)) (graphIn g (k .size))) g′ u → d ≡ widened k u → Expanded (expandIn T c (buildIn g tr w k)) g′ tr w d
   unfolding expandIn
   expand-requires a q u d e H R z = rw e (links-done g tr w g′ k H (requiresOf T q (requirers T a)) u d R z)
 
-  pub expand-lock : (a b : ℕ) (u : Grown) (d : Progress) → c ≡ C.Lock a b → Holds g tr w k → Grew (linkAllIn (lockLinks T a b) (graphIn g (k .size))) g′ u → d ≡ widened k u → Expanded (expandIn T c (buildIn g tr w k)) g′ tr w d
+  pub expand-lock : (a b : ℕ) (u : Grown) (d : Progress) → c ≡ C.Lock a b → Holds g tr w k → Grew (linkAllIn (lockLinks T a b) (graphIn g (k .size))) g′ u
+      → d ≡ widened k u → Expanded (expandIn T c (buildIn g tr w k)) g′ tr w d
   unfolding expandIn
   expand-lock a b u d e H R q = rw e (links-done g tr w g′ k H (lockLinks T a b) u d R q)
 
-  pub expand-constrains : (a b v : ℕ) (u : Grown) (d : Progress) → c ≡ C.Constrains a b v → Holds g tr w k → Grew (linkAllIn (constrainsLinks T a b v) (graphIn g (k .size))) g′ u → d ≡ widened k u → Expanded (expandIn T c (buildIn g tr w k)) g′ tr w d
+  pub expand-constrains : (a b v : ℕ) (u : Grown) (d : Progress) → c ≡ C.Constrains a b v → Holds g tr w k
+      → Grew (linkAllIn (constrainsLinks T a b v) (graphIn g (k .size))) g′ u → d ≡ widened k u → Expanded (expandIn T c (buildIn g tr w k)) g′ tr w d
   unfolding expandIn
   expand-constrains a b v u d e H R q = rw e (links-done g tr w g′ k H (constrainsLinks T a b v) u d R q)
 
-  pub expand-forbid : (a b : ℕ) (d : Progress) → c ≡ C.ForbidMultipleInstances a b → Expanded (forbidClauseIn T a b (buildIn g tr w k)) g′ tr′ w′ d → Expanded (expandIn T c (buildIn g tr w k)) g′ tr′ w′ d
+  pub expand-forbid : (a b : ℕ) (d : Progress) → c ≡ C.ForbidMultipleInstances a b → Expanded (forbidClauseIn T a b (buildIn g tr w k)) g′ tr′ w′ d
+      → Expanded (expandIn T c (buildIn g tr w k)) g′ tr′ w′ d
   unfolding expandIn
   expand-forbid a b d e R = rw e R
 
-  pub expand-parent : (a b v : ℕ) (d : Progress) → c ≡ C.ConstrainsParent a b v → Expanded (pairIn T Parent a b v (buildIn g tr w k)) g′ tr′ w′ d → Expanded (expandIn T c (buildIn g tr w k)) g′ tr′ w′ d
+  pub expand-parent : (a b v : ℕ) (d : Progress) → c ≡ C.ConstrainsParent a b v → Expanded (pairIn T Parent a b v (buildIn g tr w k)) g′ tr′ w′ d
+      → Expanded (expandIn T c (buildIn g tr w k)) g′ tr′ w′ d
   unfolding expandIn
   expand-parent a b v d e R = rw e R
 
-  pub expand-candidate : (a b v : ℕ) (d : Progress) → c ≡ C.ConstrainsExcluded a b v → Expanded (pairIn T Candidate a b v (buildIn g tr w k)) g′ tr′ w′ d → Expanded (expandIn T c (buildIn g tr w k)) g′ tr′ w′ d
+  pub expand-candidate : (a b v : ℕ) (d : Progress) → c ≡ C.ConstrainsExcluded a b v → Expanded (pairIn T Candidate a b v (buildIn g tr w k)) g′ tr′ w′ d
+      → Expanded (expandIn T c (buildIn g tr w k)) g′ tr′ w′ d
   unfolding expandIn
   expand-candidate a b v d e R = rw e R
 
-pub ruleset expands = (expand-root, expand-learnt, expand-any, expand-excluded, expand-requires, expand-lock, expand-constrains, expand-forbid, expand-parent, expand-candidate)
+pub ruleset expands =
+    (expand-root, expand-learnt, expand-any, expand-excluded, expand-requires, expand-lock, expand-constrains, expand-forbid, expand-parent, expand-candidate)
 
 -- the name's number as an index
 pub name-wide : (file ix : List ℕ) (v m m′ : ℕ) (u : Origin) → m′ ≡ m → Loaded file ix → u ≡ originOf (tablesOf file) v → u ≡ O.ForbidMultiple m → m′ < 128

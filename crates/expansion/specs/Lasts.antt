@@ -6,7 +6,7 @@ use Prim.Native.Nat.{ℕ, zero, suc, _+_, _<_}
 use native.Mathlib.Numerals.{add-one}
 use lib.ListN.{getD, set, replicate, List·getD-map}
 use Rattle.basis.specs.Chains.{linked}
-use Rattle.triples.specs.Hashed.{tripleLay, lastIn, last-put, last-linked, last-none, Clear}
+use Rattle.expansion.specs.Hashed.{tripleLay, lastIn, last-put, last-linked, last-none, Clear}
 use Rattle.linking.specs.Working.{lastBy}
 
 -- by a name's number, the last solvable under that name

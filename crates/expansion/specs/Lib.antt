@@ -5,3 +5,5 @@ pub mod State
 pub mod Pairing
 pub mod Forbidding
 pub mod Exact
+pub mod Triple
+pub mod Hashed

@@ -23,11 +23,11 @@ use Rattle.store.specs.declared.Put.{Put}
 use Rattle.store.specs.declared.Put.the-variants.{At, Full}
 use Rattle.store.specs.Working.{AddedSoFar, addedTo, fullAt, addLinkIn}
 use Rattle.store.specs.Table.{graphIn, Growing, addedIn, sizeOf, edges-count}
-use Rattle.triples.specs.Triple.{Triple, triple, sameTriple}
-use Rattle.triples.specs.Hashed.{TripleWord, tripleLay, hashOf, madeIn, made-before, made-new, triples-add}
+use Rattle.expansion.specs.Triple.{Triple, triple, sameTriple}
+use Rattle.expansion.specs.Hashed.{TripleWord, tripleLay, hashOf, madeIn, made-before, made-new, triples-add}
 use Rattle.linking.specs.declared.Party.{Party}
 use Rattle.linking.specs.declared.Party.the-variants.{Node, Neither}
-use Rattle.linking.specs.Links.{partyOf, asList, nodesOf, parentReason, excludedReason, partnersOr}
+use Rattle.linking.specs.Links.{partyOf, asList, nodesNamed, parentReason, excludedReason, partnersOr}
 use Rattle.linking.specs.Growth.{edges-link}
 use Rattle.linking.specs.Parties.{isNode, anyNode, any-hit, any-miss, any-none, or-kept, or-none}
 use Rattle.expansion.specs.declared.Side.{Side}
@@ -53,7 +53,7 @@ pub record Pending (X : StepSoFar) (ts : List Triple) (g tr w : List ℕ) (k : W
 
 -- the triples of node n with an auxiliary's partners from the stored value x on
 unfoldable pub pairsFrom : Tables → Side → ConflictNode → ℕ → ℕ → List Triple
-pairsFrom T side n v x = triplesOf side n v (concatMap (nodesOf T) (auxFrom T x))
+pairsFrom T side n v x = triplesOf side n v (concatMap (nodesNamed T) (auxFrom T x))
 
 -- the other side of auxiliary v: its first partner plus one, and what is recovered where none is kept
 abbrev pub firstOther : Tables → Side → ℕ → ℕ
@@ -218,9 +218,9 @@ module _ (T : Tables) (side : Side) (n : ConflictNode) (v : ℕ) where
       → pairsFrom T side n v x ≡ triplesOf side n v (asList r) ++ pairsFrom T side n v y
   unfolding pairsFrom triplesOf
   pairs-step x c y r h e p z =
-      ap (λ (l : List ℕ). map (tripleBy side n v) (concatMap (nodesOf T) l)) (aux-step T x c y h e z)
-      ∙ map-append (tripleBy side n v) (asList (partyOf T c)) (concatMap (nodesOf T) (auxFrom T y))
-      ∙ ap (λ (u : Party). map (tripleBy side n v) (asList u) ++ map (tripleBy side n v) (concatMap (nodesOf T) (auxFrom T y))) (sym p)
+      ap (λ (l : List ℕ). map (tripleBy side n v) (concatMap (nodesNamed T) l)) (aux-step T x c y h e z)
+      ∙ map-append (tripleBy side n v) (asList (partyOf T c)) (concatMap (nodesNamed T) (auxFrom T y))
+      ∙ ap (λ (u : Party). map (tripleBy side n v) (asList u) ++ map (tripleBy side n v) (concatMap (nodesNamed T) (auxFrom T y))) (sym p)
 
   module _ (X : StepSoFar) (g tr w g′ tr′ w′ : List ℕ) (k : Work) (x c : ℕ) (r : Party) (d : Progress) where
     -- there was room: what is left is the rest
@@ -244,7 +244,7 @@ module _ (T : Tables) (side : Side) (n : ConflictNode) (v : ℕ) where
   unfolding pairsFrom triplesOf
   pairs-end X g tr w k x L h =
       pending-end X (pairsFrom T side n v x) g tr w k L
-      (ap (λ (l : List ℕ). map (tripleBy side n v) (concatMap (nodesOf T) l)) (aux-end T x h))
+      (ap (λ (l : List ℕ). map (tripleBy side n v) (concatMap (nodesNamed T) l)) (aux-end T x h))
 
 pub ruleset pairings = (pending-start, pairs-next, pairs-stop, pairs-end)
 
@@ -293,9 +293,9 @@ module _ (file ix : List ℕ) (L : Loaded file ix) (v x : ℕ) (b : Bool) (e : b
         → ExpandedBy (triplesOf side n s (others (tablesOf file) side v)) g tr w k g′ tr′ w′ d
     unfolding pairsFrom
     aux-some t R =
-        let z : others T side v ≡ concatMap (nodesOf T) (auxFrom T x) =
+        let z : others T side v ≡ concatMap (nodesNamed T) (auxFrom T x) =
         others-are side ∙ or-kept T (partners side) (otherReason T side v) (asked side f ∙ t)
-        ∙ ap (concatMap (nodesOf T)) (sym (all side f)) in
+        ∙ ap (concatMap (nodesNamed T)) (sym (all side f)) in
         rw z R
 
     -- that of the recovered party r is

@@ -4,7 +4,7 @@ use mathlib.Core.Path.{_≡_}
 use mathlib.Core.List.{List}
 use Prim.Native.Nat.{ℕ, _≤_}
 use Rattle.store.specs.Table.{graphIn, Growing}
-use Rattle.triples.specs.Hashed.{Triples, madeIn}
+use Rattle.expansion.specs.Hashed.{Triples, madeIn}
 use Rattle.expansion.specs.declared.Work.{Work}
 use Rattle.expansion.specs.declared.Progress.{Progress}
 use Rattle.expansion.specs.declared.Progress.the-variants as P

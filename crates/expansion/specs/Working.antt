@@ -16,20 +16,20 @@ use Rattle.store.specs.declared.ConflictEdge.{ConflictEdge}
 use Rattle.store.specs.declared.ConflictEdge.the-variants as W
 use Rattle.store.specs.Graph.{Graph, addLink}
 use Rattle.store.specs.Working.{AddedSoFar, addedTo, fullAt, addLinkIn, forgetAdded, forget-link}
-use Rattle.triples.specs.Triple.{Triple, sameTriple}
+use Rattle.expansion.specs.Triple.{Triple, sameTriple}
 use Rattle.linking.specs.declared.Party.{Party}
 use Rattle.linking.specs.declared.Party.the-variants.{Node, Neither}
-use Rattle.linking.specs.Links.{Link, partyOf, solvableIn, nameIn, requirers, linkAll, forbidAll}
+use Rattle.linking.specs.Links.{Link, partyOf, solvableIn, nameForbidden, requirers, linkAll, forbidAll}
 use Rattle.linking.specs.Links.{requiresOf, excludedLinks, lockLinks, constrainsLinks}
 use Rattle.linking.specs.Working.{LinkedSoFar, moreTo, shortAt, linkAllIn, forbidAllIn, forgetLinked, forget-links, forget-forbid}
 use Rattle.expansion.specs.declared.Side.{Side}
 use Rattle.expansion.specs.declared.Side.the-variants.{Parent, Candidate}
-use Rattle.expansion.specs.Expand.{Build, Step, on, stop, kept, noted, once, onceAll, triplesOf, others, pairAll}
+use Rattle.expansion.specs.Expand.{Build, ClauseStep, on, stop, keptBeside, noted, once, onceAll, triplesOf, others, pairAll}
 use Rattle.expansion.specs.Expand.{lastly, forbidIn, forbid, pair, expand}
 
 -- ---- the definitions
 
--- `Step`; where there is no room, with the graph so far
+-- `ClauseStep`; where there is no room, with the graph so far
 pub data StepSoFar : Type 0 where
   onTo : Build → StepSoFar
   stopAt : Graph → StepSoFar
@@ -70,7 +70,7 @@ forbidNamedIn b (s ∷ ss) (n ∷ ns) = lastlyIn b n s (forbidAllIn (b .graph) (
 
 unfoldable pub forbidClauseIn : Tables → ℕ → ℕ → Build → StepSoFar
 unfolding originOf forbidAllIn
-forbidClauseIn T x y b = forbidNamedIn b (solvableIn (originOf T x)) (nameIn (originOf T y))
+forbidClauseIn T x y b = forbidNamedIn b (solvableIn (originOf T x)) (nameForbidden (originOf T y))
 
 unfoldable pub pairIn : Tables → Side → ℕ → ℕ → ℕ → Build → StepSoFar
 unfolding onceAllIn triplesOf others partyOf
@@ -94,11 +94,11 @@ expandIn T c b = expandByIn T b c
 
 -- ---- with the graph forgotten
 
-abbrev pub forgetStep : StepSoFar → Step
+abbrev pub forgetStep : StepSoFar → ClauseStep
 forgetStep (onTo b) = on b
 forgetStep (stopAt g) = stop
 
-forget-kept : (b : Build) (l : LinkedSoFar) → forgetStep (keptIn b l) ≡ kept b (forgetLinked l)
+forget-kept : (b : Build) (l : LinkedSoFar) → forgetStep (keptIn b l) ≡ keptBeside b (forgetLinked l)
 forget-kept b (moreTo g) = refl
 forget-kept b (shortAt g) = refl
 
@@ -111,8 +111,8 @@ forget-noted b t (addedTo i g) = refl
 forget-noted b t (fullAt g) = refl
 
 -- the links ls of a clause that touches nothing else
-forget-linked : (b : Build) (ls : List Link) → forgetStep (keptIn b (linkAllIn ls (b .graph))) ≡ kept b (linkAll ls (b .graph))
-forget-linked b ls = forget-kept b (linkAllIn ls (b .graph)) ∙ ap (kept b) (forget-links ls (b .graph))
+forget-linked : (b : Build) (ls : List Link) → forgetStep (keptIn b (linkAllIn ls (b .graph))) ≡ keptBeside b (linkAll ls (b .graph))
+forget-linked b ls = forget-kept b (linkAllIn ls (b .graph)) ∙ ap (keptBeside b) (forget-links ls (b .graph))
 
 pub forget-once : (b : Build) (t : Triple) → forgetStep (onceIn b t) ≡ once b t
 unfolding onceIn once
@@ -136,7 +136,7 @@ unfolding onceAllIn onceAll
 forget-onces [] b = refl
 forget-onces (t ∷ ts) b =
     forget-then ts (onceIn b t) (forget-onces ts)
-    ∙ ap (λ (s : Step). elim s as (λ _. Step) [ stop ↦ stop | on c ↦ onceAll ts c ]) (forget-once b t)
+    ∙ ap (λ (s : ClauseStep). elim s as (λ _. ClauseStep) [ stop ↦ stop | on c ↦ onceAll ts c ]) (forget-once b t)
 
 pub forget-pair : (T : Tables) (side : Side) (a b v : ℕ) (d : Build) → forgetStep (pairIn T side a b v d) ≡ pair T side a b v d
 unfolding pairIn pair
@@ -148,7 +148,7 @@ forget-pair T side a b v d = by-party (partyOf T a)
 
 pub forget-forbidden : (T : Tables) (x y : ℕ) (b : Build) → forgetStep (forbidClauseIn T x y b) ≡ forbid T x y b
 unfolding forbidClauseIn forbid
-forget-forbidden T x y b = by-names (solvableIn (originOf T x)) (nameIn (originOf T y))
+forget-forbidden T x y b = by-names (solvableIn (originOf T x)) (nameForbidden (originOf T y))
   where
     by-names : (ss ns : List ℕ) → forgetStep (forbidNamedIn b ss ns) ≡ forbidIn b ss ns
     by-names [] ns = refl

@@ -1,11 +1,13 @@
 // What each clause of the core adds (conflict.rs: `Conflict::graph`): links, and for clauses 21, 23 and 24 also what is
 // remembered, the last solvable under a forbidden name and the triples made.
+mod triples;
+
 ghost use mathlib.Core.Path.{_≡_};
 ghost use Prim.Native.Nat.{_<_, _≤_};
 ghost use Rattle.records.specs.Read.{tablesOf};
 ghost use Rattle.index.specs.Index.{Loaded};
 ghost use Rattle.views.specs.Walks.{auxFrom};
-ghost use Rattle.triples.specs.Triple.{triple};
+ghost use Rattle.expansion.specs.Triple.{triple};
 ghost use Rattle.linking.specs.Links.{asList, parentReason, excludedReason};
 ghost use Rattle.linking.specs.Parties.{anyNode};
 ghost use Rattle.expansion.specs.Expand.{triplesOf, others};
@@ -13,14 +15,18 @@ ghost use Rattle.expansion.specs.Working.{onceIn, onceAllIn, pairIn, for
 ghost use Rattle.expansion.specs.State.{buildIn, Holds, Expanded};
 ghost use Rattle.expansion.specs.Pairing.{pairsFrom, firstOther, otherReason};
 ghost use Rattle.expansion.specs.Forbidding.{widened};
+use index::Slots;
 use linking::Grown;
 use linking::Party;
 use records::Clause;
 use records::Origin;
+use store::ChainWords;
 use store::ConflictCause;
 use store::ConflictEdge;
 use store::ConflictNode;
+use store::GraphWords;
 use store::Put;
+use store::Scratch;
 use store::Size;
 
 // The side of an auxiliary that a clause stands on: 23 holds a parent, 24 a candidate.
@@ -43,16 +49,17 @@ pub enum Progress {
 
 // The edge of a triple, unless it was made before.
 fn make_once(
-    g: &mut [u64; 1152],
-    tr: &mut [u64; 1280],
-    ls: &mut [u16; 3456],
+    g: &mut GraphWords,
+    tr: &mut Scratch,
+    ls: &mut ChainWords,
     k: Work,
     p: ConflictNode,
     d: ConflictNode,
     v: u16,
 ) -> Progress
     requires { ⌜ Holds (now g) (now tr) (now ls) k ⌝ }
-    ensures { λ r. ⌜ Expanded (onceIn (buildIn (now (g .entry)) (now (tr .entry)) (now (ls .entry)) k) (triple p d v)) (now (g .exit)) (now (tr .exit)) (now (ls .exit)) r ⌝ }
+    ensures { λ r. ⌜ Expanded (onceIn (buildIn (now (g .entry)) (now (tr .entry)) (now (ls .entry)) k) (triple p d v)) (now (g .exit)) (now (tr .exit))
+        (now (ls .exit)) r ⌝ }
 {
     let t = triples::pack(p, d, v);
     let n = k.triples;
@@ -81,9 +88,9 @@ fn make_once(
 
 // The triple of node n and party r of the other side, none where that names neither.
 fn pair_party(
-    g: &mut [u64; 1152],
-    tr: &mut [u64; 1280],
-    ls: &mut [u16; 3456],
+    g: &mut GraphWords,
+    tr: &mut Scratch,
+    ls: &mut ChainWords,
     k: Work,
     side: Side,
     n: ConflictNode,
@@ -91,7 +98,8 @@ fn pair_party(
     r: Party,
 ) -> Progress
     requires { ⌜ Holds (now g) (now tr) (now ls) k ⌝ }
-    ensures { λ d. ⌜ Expanded (onceAllIn (triplesOf side n v (asList r)) (buildIn (now (g .entry)) (now (tr .entry)) (now (ls .entry)) k)) (now (g .exit)) (now (tr .exit)) (now (ls .exit)) d ⌝ }
+    ensures { λ d. ⌜ Expanded (onceAllIn (triplesOf side n v (asList r)) (buildIn (now (g .entry)) (now (tr .entry)) (now (ls .entry)) k)) (now (g .exit))
+        (now (tr .exit)) (now (ls .exit)) d ⌝ }
 {
     let Party::Node(m) = r else {
         return Progress::On(k);
@@ -103,7 +111,7 @@ fn pair_party(
 }
 
 // Some partner of an auxiliary, from the stored value x on, is the root or a solvable.
-fn aux_kept(file: &[u8], ix: &[u16; 10432], x: usize) -> bool
+fn aux_kept(file: &[u8], ix: &Slots, x: usize) -> bool
     requires { ⌜ Loaded (now file) (now ix) ⌝ }
     ensures { λ r. ⌜ r ≡ anyNode (tablesOf (now (file .entry))) (auxFrom (tablesOf (now (file .entry))) x) ⌝ }
 {
@@ -122,10 +130,10 @@ fn aux_kept(file: &[u8], ix: &[u16; 10432], x: usize) -> bool
 // The triples of node n with an auxiliary's partners from the stored value x on.
 fn pair_all(
     file: &[u8],
-    ix: &[u16; 10432],
-    g: &mut [u64; 1152],
-    tr: &mut [u64; 1280],
-    ls: &mut [u16; 3456],
+    ix: &Slots,
+    g: &mut GraphWords,
+    tr: &mut Scratch,
+    ls: &mut ChainWords,
     k: Work,
     side: Side,
     n: ConflictNode,
@@ -134,7 +142,8 @@ fn pair_all(
 ) -> Progress
     requires { ⌜ Loaded (now file) (now ix) ⌝ }
     requires { ⌜ Holds (now g) (now tr) (now ls) k ⌝ }
-    ensures { λ d. ⌜ Expanded (onceAllIn (pairsFrom (tablesOf (now (file .entry))) side n v x) (buildIn (now (g .entry)) (now (tr .entry)) (now (ls .entry)) k)) (now (g .exit)) (now (tr .exit)) (now (ls .exit)) d ⌝ }
+    ensures { λ d. ⌜ Expanded (onceAllIn (pairsFrom (tablesOf (now (file .entry))) side n v x) (buildIn (now (g .entry)) (now (tr .entry)) (now (ls .entry)) k))
+        (now (g .exit)) (now (tr .exit)) (now (ls .exit)) d ⌝ }
 {
     let mut y = x;
     let mut m = k;
@@ -155,7 +164,7 @@ fn pair_all(
 }
 
 // The a of the clause that assigned auxiliary v, if that is ConstrainsParent.
-fn recover_parent(file: &[u8], ix: &[u16; 10432], v: u16) -> Party
+fn recover_parent(file: &[u8], ix: &Slots, v: u16) -> Party
     requires { ⌜ Loaded (now file) (now ix) ⌝ }
     ensures { λ r. ⌜ r ≡ parentReason (tablesOf (now (file .entry))) v ⌝ }
 {
@@ -171,7 +180,7 @@ fn recover_parent(file: &[u8], ix: &[u16; 10432], v: u16) -> Party
 }
 
 // The same of ConstrainsExcluded.
-fn recover_excluded(file: &[u8], ix: &[u16; 10432], v: u16) -> Party
+fn recover_excluded(file: &[u8], ix: &Slots, v: u16) -> Party
     requires { ⌜ Loaded (now file) (now ix) ⌝ }
     ensures { λ r. ⌜ r ≡ excludedReason (tablesOf (now (file .entry))) v ⌝ }
 {
@@ -187,7 +196,7 @@ fn recover_excluded(file: &[u8], ix: &[u16; 10432], v: u16) -> Party
 }
 
 // The first partner of the other side.
-fn first_other(file: &[u8], ix: &[u16; 10432], side: Side, v: u16) -> usize
+fn first_other(file: &[u8], ix: &Slots, side: Side, v: u16) -> usize
     requires { ⌜ Loaded (now file) (now ix) ⌝ }
     ensures { λ r. ⌜ r ≡ firstOther (tablesOf (now (file .entry))) side v ⌝ }
 {
@@ -197,7 +206,7 @@ fn first_other(file: &[u8], ix: &[u16; 10432], side: Side, v: u16) -> usize
     }
 }
 
-fn recover_other(file: &[u8], ix: &[u16; 10432], side: Side, v: u16) -> Party
+fn recover_other(file: &[u8], ix: &Slots, side: Side, v: u16) -> Party
     requires { ⌜ Loaded (now file) (now ix) ⌝ }
     ensures { λ r. ⌜ r ≡ otherReason (tablesOf (now (file .entry))) side v ⌝ }
 {
@@ -210,10 +219,10 @@ fn recover_other(file: &[u8], ix: &[u16; 10432], side: Side, v: u16) -> Party
 // The triples of node n with the whole other side of auxiliary b.
 fn pair_others(
     file: &[u8],
-    ix: &[u16; 10432],
-    g: &mut [u64; 1152],
-    tr: &mut [u64; 1280],
-    ls: &mut [u16; 3456],
+    ix: &Slots,
+    g: &mut GraphWords,
+    tr: &mut Scratch,
+    ls: &mut ChainWords,
     k: Work,
     side: Side,
     n: ConflictNode,
@@ -222,7 +231,8 @@ fn pair_others(
 ) -> Progress
     requires { ⌜ Loaded (now file) (now ix) ⌝ }
     requires { ⌜ Holds (now g) (now tr) (now ls) k ⌝ }
-    ensures { λ d. ⌜ Expanded (onceAllIn (triplesOf side n v (others (tablesOf (now (file .entry))) side b)) (buildIn (now (g .entry)) (now (tr .entry)) (now (ls .entry)) k)) (now (g .exit)) (now (tr .exit)) (now (ls .exit)) d ⌝ }
+    ensures { λ d. ⌜ Expanded (onceAllIn (triplesOf side n v (others (tablesOf (now (file .entry))) side b))
+        (buildIn (now (g .entry)) (now (tr .entry)) (now (ls .entry)) k)) (now (g .exit)) (now (tr .exit)) (now (ls .exit)) d ⌝ }
 {
     let x = first_other(file, ix, side, b);
     if aux_kept(file, ix, x) {
@@ -235,10 +245,10 @@ fn pair_others(
 // Clauses 23 and 24.
 fn expand_pair(
     file: &[u8],
-    ix: &[u16; 10432],
-    g: &mut [u64; 1152],
-    tr: &mut [u64; 1280],
-    ls: &mut [u16; 3456],
+    ix: &Slots,
+    g: &mut GraphWords,
+    tr: &mut Scratch,
+    ls: &mut ChainWords,
     k: Work,
     side: Side,
     a: u16,
@@ -247,7 +257,8 @@ fn expand_pair(
 ) -> Progress
     requires { ⌜ Loaded (now file) (now ix) ⌝ }
     requires { ⌜ Holds (now g) (now tr) (now ls) k ⌝ }
-    ensures { λ d. ⌜ Expanded (pairIn (tablesOf (now (file .entry))) side a b v (buildIn (now (g .entry)) (now (tr .entry)) (now (ls .entry)) k)) (now (g .exit)) (now (tr .exit)) (now (ls .exit)) d ⌝ }
+    ensures { λ d. ⌜ Expanded (pairIn (tablesOf (now (file .entry))) side a b v (buildIn (now (g .entry)) (now (tr .entry)) (now (ls .entry)) k))
+        (now (g .exit)) (now (tr .exit)) (now (ls .exit)) d ⌝ }
 {
     let r = linking::named(file, ix, a);
     let Party::Node(n) = r else {
@@ -270,17 +281,18 @@ fn widen(k: Work, r: Grown) -> Progress
 
 fn expand_forbid(
     file: &[u8],
-    ix: &[u16; 10432],
-    g: &mut [u64; 1152],
-    tr: &[u64; 1280],
-    ls: &mut [u16; 3456],
+    ix: &Slots,
+    g: &mut GraphWords,
+    tr: &Scratch,
+    ls: &mut ChainWords,
     k: Work,
     a: u16,
     b: u16,
 ) -> Progress
     requires { ⌜ Loaded (now file) (now ix) ⌝ }
     requires { ⌜ Holds (now g) (now tr) (now ls) k ⌝ }
-    ensures { λ d. ⌜ Expanded (forbidClauseIn (tablesOf (now (file .entry))) a b (buildIn (now (g .entry)) (now (tr .entry)) (now (ls .entry)) k)) (now (g .exit)) (now (tr .entry)) (now (ls .exit)) d ⌝ }
+    ensures { λ d. ⌜ Expanded (forbidClauseIn (tablesOf (now (file .entry))) a b (buildIn (now (g .entry)) (now (tr .entry)) (now (ls .entry)) k))
+        (now (g .exit)) (now (tr .entry)) (now (ls .exit)) d ⌝ }
 {
     let o = views::origin(file, ix, a);
     let Origin::Solvable(n) = o else {
@@ -301,16 +313,17 @@ fn expand_forbid(
 // One clause of the core.
 pub fn expand(
     file: &[u8],
-    ix: &[u16; 10432],
-    g: &mut [u64; 1152],
-    tr: &mut [u64; 1280],
-    ls: &mut [u16; 3456],
+    ix: &Slots,
+    g: &mut GraphWords,
+    tr: &mut Scratch,
+    ls: &mut ChainWords,
     k: Work,
     c: Clause,
 ) -> Progress
     requires { ⌜ Loaded (now file) (now ix) ⌝ }
     requires { ⌜ Holds (now g) (now tr) (now ls) k ⌝ }
-    ensures { λ d. ⌜ Expanded (expandIn (tablesOf (now (file .entry))) c (buildIn (now (g .entry)) (now (tr .entry)) (now (ls .entry)) k)) (now (g .exit)) (now (tr .exit)) (now (ls .exit)) d ⌝ }
+    ensures { λ d. ⌜ Expanded (expandIn (tablesOf (now (file .entry))) c (buildIn (now (g .entry)) (now (tr .entry)) (now (ls .entry)) k)) (now (g .exit))
+        (now (tr .exit)) (now (ls .exit)) d ⌝ }
 {
     let s = k.size;
     match c {

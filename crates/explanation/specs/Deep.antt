@@ -31,7 +31,8 @@ but-less x (y ∷ l) i =
     let h = but-most x l in
     split (eqb y x)
     (λ q. rw (q, filter) (omega arith))
-    (λ q. either i (λ e. let z = eq-eqb y x (sym e) in let c : _≡_ {A = Bool} true false = sym z ∙ q in absurd (true-false c)) (λ j. let k = but-less x l j in rw (q, filter) (omega arith)))
+    (λ q. either i (λ e. let z = eq-eqb y x (sym e) in let c : _≡_ {A = Bool} true false = sym z ∙ q in absurd (true-false c)) (λ j. let k = but-less x l j in
+    rw (q, filter) (omega arith)))
   where
     true-false : _≡_ {A = Bool} true false → ⊥
     true-false c = let z : _≡_ {A = ℕ} 0 1 = cc in omega arith
@@ -55,7 +56,8 @@ module _ {R : Type 0} (P : Plan R) (G U : List ℕ) where
   in-all Q [] a m i = absurd i
   in-all Q (x ∷ b) a m i = either i (λ e. rw e (a .0)) (λ j. in-all Q b (a .1) m j)
 
-  pub kid-within : (n : ℕ) (ms : List Bool) (b rep : List ℕ) → Fits P G U rep (entry (candidate n) ms b) → All (λ m. P .opens m ≡ true) b → skipped P rep n ≡ false → repeats P b n ≡ false
+  pub kid-within : (n : ℕ) (ms : List Bool) (b rep : List ℕ) → Fits P G U rep (entry (candidate n) ms b) → All (λ m. P .opens m ≡ true) b
+      → skipped P rep n ≡ false → repeats P b n ≡ false
       → length b < most P G U
   kid-within n ms b rep f op sk re =
       split (P .opens n)
@@ -73,7 +75,8 @@ module _ {R : Type 0} (P : Plan R) (G U : List ℕ) where
       let k : (length (but (P .lead n) G) + 1) * length U ≤ (length G + 1) * length U = mul-le-mul-right (length U) (omega arith) in
       omega arith)
       (λ m.
-      let free : (x : ℕ) → In x b → x ≡ n → ⊥ = λ x i e. (let q : P .opens n ≡ true = rw e at (in-all (λ y. P .opens y ≡ true) b op x i) in let c : _≡_ {A = Bool} true false = sym q ∙ o in let z : _≡_ {A = ℕ} 0 1 = cc in let w : ⊥ = omega arith in w) in
+      let free : (x : ℕ) → In x b → x ≡ n → ⊥ = λ x i e. (let q : P .opens n ≡ true = rw e at (in-all (λ y. P .opens y ≡ true) b op x i) in
+      let c : _≡_ {A = Bool} true false = sym q ∙ o in let z : _≡_ {A = ℕ} 0 1 = cc in let w : ⊥ = omega arith in w) in
       let c : All (Counted P G (but n U)) b =
       all-in (Counted P G (but n U)) b (λ x i. (
         in-all (Counted P G U) b (f .count) x i .0,

@@ -71,7 +71,11 @@ frames-above p k fr (suc d) i w h =
     rw (getD-set-other fr i d w 0 (λ q. omega arith), owner-above fr d i w (omega arith), frames-above p k fr d i w (omega arith))
 
 pub frames-push : (p k fr : List ℕ) (d w n r a : ℕ) → d < length fr → Packed w n r a
-    → framesIn p k (set fr d w) (d + 1) ≡ record { node = n; runs = runsFrom r (runEnd p (ownerIn fr d)); kids = kidsFrom k a (kidEnd p (r - 1)) } ∷ framesIn p k fr d
+    → framesIn p k (set fr d w) (d + 1) ≡ record {
+      node = n;
+      runs = runsFrom r (runEnd p (ownerIn fr d));
+      kids = kidsFrom k a (kidEnd p (r - 1));
+    } ∷ framesIn p k fr d
 unfolding framesIn frameIn
 frames-push p k fr d w n r a h q =
     rw (add-one, getD-set-same fr d w 0 h, owner-above fr d d w (omega arith), frames-above p k fr d d w (omega arith), q .node, q .runs, q .kids)
@@ -114,7 +118,8 @@ pub record Popped (p fr : List ℕ) (t u : Top) : Type 0 where
   pub units : u .units ≡ t .units
   pub depth : u .depth ≡ t .depth
 
-pub popped : (p fr : List ℕ) (t : Top) (m re x ke : ℕ) → m ≡ ownerIn fr (t .d - 1) → re ≡ runEnd p m → re < 2048 → x ≡ getD fr (t .d - 1) 0 / 256 % 2048 - 1 → ke ≡ kidEnd p x → ke < 2048
+pub popped : (p fr : List ℕ) (t : Top) (m re x ke : ℕ) → m ≡ ownerIn fr (t .d - 1) → re ≡ runEnd p m → re < 2048 → x ≡ getD fr (t .d - 1) 0 / 256 % 2048 - 1
+    → ke ≡ kidEnd p x → ke < 2048
     → Popped p fr t (record {
       r = getD fr (t .d - 1) 0 / 256 % 2048;
       re = re;
@@ -125,7 +130,8 @@ pub popped : (p fr : List ℕ) (t : Top) (m re x ke : ℕ) → m ≡ ownerIn fr 
       units = t .units;
       depth = t .depth;
     })
-popped p fr t m re x ke mi ri rl xi ki kl = record { r = refl; re = rw (← mi) ri; k = refl; ke = rw (← xi) ki; rend = rl; kend = kl; d = refl; at = refl; units = refl; depth = refl }
+popped p fr t m re x ke mi ri rl xi ki kl =
+    record { r = refl; re = rw (← mi) ri; k = refl; ke = rw (← xi) ki; rend = rl; kend = kl; d = refl; at = refl; units = refl; depth = refl }
 
 -- ---- what waits: none, or not
 

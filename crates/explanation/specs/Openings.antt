@@ -12,12 +12,12 @@ use Rattle.graph.specs.Graphs.{Outcome, drawn, refused, graphOf}
 use Rattle.machine.specs.Machine.{Entry, requirement, candidate, tell}
 use Rattle.machine.specs.Count.{groups, unmerged}
 use Rattle.machine.specs.Edition.{edited}
-use Rattle.plan.specs.Plan.{Shown, shownOf, planOf, startOf, kindOf, isRequiring}
+use Rattle.plan.specs.Plan.{Shown, shownOf, planOf, startOf, lineKind, isRequiring}
 use Rattle.lines.specs.Lines.{linesOf}
 
 module _ (S : Shown) (opt : ℕ) where
   abbrev pub isOpening : Entry Run → Bool
-  isOpening e = elim (e .op) [ requirement r ↦ false | candidate n ↦ isRequiring (kindOf S n) ]
+  isOpening e = elim (e .op) [ requirement r ↦ false | candidate n ↦ isRequiring (lineKind S n) ]
 
   -- of each line, in order, whether it opens a package: "Opening a package means writing its 'would require' line"
   abbrev pub openingLines : List (Entry Run) → List Bool

@@ -8,9 +8,10 @@ use lib.ListN.{length, getD, set, length-set}
 use lib.Dec.{leb}
 use Rattle.basis.specs.Lists.{isNil}
 use Rattle.machine.specs.Machine.{Plan, Entry, under, openings}
-use Rattle.machine.specs.Frames.{Frame, marksOf, branchOf, stackAt, kidEntry, kidMarks, marks-length, under-open, under-shut, openings-open, openings-shut, stack-pop}
-use Rattle.texts.specs.Marks as M
-use Rattle.texts.specs.Marks.{upper, pushed}
+use Rattle.machine.specs.Frames.{Frame, marksOf, branchOf, stackAt, kidEntry, kidMarks, marks-length, under-open, under-shut, openings-open, openings-shut}
+use Rattle.machine.specs.Frames.{stack-pop}
+use Rattle.texts.specs.MarkBits as M
+use Rattle.texts.specs.MarkBits.{upper, pushed}
 use Rattle.texts.specs.Levels.{marks-count, pushed-below, upper-length, upper-whole, upper-under, upper-own, upper-upper}
 use Rattle.texts.specs.declared.Indenter.{Indenter}
 use Rattle.plan.specs.Fields.{planIn, opensIn, runsIn, kidFirst, kidEnd, runFirst, runEnd, runsFrom, runs-none, runs-more, kidsFrom, kids-none, kids-more}
@@ -64,12 +65,12 @@ abbrev pub measure : ℕ → Top → ℕ
 measure room t = (room - t .at) * 16777216 + t .d * 4096 + (t .ke - t .k)
 
 -- the indenter holds the marks of the opened packages, and of the run whose kids wait
-pub record Held (p k fr : List ℕ) (t : Top) (g : Indenter) : Type 0 where
+pub record Indented (p k fr : List ℕ) (t : Top) (g : Indenter) : Type 0 where
   pub count : g .count ≤ 4160
   pub levels : 2 * t .d ≤ g .count
-  pub above : upper (2 * t .d) (M.marksOf g) ≡ marksOf (framesIn p k fr (t .d))
+  pub above : upper (2 * t .d) (M.marksIn g) ≡ marksOf (framesIn p k fr (t .d))
   pub wide : t .k < t .ke → 2 * t .d + 1 ≤ g .count
-  pub beside : t .k < t .ke → upper (2 * t .d + 1) (M.marksOf g) ≡ isNil (runsFrom (t .r) (t .re)) ∷ marksOf (framesIn p k fr (t .d))
+  pub beside : t .k < t .ke → upper (2 * t .d + 1) (M.marksIn g) ≡ isNil (runsFrom (t .r) (t .re)) ∷ marksOf (framesIn p k fr (t .d))
 
 -- ---- the indenter of the next entry
 
@@ -77,14 +78,14 @@ pub record Held (p k fr : List ℕ) (t : Top) (g : Indenter) : Type 0 where
 pub record Stepped (t : Top) (g h : Indenter) : Type 0 where
   pub count : h .count ≤ 4160
   pub top : h .top ≡ g .top
-  pub kid : t .k < t .ke → M.marksOf h ≡ pushed (leb (t .ke) (t .k + 1)) (upper (2 * t .d + 1) (M.marksOf g))
-  pub run : t .ke ≤ t .k → t .r < t .re → M.marksOf h ≡ pushed (leb (t .re) (t .r + 1)) (upper (2 * t .d) (M.marksOf g))
+  pub kid : t .k < t .ke → M.marksIn h ≡ pushed (leb (t .ke) (t .k + 1)) (upper (2 * t .d + 1) (M.marksIn g))
+  pub run : t .ke ≤ t .k → t .r < t .re → M.marksIn h ≡ pushed (leb (t .re) (t .r + 1)) (upper (2 * t .d) (M.marksIn g))
   pub none : t .ke ≤ t .k → t .re ≤ t .r → h ≡ g
 
 module _ (t : Top) (ws vs : List ℕ) (n r : ℕ) (top : Bool) where
   pub step-kid : t .k < t .ke → M.marksAt vs r ≡ pushed (leb (t .ke) (t .k + 1)) (upper (2 * t .d + 1) (M.marksAt ws n)) → r ≤ 4160
       → Stepped t (indenterAt ws n top) (indenterAt vs r top)
-  unfolding M.marksOf
+  unfolding M.marksIn
   step-kid l m c =
       record {
         count = c;
@@ -97,7 +98,7 @@ module _ (t : Top) (ws vs : List ℕ) (n r : ℕ) (top : Bool) where
   pub step-run : t .ke ≤ t .k → t .r < t .re → M.marksAt vs r ≡ pushed (leb (t .re) (t .r + 1)) (upper (2 * t .d) (M.marksAt ws n))
       → r ≤ 4160
       → Stepped t (indenterAt ws n top) (indenterAt vs r top)
-  unfolding M.marksOf
+  unfolding M.marksIn
   step-run l g m c =
       record {
         count = c;
@@ -114,17 +115,19 @@ step-none t g l n c =
 -- the marks of the next entry
 pub record Level (p k fr : List ℕ) (t : Top) (g : Indenter) : Type 0 where
   pub count : g .count ≤ 4160
-  pub kid : t .k < t .ke → M.marksOf g ≡ kidMarks (runsAt p k t fr) (kidsAt p k t fr) (framesAt p k t fr)
-  pub run : t .ke ≤ t .k → t .r < t .re → M.marksOf g ≡ isNil (runsFrom (t .r + 1) (t .re)) ∷ marksOf (framesAt p k t fr)
-  pub none : t .ke ≤ t .k → t .re ≤ t .r → Held p k fr t g
+  pub kid : t .k < t .ke → M.marksIn g ≡ kidMarks (runsAt p k t fr) (kidsAt p k t fr) (framesAt p k t fr)
+  pub run : t .ke ≤ t .k → t .r < t .re → M.marksIn g ≡ isNil (runsFrom (t .r + 1) (t .re)) ∷ marksOf (framesAt p k t fr)
+  pub none : t .ke ≤ t .k → t .re ≤ t .r → Indented p k fr t g
 
-pub level-kid : (p k fr : List ℕ) (t : Top) (g : Indenter) → Level p k fr t g → t .k < t .ke → M.marksOf g ≡ kidMarks (runsAt p k t fr) (kidsAt p k t fr) (framesAt p k t fr)
+pub level-kid : (p k fr : List ℕ) (t : Top) (g : Indenter) → Level p k fr t g → t .k < t .ke
+    → M.marksIn g ≡ kidMarks (runsAt p k t fr) (kidsAt p k t fr) (framesAt p k t fr)
 level-kid p k fr t g l h = l .kid h
 
-pub level-run : (p k fr : List ℕ) (t : Top) (g : Indenter) → Level p k fr t g → t .ke ≤ t .k → t .r < t .re → M.marksOf g ≡ isNil (runsFrom (t .r + 1) (t .re)) ∷ marksOf (framesAt p k t fr)
+pub level-run : (p k fr : List ℕ) (t : Top) (g : Indenter) → Level p k fr t g → t .ke ≤ t .k → t .r < t .re
+    → M.marksIn g ≡ isNil (runsFrom (t .r + 1) (t .re)) ∷ marksOf (framesAt p k t fr)
 level-run p k fr t g l h i = l .run h i
 
-pub level-step : (p k fr : List ℕ) (t : Top) (g h : Indenter) → Held p k fr t g → Stepped t g h → Small p fr t → Level p k fr t h
+pub level-step : (p k fr : List ℕ) (t : Top) (g h : Indenter) → Indented p k fr t g → Stepped t g h → Small p fr t → Level p k fr t h
 level-step p k fr t g h e s sm =
     let b = marks-length (framesAt p k t fr) in
     let c = frames-length p k fr (t .d) in
@@ -132,30 +135,34 @@ level-step p k fr t g h e s sm =
     record {
       count = s .count;
       kid = λ l.
-          s .kid l ∙ rw (e .beside l, nil-kids k (t .k + 1) (t .ke)) (pushed-below (isNil (kidsAt p k t fr)) (isNil (runsAt p k t fr) ∷ marksOf (framesAt p k t fr)) (omega arith));
-      run = λ l m. s .run l m ∙ rw (e .above, nil-runs (t .r + 1) (t .re)) (pushed-below (isNil (runsFrom (t .r + 1) (t .re))) (marksOf (framesAt p k t fr)) (omega arith));
+          s .kid l ∙ rw (e .beside l, nil-kids k (t .k + 1) (t .ke)) (pushed-below (isNil (kidsAt p k t fr))
+          (isNil (runsAt p k t fr) ∷ marksOf (framesAt p k t fr)) (omega arith));
+      run =
+          λ l m. s .run l m ∙ rw (e .above, nil-runs (t .r + 1) (t .re))
+          (pushed-below (isNil (runsFrom (t .r + 1) (t .re))) (marksOf (framesAt p k t fr)) (omega arith));
       none = λ l m. rw (s .none l m) e;
     }
 
 -- ---- behind the lines of package n
 
 pub record Entered (p k : List ℕ) (t : Top) (n : ℕ) (fr : List ℕ) (u : Top) (fr′ : List ℕ) : Type 0 where
-  pub left : stackIn p k u fr′ ≡ under (planIn p k) (kidMarks (runsAt p k t fr) (kidsAt p k t fr) (framesAt p k t fr)) (branchOf (framesAt p k t fr)) n ++ stackAt (runsAt p k t fr) (kidsAt p k t fr) (framesAt p k t fr)
+  pub left : stackIn p k u fr′ ≡ under (planIn p k) (kidMarks (runsAt p k t fr) (kidsAt p k t fr) (framesAt p k t fr)) (branchOf (framesAt p k t fr)) n
+      ++ stackAt (runsAt p k t fr) (kidsAt p k t fr) (framesAt p k t fr)
   pub at : u .at ≡ t .at
   pub units : u .units ≡ t .units
   pub depth : u .depth ≡ max (t .depth) (openings (planIn p k) (kidEntry n (runsAt p k t fr) (kidsAt p k t fr) (framesAt p k t fr)))
   pub small : Small p fr′ u
   pub low : u .d * 4096 + (u .ke - u .k) < t .d * 4096 + 8192
   pub long : length fr′ ≡ length fr
-  pub held : (g : Indenter) → g .count ≤ 4160 → M.marksOf g ≡ kidMarks (runsAt p k t fr) (kidsAt p k t fr) (framesAt p k t fr) → Held p k fr′ u g
+  pub held : (g : Indenter) → g .count ≤ 4160 → M.marksIn g ≡ kidMarks (runsAt p k t fr) (kidsAt p k t fr) (framesAt p k t fr) → Indented p k fr′ u g
 
-module _ (p k : List ℕ) (t : Top) (fr : List ℕ) (g : Indenter) (is : M.marksOf g ≡ kidMarks (runsAt p k t fr) (kidsAt p k t fr) (framesAt p k t fr)) where
+module _ (p k : List ℕ) (t : Top) (fr : List ℕ) (g : Indenter) (is : M.marksIn g ≡ kidMarks (runsAt p k t fr) (kidsAt p k t fr) (framesAt p k t fr)) where
   kid-count : g .count ≡ 2 * t .d + 2
   kid-count =
       let a = marks-count g in
       let b = marks-length (framesAt p k t fr) in
       let c = frames-length p k fr (t .d) in
-      let e : length (M.marksOf g) ≡ suc (suc (length (marksOf (framesAt p k t fr)))) = ap length is in
+      let e : length (M.marksIn g) ≡ suc (suc (length (marksOf (framesAt p k t fr)))) = ap length is in
       omega arith
 
   -- there is a level left for the lines under it
@@ -165,10 +172,10 @@ module _ (p k : List ℕ) (t : Top) (fr : List ℕ) (g : Indenter) (is : M.marks
   own-level : length (isNil (runsAt p k t fr) ∷ marksOf (framesAt p k t fr)) ≡ 2 * t .d + 1
   own-level = let b = marks-length (framesAt p k t fr) in let c = frames-length p k fr (t .d) in omega arith
 
-  kid-beside : upper (2 * t .d + 1) (M.marksOf g) ≡ isNil (runsAt p k t fr) ∷ marksOf (framesAt p k t fr)
+  kid-beside : upper (2 * t .d + 1) (M.marksIn g) ≡ isNil (runsAt p k t fr) ∷ marksOf (framesAt p k t fr)
   kid-beside = rw is (rw own-level at (upper-own (isNil (kidsAt p k t fr)) (isNil (runsAt p k t fr) ∷ marksOf (framesAt p k t fr))))
 
-  kid-above : upper (2 * t .d) (M.marksOf g) ≡ marksOf (framesAt p k t fr)
+  kid-above : upper (2 * t .d) (M.marksIn g) ≡ marksOf (framesAt p k t fr)
   kid-above =
       let b = marks-length (framesAt p k t fr) in
       let c = frames-length p k fr (t .d) in
@@ -177,12 +184,14 @@ module _ (p k : List ℕ) (t : Top) (fr : List ℕ) (g : Indenter) (is : M.marks
       ∙ upper-under (2 * t .d) (isNil (runsAt p k t fr)) (marksOf (framesAt p k t fr)) (omega arith)
       ∙ upper-whole (2 * t .d) (marksOf (framesAt p k t fr)) (omega arith))
 
-pub lent-low : (p k : List ℕ) (t : Top) (fr ws : List ℕ) (n : ℕ) (top : Bool) → M.marksOf (indenterAt ws n top) ≡ kidMarks (runsAt p k t fr) (kidsAt p k t fr) (framesAt p k t fr) → t .d < 2079 → n < 4160
+pub lent-low : (p k : List ℕ) (t : Top) (fr ws : List ℕ) (n : ℕ) (top : Bool)
+    → M.marksIn (indenterAt ws n top) ≡ kidMarks (runsAt p k t fr) (kidsAt p k t fr) (framesAt p k t fr) → t .d < 2079 → n < 4160
 lent-low p k t fr ws n top is h = kid-low p k t fr (indenterAt ws n top) is h
 
 -- g after a package that is not opened, or is skipped
-pub held-beside : (p k fr : List ℕ) (t u : Top) (g : Indenter) → g .count ≤ 4160 → M.marksOf g ≡ kidMarks (runsAt p k t fr) (kidsAt p k t fr) (framesAt p k t fr)
-    → u .r ≡ t .r → u .re ≡ t .re → u .d ≡ t .d → Held p k fr u g
+pub held-beside : (p k fr : List ℕ) (t u : Top) (g : Indenter) → g .count ≤ 4160
+    → M.marksIn g ≡ kidMarks (runsAt p k t fr) (kidsAt p k t fr) (framesAt p k t fr)
+    → u .r ≡ t .r → u .re ≡ t .re → u .d ≡ t .d → Indented p k fr u g
 held-beside p k fr t u g c is r re d =
     let n = kid-count p k t fr g is in
     record {
@@ -194,23 +203,25 @@ held-beside p k fr t u g c is r re d =
     }
 
 -- g after a run's line, with its kids at hand
-pub held-run : (p k fr : List ℕ) (t u : Top) (g : Indenter) → g .count ≤ 4160 → M.marksOf g ≡ isNil (runsFrom (u .r) (u .re)) ∷ marksOf (framesIn p k fr (t .d)) → u .d ≡ t .d → Held p k fr u g
+pub held-run : (p k fr : List ℕ) (t u : Top) (g : Indenter) → g .count ≤ 4160 → M.marksIn g ≡ isNil (runsFrom (u .r) (u .re)) ∷ marksOf (framesIn p k fr (t .d))
+    → u .d ≡ t .d → Indented p k fr u g
 held-run p k fr t u g c is d =
     let a = marks-count g in
     let b = marks-length (framesIn p k fr (t .d)) in
     let l = frames-length p k fr (t .d) in
-    let e : length (M.marksOf g) ≡ suc (length (marksOf (framesIn p k fr (t .d)))) = ap length is in
+    let e : length (M.marksIn g) ≡ suc (length (marksOf (framesIn p k fr (t .d)))) = ap length is in
     record {
       count = c;
       levels = rw d (omega arith);
       above = rw (d, is)
-          (upper-under (2 * t .d) (isNil (runsFrom (u .r) (u .re))) (marksOf (framesIn p k fr (t .d))) (omega arith) ∙ upper-whole (2 * t .d) (marksOf (framesIn p k fr (t .d))) (omega arith));
+          (upper-under (2 * t .d) (isNil (runsFrom (u .r) (u .re))) (marksOf (framesIn p k fr (t .d))) (omega arith)
+          ∙ upper-whole (2 * t .d) (marksOf (framesIn p k fr (t .d))) (omega arith));
       wide = λ h. rw d (omega arith);
       beside = λ h. rw (d, is) (upper-whole (2 * t .d + 1) (isNil (runsFrom (u .r) (u .re)) ∷ marksOf (framesIn p k fr (t .d))) (omega arith));
     }
 
 -- and back at the package opened before
-pub held-pop : (p k fr : List ℕ) (t u : Top) (g : Indenter) → Held p k fr t g → Popped p fr t u → 0 < t .d → Held p k fr u g
+pub held-pop : (p k fr : List ℕ) (t u : Top) (g : Indenter) → Indented p k fr t g → Popped p fr t u → 0 < t .d → Indented p k fr u g
 unfolding frameIn
 held-pop p k fr t u g e q h =
     let c = marks-count g in
@@ -219,17 +230,19 @@ held-pop p k fr t u g e q h =
     let pop = frames-pop p k fr (t .d) h in
     let b = marks-length (framesIn p k fr (t .d - 1)) in
     let l = frames-length p k fr (t .d - 1) in
-    let above : upper (2 * t .d) (M.marksOf g) ≡ marksOf (frameIn p k fr (t .d - 1) ∷ framesIn p k fr (t .d - 1)) = e .above ∙ rw pop in
-    let own : upper (2 * u .d + 1) (M.marksOf g) ≡ isNil (frameIn p k fr (t .d - 1) .runs) ∷ marksOf (framesIn p k fr (t .d - 1)) =
-    sym (upper-upper (2 * u .d + 1) (2 * t .d) (M.marksOf g) (omega arith) (omega arith)) ∙ rw above
-    (upper-under (2 * u .d + 1) (isNil (frameIn p k fr (t .d - 1) .kids)) (isNil (frameIn p k fr (t .d - 1) .runs) ∷ marksOf (framesIn p k fr (t .d - 1))) (omega arith)
+    let above : upper (2 * t .d) (M.marksIn g) ≡ marksOf (frameIn p k fr (t .d - 1) ∷ framesIn p k fr (t .d - 1)) = e .above ∙ rw pop in
+    let own : upper (2 * u .d + 1) (M.marksIn g) ≡ isNil (frameIn p k fr (t .d - 1) .runs) ∷ marksOf (framesIn p k fr (t .d - 1)) =
+    sym (upper-upper (2 * u .d + 1) (2 * t .d) (M.marksIn g) (omega arith) (omega arith)) ∙ rw above
+    (upper-under (2 * u .d + 1) (isNil (frameIn p k fr (t .d - 1) .kids)) (isNil (frameIn p k fr (t .d - 1) .runs) ∷ marksOf (framesIn p k fr (t .d - 1)))
+    (omega arith)
     ∙ upper-whole (2 * u .d + 1) (isNil (frameIn p k fr (t .d - 1) .runs) ∷ marksOf (framesIn p k fr (t .d - 1))) (omega arith)) in
     record {
       count = e .count;
       levels = omega arith;
       above =
-          sym (upper-upper (2 * u .d) (2 * u .d + 1) (M.marksOf g) (omega arith) (omega arith)) ∙ rw (own, d)
-          (upper-under (2 * (t .d - 1)) (isNil (frameIn p k fr (t .d - 1) .runs)) (marksOf (framesIn p k fr (t .d - 1))) (omega arith) ∙ upper-whole (2 * (t .d - 1)) (marksOf (framesIn p k fr (t .d - 1))) (omega arith));
+          sym (upper-upper (2 * u .d) (2 * u .d + 1) (M.marksIn g) (omega arith) (omega arith)) ∙ rw (own, d)
+          (upper-under (2 * (t .d - 1)) (isNil (frameIn p k fr (t .d - 1) .runs)) (marksOf (framesIn p k fr (t .d - 1))) (omega arith)
+          ∙ upper-whole (2 * (t .d - 1)) (marksOf (framesIn p k fr (t .d - 1))) (omega arith));
       wide = λ z. omega arith;
       beside = λ z. rw (q .r, q .re, d) (rw d at own);
     }
@@ -267,14 +280,17 @@ module _ (p k fr : List ℕ) (t : Top) (n : ℕ) (o : Bool) (oi : o ≡ opensIn 
         small = small-next p fr t sm lt;
         low = let a = sm .ke in omega arith;
         long = refl;
-        held = λ g c is. held-beside p k fr t (record { r = t .r; re = t .re; k = t .k + 1; ke = t .ke; d = t .d; at = t .at; units = t .units; depth = t .depth }) g c is refl refl refl;
+        held =
+            λ g c is. held-beside p k fr t (record { r = t .r; re = t .re; k = t .k + 1; ke = t .ke; d = t .d; at = t .at; units = t .units; depth = t .depth })
+            g c is refl refl refl;
       }
 
   enter-push : (w : ℕ) → Packed w n (t .r) (t .k + 1) → t .d < length fr
       → framesIn p k (set fr (t .d) w) (t .d + 1) ≡ record { node = n; runs = runsAt p k t fr; kids = kidsAt p k t fr } ∷ framesAt p k t fr
   enter-push w pk h = frames-push p k fr (t .d) w n (t .r) (t .k + 1) h pk ∙ rw (sm .rune, sm .kide lt)
 
-  pub enter-open : o ≡ true → (w a e dp : ℕ) → Packed w n (t .r) (t .k + 1) → t .d < 2079 → length fr ≡ 2080 → a ≡ runFirst p n → a < 2048 → e ≡ runEnd p n → e < 2048
+  pub enter-open : o ≡ true → (w a e dp : ℕ) → Packed w n (t .r) (t .k + 1) → t .d < 2079 → length fr ≡ 2080 → a ≡ runFirst p n → a < 2048 → e ≡ runEnd p n
+      → e < 2048
       → dp ≡ max (t .depth) (t .d + 1)
       → Entered p k t n fr (record { r = a; re = e; k = 0; ke = 0; d = t .d + 1; at = t .at; units = t .units; depth = dp }) (set fr (t .d) w)
   unfolding stackIn planIn runsIn

@@ -15,22 +15,25 @@ use Rattle.machine.specs.Units.{TextUnit, textOf, depthOf}
 use Rattle.machine.specs.Tally.{Added, added-none}
 use Rattle.machine.specs.Explained.{linesAs, unitsOf, unitsFor}
 use Rattle.machine.specs.Turns.{Turns, stay}
-use Rattle.machine.specs.Frames.{Frame, marksOf, branchOf, stackAt, kidEntry, kidMarks, runEntry, marks-length, openings-run, openings-shut, run-goes, kid-goes, kid-loops, run-says, kid-says, turn-run, turn-skip, turn-kid}
+use Rattle.machine.specs.Frames.{Frame, marksOf, branchOf, stackAt, kidEntry, kidMarks, runEntry, marks-length, openings-run, openings-shut, run-goes, kid-goes}
+use Rattle.machine.specs.Frames.{kid-loops, run-says, kid-says, turn-run, turn-skip, turn-kid}
 use Rattle.texts.specs.Wrote.{Wrote}
 use Rattle.texts.specs.Laws.Wrote.{wrote-none, wrote-length}
-use Rattle.texts.specs.Marks as M
-use Rattle.texts.specs.Marks.{upper}
+use Rattle.texts.specs.MarkBits as M
+use Rattle.texts.specs.MarkBits.{upper}
 use Rattle.texts.specs.Levels.{marks-count, upper-whole, upper-own, upper-under}
 use Rattle.texts.specs.declared.Indenter.{Indenter}
-use Rattle.plan.specs.Fields.{planIn, opensIn, tagIn, runsIn, kidsIn, runFirst, runEnd, kidFirst, kidEnd, kidAt, textLength, reasonIn, setsIn, requirementIn, wordingIn, runsFrom, runs-none, runs-more, kidsFrom, kids-none, kids-more}
+use Rattle.plan.specs.Fields.{planIn, opensIn, tagIn, runsIn, kidsIn, runFirst, runEnd, kidFirst, kidEnd, kidAt, textLength, reasonIn, setsIn, requirementIn}
+use Rattle.plan.specs.Fields.{wordingIn, runsFrom, runs-none, runs-more, kidsFrom, kids-none, kids-more}
 use Rattle.plan.specs.Texts.{packageIn}
 use Rattle.lines.specs.Said.{runSaid, packageSaid, setsSaid, packageAll, linesIn}
-use Rattle.lines.specs.Tried.{Tried, textAll, Whole, Broken, Lined}
+use Rattle.lines.specs.Tried.{Tried, textAll, LinesWhole, Broken, Lined}
 use Rattle.lines.specs.PackageLaws as L
 use Rattle.lines.specs.RunLaws as N
 use Rattle.explanation.specs.Frames.{frameIn, framesIn, frames-length, frames-branch, frames-pop, branchIn, Popped, nil-runs}
 use Rattle.explanation.specs.Judge.{Flags, Skipped, Repeated, Showing, Judged}
-use Rattle.explanation.specs.Stand.{nextKid, nextRun, runsAt, kidsAt, framesAt, stackIn, Small, measure, Held, Level, Entered, small-next, held-beside, held-run, held-pop}
+use Rattle.explanation.specs.Stand.{nextKid, nextRun, runsAt, kidsAt, framesAt, stackIn, Small, measure, Indented, Level, Entered, small-next}
+use Rattle.explanation.specs.Stand.{held-beside, held-run, held-pop}
 use Rattle.explanation.specs.declared.frames.Top.{Top}
 use Rattle.explanation.specs.declared.frames.Verdict.{Verdict}
 use Rattle.explanation.specs.declared.frames.Verdict.the-variants.{Skip, Repeat, Show}
@@ -57,7 +60,7 @@ pub record TurnedOn (T : Tables) (p k : List ℕ) (g : Indenter) (t : Top) (fr s
   pub within : u .at ≤ t .at + length room
   pub frames : length fr′ ≡ length fr
   pub flags : length seen′ ≡ length seen
-  pub held : Held p k fr′ u g
+  pub held : Indented p k fr′ u g
 
 pub record TurnedDone (p k : List ℕ) (t : Top) (fr room left : List ℕ) : Type 0 where
   pub same : left ≡ room
@@ -82,11 +85,11 @@ pub record TurnedFull (T : Tables) (p k : List ℕ) (g : Indenter) (t : Top) (fr
   pub at : u .at ≡ t .at + bytes
   pub over : length room < bytes + length line
 
-unfoldable pub Turned : Tables → List ℕ → List ℕ → Indenter → Top → List ℕ → List ℕ → List ℕ → Top → Step → List ℕ → List ℕ → List ℕ → Type 0
-Turned T p k g t fr seen room u On fr′ seen′ left = TurnedOn T p k g t fr seen room u fr′ seen′ left
-Turned T p k g t fr seen room u Done fr′ seen′ left = TurnedDone p k t fr room left
-Turned T p k g t fr seen room u (Loops n) fr′ seen′ left = TurnedLoops p k t fr room n left
-Turned T p k g t fr seen room u Full fr′ seen′ left = TurnedFull T p k g t fr seen room u left
+unfoldable pub WalkTurned : Tables → List ℕ → List ℕ → Indenter → Top → List ℕ → List ℕ → List ℕ → Top → Step → List ℕ → List ℕ → List ℕ → Type 0
+WalkTurned T p k g t fr seen room u On fr′ seen′ left = TurnedOn T p k g t fr seen room u fr′ seen′ left
+WalkTurned T p k g t fr seen room u Done fr′ seen′ left = TurnedDone p k t fr room left
+WalkTurned T p k g t fr seen room u (Loops n) fr′ seen′ left = TurnedLoops p k t fr room n left
+WalkTurned T p k g t fr seen room u Full fr′ seen′ left = TurnedFull T p k g t fr seen room u left
 
 -- ---- lines as units
 
@@ -130,20 +133,20 @@ moved t b c = record { r = t .r; re = t .re; k = t .k; ke = t .ke; d = t .d; at 
 pub record ShownOn (T : Tables) (p k : List ℕ) (g : Indenter) (t : Top) (n : ℕ) (fr room : List ℕ) (u : Top) (fr′ left : List ℕ) : Type 0 where
   pub bytes : ℕ
   pub units : ℕ
-  pub lines : Whole (packageAll T p k (g .top) (M.marksOf g) n) room left bytes units
+  pub lines : LinesWhole (packageAll T p k (g .top) (M.marksIn g) n) room left bytes units
   pub entered : Entered p k (moved t bytes units) n fr u fr′
 
 pub record ShownFull (T : Tables) (p k : List ℕ) (g : Indenter) (t : Top) (n : ℕ) (room : List ℕ) (u : Top) (left : List ℕ) : Type 0 where
   pub bytes : ℕ
   pub units : ℕ
-  pub lines : Broken (packageAll T p k (g .top) (M.marksOf g) n) room left bytes units
+  pub lines : Broken (packageAll T p k (g .top) (M.marksIn g) n) room left bytes units
   pub stands : u ≡ moved t bytes units
 
-abbrev pub Shown : Tables → List ℕ → List ℕ → Indenter → Top → ℕ → List ℕ → List ℕ → Top → Step → List ℕ → List ℕ → Type 0
-Shown T p k g t n fr room u On fr′ left = ShownOn T p k g t n fr room u fr′ left
-Shown T p k g t n fr room u Done fr′ left = ⊥
-Shown T p k g t n fr room u (Loops m) fr′ left = ⊥
-Shown T p k g t n fr room u Full fr′ left = ShownFull T p k g t n room u left
+abbrev pub ShowTurned : Tables → List ℕ → List ℕ → Indenter → Top → ℕ → List ℕ → List ℕ → Top → Step → List ℕ → List ℕ → Type 0
+ShowTurned T p k g t n fr room u On fr′ left = ShownOn T p k g t n fr room u fr′ left
+ShowTurned T p k g t n fr room u Done fr′ left = ⊥
+ShowTurned T p k g t n fr room u (Loops m) fr′ left = ⊥
+ShowTurned T p k g t n fr room u Full fr′ left = ShownFull T p k g t n room u left
 
 -- so many bytes and units of a package's lines are written, all of them unless f
 pub record SettledOn (p : List ℕ) (t : Top) (n : ℕ) (fr : List ℕ) (b c : ℕ) (f : Bool) (u : Top) (fr′ : List ℕ) : Type 0 where
@@ -163,13 +166,14 @@ Settled p t n fr b c f u Full fr′ = SettledFull t b c f u
 pub settled-full : (t : Top) (b c : ℕ) (f : Bool) → f ≡ true → SettledFull t b c f (moved t b c)
 settled-full t b c f e = record { broken = e; stands = refl }
 
-pub settled-on : (p : List ℕ) (t : Top) (n : ℕ) (fr : List ℕ) (b c : ℕ) (f : Bool) (u : Top) (fr′ : List ℕ) → f ≡ false → ((k : List ℕ) → Entered p k (moved t b c) n fr u fr′)
+pub settled-on : (p : List ℕ) (t : Top) (n : ℕ) (fr : List ℕ) (b c : ℕ) (f : Bool) (u : Top) (fr′ : List ℕ) → f ≡ false
+    → ((k : List ℕ) → Entered p k (moved t b c) n fr u fr′)
     → SettledOn p t n fr b c f u fr′
 settled-on p t n fr b c f u fr′ e x = record { whole = e; entered = x }
 
 module _ (T : Tables) (p k : List ℕ) (g : Indenter) (t : Top) (n : ℕ) (fr room left : List ℕ) (b c : ℕ) (f : Bool)
-    (l : Lined (packageAll T p k (g .top) (M.marksOf g) n) room left b c f) where
-  pub show-settled : (u : Top) (st : Step) (fr′ : List ℕ) → Settled p t n fr b c f u st fr′ → Shown T p k g t n fr room u st fr′ left
+    (l : Lined (packageAll T p k (g .top) (M.marksIn g) n) room left b c f) where
+  pub show-settled : (u : Top) (st : Step) (fr′ : List ℕ) → Settled p t n fr b c f u st fr′ → ShowTurned T p k g t n fr room u st fr′ left
   show-settled u On fr′ x = record { bytes = b; units = c; lines = rw (x .whole) at l; entered = x .entered k }
   show-settled u Done fr′ x = absurd x
   show-settled u (Loops m) fr′ x = absurd x
@@ -190,7 +194,8 @@ single x (y ∷ first) line rest e =
     absurd z
 
 -- what is written of a package's lines is no deeper than what was written before, unless it is opened, and then it has one line
-broken-depth : (T : Tables) (p k : List ℕ) (top : Bool) (rs ks : List ℕ) (fs : List (Frame ℕ)) (n d : ℕ) (first : List (List ℕ)) (line : List ℕ) (rest : List (List ℕ))
+broken-depth : (T : Tables) (p k : List ℕ) (top : Bool) (rs ks : List ℕ) (fs : List (Frame ℕ)) (n d : ℕ) (first : List (List ℕ)) (line : List ℕ)
+    (rest : List (List ℕ))
     → packageAll T p k top (kidMarks rs ks fs) n ≡ first ++ (line ∷ rest) → length fs ≤ d → depthOf (linesAs (planIn p k) (kidEntry n rs ks fs) first) ≤ d
 unfolding packageAll opensIn planIn
 broken-depth T p k top rs ks fs n d first line rest e h =
@@ -204,21 +209,25 @@ broken-depth T p k top rs ks fs n d first line rest e h =
     let b = depth-most (planIn p k) (kidEntry n rs ks fs) first in
     omega arith)
 
-stack-next : (p k fr : List ℕ) (t : Top) (n : ℕ) → n ≡ kidAt k (t .k) → t .k < t .ke → stackIn p k t fr ≡ stackAt (runsAt p k t fr) (n ∷ kidsAt p k t fr) (framesAt p k t fr)
+stack-next : (p k fr : List ℕ) (t : Top) (n : ℕ) → n ≡ kidAt k (t .k) → t .k < t .ke
+    → stackIn p k t fr ≡ stackAt (runsAt p k t fr) (n ∷ kidsAt p k t fr) (framesAt p k t fr)
 unfolding stackIn
 stack-next p k fr t n is lt = rw (is, kids-more k (t .k) (t .ke) lt)
 
-pub kid-repeat : (p fr : List ℕ) (t : Top) (n : ℕ) (seen seen′ : List ℕ) (v : Verdict) → Judged p fr (t .d) n seen seen′ v → v ≡ Repeat → (k room : List ℕ) → n ≡ kidAt k (t .k) → t .k < t .ke
+pub kid-repeat : (p fr : List ℕ) (t : Top) (n : ℕ) (seen seen′ : List ℕ) (v : Verdict) → Judged p fr (t .d) n seen seen′ v → v ≡ Repeat → (k room : List ℕ)
+    → n ≡ kidAt k (t .k) → t .k < t .ke
     → TurnedLoops p k t fr room n room
 kid-repeat p fr t n seen seen′ v j q k room is lt =
     let s : Repeated p fr (t .d) n seen seen′ = rw q at j in
     record {
       same = refl;
-      stops = rw (stack-next p k fr t n is lt) (kid-loops (planIn p k) (runsAt p k t fr) (framesAt p k t fr) n (kidsAt p k t fr) (rw (frames-branch p k fr (t .d)) (s .again k)));
+      stops =
+          rw (stack-next p k fr t n is lt) (kid-loops (planIn p k) (runsAt p k t fr) (framesAt p k t fr) n (kidsAt p k t fr)
+          (rw (frames-branch p k fr (t .d)) (s .again k)));
     }
 
 module _ (T : Tables) (p k : List ℕ) (g : Indenter) (t : Top) (n : ℕ) (fr seen room : List ℕ) (is : n ≡ kidAt k (t .k)) (lt : t .k < t .ke)
-    (gc : g .count ≤ 4160) (gm : M.marksOf g ≡ kidMarks (runsAt p k t fr) (kidsAt p k t fr) (framesAt p k t fr)) (sm : Small p fr t) where
+    (gc : g .count ≤ 4160) (gm : M.marksIn g ≡ kidMarks (runsAt p k t fr) (kidsAt p k t fr) (framesAt p k t fr)) (sm : Small p fr t) where
   abbrev kid : Entry ℕ
   kid = kidEntry n (runsAt p k t fr) (kidsAt p k t fr) (framesAt p k t fr)
 
@@ -237,7 +246,9 @@ module _ (T : Tables) (p k : List ℕ) (g : Indenter) (t : Top) (n : ℕ) (fr se
             record {
               es = [];
               rep = rep;
-              turns = rw (kids-more k (t .k) (t .ke) lt, ← is) (turn-skip (planIn p k) (runsAt p k t fr) (framesAt p k t fr) rep n (kidsAt p k t fr) (rw branch-is (s .again k)) (s .skip k rep f));
+              turns =
+                  rw (kids-more k (t .k) (t .ke) lt, ← is) (turn-skip (planIn p k) (runsAt p k t fr) (framesAt p k t fr) rep n (kidsAt p k t fr)
+                  (rw branch-is (s .again k)) (s .skip k rep f));
               flags = f;
               added = added-none (t .at) (t .units) (t .depth);
               bytes = 0;
@@ -252,7 +263,8 @@ module _ (T : Tables) (p k : List ℕ) (g : Indenter) (t : Top) (n : ℕ) (fr se
         held = held-beside p k fr t (nextKid t) g gc gm refl refl refl;
       }
 
-  pub kid-skip : (v : Verdict) (u : Top) (seen′ : List ℕ) → Judged p fr (t .d) n seen seen′ v → v ≡ Skip → u ≡ nextKid t → TurnedOn T p k g t fr seen room u fr seen′ room
+  pub kid-skip : (v : Verdict) (u : Top) (seen′ : List ℕ) → Judged p fr (t .d) n seen seen′ v → v ≡ Skip → u ≡ nextKid t
+      → TurnedOn T p k g t fr seen room u fr seen′ room
   kid-skip v u seen′ j q e =
       let s : Skipped p fr (t .d) n seen seen′ = rw q at j in
       rw (e, s .same) (skip (rw (s .same) at s))
@@ -261,11 +273,11 @@ module _ (T : Tables) (p k : List ℕ) (g : Indenter) (t : Top) (n : ℕ) (fr se
     again : repeats (planIn p k) (branchOf (framesAt p k t fr)) n ≡ false
     again = rw branch-is (s .again k)
 
-    lines-kid : packageAll T p k (g .top) (M.marksOf g) n ≡ linesIn T p k (g .top) kid
+    lines-kid : packageAll T p k (g .top) (M.marksIn g) n ≡ linesIn T p k (g .top) kid
     unfolding linesIn
     lines-kid = rw gm
 
-    units-kid : unitsFor (planIn p k) (linesIn T p k (g .top)) (kid ∷ []) ≡ linesAs (planIn p k) kid (packageAll T p k (g .top) (M.marksOf g) n)
+    units-kid : unitsFor (planIn p k) (linesIn T p k (g .top)) (kid ∷ []) ≡ linesAs (planIn p k) kid (packageAll T p k (g .top) (M.marksIn g) n)
     units-kid = units-one (planIn p k) (linesIn T p k (g .top)) kid ∙ rw lines-kid
 
     on : (u : Top) (fr′ left : List ℕ) → ShownOn T p k g t n fr room u fr′ left → TurnedOn T p k g t fr seen room u fr′ seen′ left
@@ -274,7 +286,9 @@ module _ (T : Tables) (p k : List ℕ) (g : Indenter) (t : Top) (n : ℕ) (fr se
         let w = x .lines .wrote in
         let e = x .entered in
         let b : 0 < x .bytes =
-        (let a = w .count in let c = said-some T p (g .top) (M.marksOf g) n in let l = length-append (packageSaid T p (g .top) (M.marksOf g) n) (textAll (cond (eqb (tagIn p n) 3) (setsSaid T (g .top) (M.marksOf g) (setsIn p k n)) [])) in omega arith) in
+        (let a = w .count in let c = said-some T p (g .top) (M.marksIn g) n in
+        let l = length-append (packageSaid T p (g .top) (M.marksIn g) n)
+        (textAll (cond (eqb (tagIn p n) 3) (setsSaid T (g .top) (M.marksIn g) (setsIn p k n)) [])) in omega arith) in
         record {
           went = λ rep f.
               record {
@@ -283,10 +297,11 @@ module _ (T : Tables) (p k : List ℕ) (g : Indenter) (t : Top) (n : ℕ) (fr se
                 turns = rw (stack-kid, e .left) (turn-kid (planIn p k) (runsAt p k t fr) (framesAt p k t fr) rep n (kidsAt p k t fr) again (s .kept k rep f));
                 flags = s .then k rep f;
                 added = rw (units-kid, e .at, e .units, e .depth)
-                    (added-all (planIn p k) kid (packageSaid T p (g .top) (M.marksOf g) n) (cond (eqb (tagIn p n) 3) (setsSaid T (g .top) (M.marksOf g) (setsIn p k n)) [])
+                    (added-all (planIn p k) kid (packageSaid T p (g .top) (M.marksIn g) n)
+                    (cond (eqb (tagIn p n) 3) (setsSaid T (g .top) (M.marksIn g) (setsIn p k n)) [])
                     (t .at) (t .units) (t .depth) (x .bytes) (x .units) (w .count) (x .lines .count));
                 bytes = x .bytes;
-                wrote = rw (units-kid, text-lines (planIn p k) kid (packageAll T p k (g .top) (M.marksOf g) n)) w;
+                wrote = rw (units-kid, text-lines (planIn p k) kid (packageAll T p k (g .top) (M.marksIn g) n)) w;
                 at = e .at;
               };
           small = e .small;
@@ -318,22 +333,24 @@ module _ (T : Tables) (p k : List ℕ) (g : Indenter) (t : Top) (n : ℕ) (fr se
           over = l .over;
         }
 
-    shows : (u : Top) (st : Step) (fr′ left : List ℕ) → Shown T p k g t n fr room u st fr′ left → Turned T p k g t fr seen room u st fr′ seen′ left
-    unfolding Turned
+    shows : (u : Top) (st : Step) (fr′ left : List ℕ) → ShowTurned T p k g t n fr room u st fr′ left → WalkTurned T p k g t fr seen room u st fr′ seen′ left
+    unfolding WalkTurned
     shows u On fr′ left x = on u fr′ left x
     shows u Done fr′ left x = absurd x
     shows u (Loops m) fr′ left x = absurd x
     shows u Full fr′ left x = full u left x
 
-  pub kid-show : (v : Verdict) (seen′ : List ℕ) (u : Top) (st : Step) (fr′ left : List ℕ) → Judged p fr (t .d) n seen seen′ v → v ≡ Show → Shown T p k g t n fr room u st fr′ left
-      → Turned T p k g t fr seen room u st fr′ seen′ left
+  pub kid-show : (v : Verdict) (seen′ : List ℕ) (u : Top) (st : Step) (fr′ left : List ℕ) → Judged p fr (t .d) n seen seen′ v → v ≡ Show
+      → ShowTurned T p k g t n fr room u st fr′ left
+      → WalkTurned T p k g t fr seen room u st fr′ seen′ left
   kid-show v seen′ u st fr′ left j q x = shows seen′ (rw q at j) u st fr′ left x
 
 -- ---- a run's turn
 
-module _ (T : Tables) (p k : List ℕ) (g : Indenter) (t : Top) (fr seen room left : List ℕ) (b w q : ℕ) (tr : Tried (runSaid T (g .top) (M.marksOf g) w q) room left b)
+module _ (T : Tables) (p k : List ℕ) (g : Indenter) (t : Top) (fr seen room left : List ℕ) (b w q : ℕ)
+    (tr : Tried (runSaid T (g .top) (M.marksIn g) w q) room left b)
     (wi : w ≡ wordingIn p (t .r)) (qi : q ≡ requirementIn p (t .r)) (no : t .ke ≤ t .k) (lt : t .r < t .re)
-    (gm : M.marksOf g ≡ isNil (runsFrom (t .r + 1) (t .re)) ∷ marksOf (framesAt p k t fr)) (gc : g .count ≤ 4160) (sm : Small p fr t) where
+    (gm : M.marksIn g ≡ isNil (runsFrom (t .r + 1) (t .re)) ∷ marksOf (framesAt p k t fr)) (gc : g .count ≤ 4160) (sm : Small p fr t) where
   abbrev later : List ℕ
   later = runsFrom (t .r + 1) (t .re)
 
@@ -344,7 +361,7 @@ module _ (T : Tables) (p k : List ℕ) (g : Indenter) (t : Top) (fr seen room le
   unfolding stackIn
   stack-run = rw (kids-none k (t .k) (t .ke) no, runs-more (t .r) (t .re) lt)
 
-  line-run : linesIn T p k (g .top) run ≡ runSaid T (g .top) (M.marksOf g) w q ∷ []
+  line-run : linesIn T p k (g .top) run ≡ runSaid T (g .top) (M.marksIn g) w q ∷ []
   unfolding linesIn
   line-run = rw (gm, wi, qi)
 
@@ -356,7 +373,7 @@ module _ (T : Tables) (p k : List ℕ) (g : Indenter) (t : Top) (fr seen room le
         goes = rw stack-run (run-goes (planIn p k) later (framesAt p k t fr) (t .r));
         shown = λ rep h. rw stack-run (run-says (planIn p k) later (framesAt p k t fr) rep (t .r));
         first = [];
-        line = runSaid T (g .top) (M.marksOf g) w q;
+        line = runSaid T (g .top) (M.marksIn g) w q;
         rest = [];
         is = line-run;
         added = added-none (t .at) (t .units) (t .depth);
@@ -374,7 +391,7 @@ module _ (T : Tables) (p k : List ℕ) (g : Indenter) (t : Top) (fr seen room le
         let o = openings-run (planIn p k) (t .r) later (framesAt p k t fr) in
         let fl = frames-length p k fr (t .d) in
         let de = sm .deep in
-        let u : unitsFor (planIn p k) (linesIn T p k (g .top)) (run ∷ []) ≡ linesAs (planIn p k) run (runSaid T (g .top) (M.marksOf g) w q ∷ []) =
+        let u : unitsFor (planIn p k) (linesIn T p k (g .top)) (run ∷ []) ≡ linesAs (planIn p k) run (runSaid T (g .top) (M.marksIn g) w q ∷ []) =
         units-one (planIn p k) (linesIn T p k (g .top)) run ∙ rw line-run in
         let m : max (t .depth) (openings (planIn p k) run) ≡ t .depth = omega arith in
         record {
@@ -384,7 +401,9 @@ module _ (T : Tables) (p k : List ℕ) (g : Indenter) (t : Top) (fr seen room le
                 rep = rep;
                 turns = rw (kids-none k (t .k) (t .ke) no, runs-more (t .r) (t .re) lt) (turn-run (planIn p k) later (framesAt p k t fr) rep (t .r));
                 flags = f;
-                added = rw u (rw m at (added-all (planIn p k) run (runSaid T (g .top) (M.marksOf g) w q) [] (t .at) (t .units) (t .depth) b 1 (rw append-nil (v .count)) refl));
+                added =
+                    rw u (rw m at (added-all (planIn p k) run (runSaid T (g .top) (M.marksIn g) w q) [] (t .at) (t .units) (t .depth) b 1
+                    (rw append-nil (v .count)) refl));
                 bytes = b;
                 wrote = rw (u, append-nil) v;
                 at = refl;

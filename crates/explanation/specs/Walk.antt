@@ -13,7 +13,8 @@ use borrow.Rule.Slice.PartMut.{putMid}
 use Rattle.basis.specs.Lists.{has, isNil, filter}
 use Rattle.basis.specs.Members.{In, All, all-append, all-map, split, either, has-out, in-filter, filter-in}
 use Rattle.records.specs.Tables.{Tables}
-use Rattle.machine.specs.Machine.{Plan, Op, requirement, candidate, Entry, entry, State, state, start, level, going, done, loops, stopOf, next, says, tell, skipped, repeats, report, under, openings}
+use Rattle.machine.specs.Machine.{Plan, Op, requirement, candidate, Entry, entry, State, state, start, level, going, done, loops, stopOf, next, says, tell}
+use Rattle.machine.specs.Machine.{skipped, repeats, report, under, openings}
 use Rattle.machine.specs.Bound.{Counted, most, bound, leads, segment, Good}
 use Rattle.machine.specs.Keeps.{Fits, AllFit, all-level, fits-start}
 use Rattle.machine.specs.Halts.{Halted, halts}
@@ -27,9 +28,10 @@ use Rattle.machine.specs.Writes.{soFar, units-append, end-done, end-loops, end-
 use Rattle.machine.specs.Frames.{Frame, branchOf, branch-length, stackAt, kidMarks, stack-start}
 use Rattle.texts.specs.Wrote.{Wrote, over}
 use Rattle.texts.specs.Laws.Wrote.{wrote-none, wrote-length, behind}
-use Rattle.texts.specs.Marks as M
+use Rattle.texts.specs.MarkBits as M
 use Rattle.texts.specs.declared.Indenter.{Indenter}
-use Rattle.plan.specs.Fields.{planIn, startIn, opensIn, kidsIn, runsIn, runFirst, runEnd, runsFrom, kidsFrom, kidAt, kids-none, kids-more, solvableIn, textLength}
+use Rattle.plan.specs.Fields.{planIn, startIn, opensIn, kidsIn, runsIn, runFirst, runEnd, runsFrom, kidsFrom, kidAt, kids-none, kids-more, solvableIn}
+use Rattle.plan.specs.Fields.{textLength}
 use Rattle.plan.specs.Texts.{packageIn}
 use Rattle.lines.specs.Said.{linesIn}
 use Rattle.lines.specs.SetLaws.{part-back}
@@ -37,12 +39,12 @@ use Rattle.explanation.specs.Deep.{kid-within}
 use Rattle.explanation.specs.Ends.{answerAt, toldOf}
 use Rattle.explanation.specs.Frames.{ownerIn, framesIn, frames-length, frames-branch}
 use Rattle.explanation.specs.Judge.{Flags}
-use Rattle.explanation.specs.Stand.{indenterAt, stackIn, runsAt, kidsAt, framesAt, Small, measure, Held, Stepped, Level, level-step}
-use Rattle.explanation.specs.Turned.{Went, Turned, TurnedOn, TurnedDone, TurnedLoops, TurnedFull, Known, Framed}
+use Rattle.explanation.specs.Stand.{indenterAt, stackIn, runsAt, kidsAt, framesAt, Small, measure, Indented, Stepped, Level, level-step}
+use Rattle.explanation.specs.Turned.{Went, WalkTurned, TurnedOn, TurnedDone, TurnedLoops, TurnedFull, Known, Framed}
 use Rattle.explanation.specs.declared.frames.Top.{Top}
 use Rattle.explanation.specs.declared.turns.Step.{Step}
 use Rattle.explanation.specs.declared.turns.Step.the-variants.{On, Done, Loops, Full}
-use Rattle.explanation.specs.declared.walk.Told.{Told}
+use Rattle.explanation.specs.declared.walk.WalkAnswer.{WalkAnswer}
 
 -- what the walk asks of a packed plan: a kid's text is as long as the plan says, and the kids are counted, within the frames
 pub record Ready (T : Tables) (p k : List ℕ) : Type 0 where
@@ -63,7 +65,8 @@ module _ (P : Plan ℕ) (N : ℕ → Type 0) where
   Came e = All (λ m. P .opens m ≡ true) (e .branch) × OwnKid (e .op)
 
   module _ (kids : (r n : ℕ) → In n (P .kids r) → N n) where
-    came-pushed : (o : Op ℕ) (ms : List Bool) (b : List ℕ) (es : List (Entry ℕ)) (rep : List ℕ) → All Came (entry o ms b ∷ es) → All Came (next P (state (entry o ms b ∷ es) rep) .stack)
+    came-pushed : (o : Op ℕ) (ms : List Bool) (b : List ℕ) (es : List (Entry ℕ)) (rep : List ℕ) → All Came (entry o ms b ∷ es)
+        → All Came (next P (state (entry o ms b ∷ es) rep) .stack)
     came-pushed (requirement r) ms b es rep a =
         all-append Came (level candidate ms b (P .kids r)) es (all-level Came candidate ms b (P .kids r) (λ n ns i. (a .0 .0, kids r n i))) (a .1)
     came-pushed (candidate n) ms b es rep a =
@@ -105,24 +108,25 @@ pub record Walking (T : Tables) (p k : List ℕ) (top : Bool) (fr seen : List �
   pub same : length out ≡ length out₀
   pub frames : length fr ≡ 2080
   pub flags : length seen ≡ 128
-  pub held : Held p k fr t g
+  pub held : Indented p k fr t g
   pub top-is : g .top ≡ top
 
 unfoldable pub toGo : List ℕ → Top → ℕ
 toGo out t = measure (length out) t
 
 -- an answer with the text that it counts
-abbrev pub resultBy : Told → List ℕ → Result
+abbrev pub resultBy : WalkAnswer → List ℕ → Result
 resultBy r t = record { number = r .number; place = r .place; bytes = r .bytes; units = r .units; depth = r .depth; text = t }
 
 -- the contract: the machine's answer for this room, and every byte of it
-pub record Answered (T : Tables) (p k : List ℕ) (top : Bool) (out left : List ℕ) (r : Told) : Type 0 where
+pub record Answered (T : Tables) (p k : List ℕ) (top : Bool) (out left : List ℕ) (r : WalkAnswer) : Type 0 where
   pub text : List ℕ
   pub is : Explained (planIn p k) (linesIn T p k top) (solvableIn p) (startIn p) (length out) (resultBy r text)
   pub room : Wrote text out left (r .bytes)
 
 -- two results that the contract allows are equal
-pub answered-one : (T : Tables) (p k : List ℕ) (top : Bool) (out a b : List ℕ) (r q : Told) → Answered T p k top out a r → Answered T p k top out b q → (r ≡ q) × (a ≡ b)
+pub answered-one : (T : Tables) (p k : List ℕ) (top : Bool) (out a b : List ℕ) (r q : WalkAnswer) → Answered T p k top out a r → Answered T p k top out b q
+    → (r ≡ q) × (a ≡ b)
 answered-one T p k top out a b r q x y =
     let e = unique (planIn p k) (linesIn T p k top) (solvableIn p) (startIn p) (length out) (resultBy r (x .text)) (resultBy q (y .text)) (x .is) (y .is) in (
       ap (λ (z : Result). record { number = z .number; place = z .place; bytes = z .bytes; units = z .units; depth = z .depth }) e,
@@ -133,7 +137,8 @@ answered-one T p k top out a b r q x y =
 abbrev pub first : ℕ → ℕ → Top
 first a b = record { r = a; re = b; k = 0; ke = 0; d = 0; at = 0; units = 0; depth = 0 }
 
-pub first-so-far : (T : Tables) (p k : List ℕ) (top : Bool) (fr seen out : List ℕ) (a b : ℕ) → a ≡ runFirst p 0 → b ≡ runEnd p 0 → Flags seen [] → SoFar T p k top fr seen (first a b) out out
+pub first-so-far : (T : Tables) (p k : List ℕ) (top : Bool) (fr seen out : List ℕ) (a b : ℕ) → a ≡ runFirst p 0 → b ≡ runEnd p 0 → Flags seen []
+    → SoFar T p k top fr seen (first a b) out out
 unfolding stackIn startIn runsIn framesIn
 first-so-far T p k top fr seen out a b ai bi f =
     record {
@@ -160,8 +165,8 @@ first-small p fr a b h i e =
       units = omega arith;
     }
 
-first-held : (p k fr : List ℕ) (a b : ℕ) (ws : List ℕ) (top : Bool) → Held p k fr (first a b) (indenterAt ws 0 top)
-unfolding framesIn M.upper M.marksOf M.marksAt
+first-held : (p k fr : List ℕ) (a b : ℕ) (ws : List ℕ) (top : Bool) → Indented p k fr (first a b) (indenterAt ws 0 top)
+unfolding framesIn M.upper M.marksIn M.marksAt
 first-held p k fr a b ws top =
     record {
       count = omega arith;
@@ -189,12 +194,14 @@ walking-first T p k top fr seen out a b ws r ai bi al bl f lf ls =
 
 -- ---- the next kid was a kid
 
-so-far-known : (T : Tables) (p k : List ℕ) (top : Bool) (fr seen : List ℕ) (t : Top) (out₀ out : List ℕ) → SoFar T p k top fr seen t out₀ out → Ready T p k → Known T p k t
+so-far-known : (T : Tables) (p k : List ℕ) (top : Bool) (fr seen : List ℕ) (t : Top) (out₀ out : List ℕ) → SoFar T p k top fr seen t out₀ out → Ready T p k
+    → Known T p k t
 unfolding stackIn startIn planIn
 so-far-known T p k top fr seen t out₀ out s r =
     record {
       own = λ h.
-          let a = came-turns (planIn p k) (λ n. textLength p n ≡ length (packageIn T p n)) (r .sized) (startIn p) (state (stackIn p k t fr) (s .rep)) (s .es) (s .turns)
+          let a = came-turns (planIn p k) (λ n. textLength p n ≡ length (packageIn T p n)) (r .sized) (startIn p) (state (stackIn p k t fr) (s .rep)) (s .es)
+          (s .turns)
           (came-start (planIn p k) (λ n. textLength p n ≡ length (packageIn T p n)) (runsIn p 0)) in
           (rw (kids-more k (t .k) (t .ke) h) at a) .0 .1;
     }
@@ -202,10 +209,12 @@ so-far-known T p k top fr seen t out₀ out s r =
 wrote-at : {t o d : List ℕ} {n m : ℕ} → n ≡ m → Wrote t o d m → Wrote t o d n
 wrote-at e w = rw e w
 
-pub walking-known : (T : Tables) (p k : List ℕ) (top : Bool) (fr seen : List ℕ) (t : Top) (g : Indenter) (out₀ out : List ℕ) → Walking T p k top fr seen t g out₀ out → Known T p k t
+pub walking-known : (T : Tables) (p k : List ℕ) (top : Bool) (fr seen : List ℕ) (t : Top) (g : Indenter) (out₀ out : List ℕ)
+    → Walking T p k top fr seen t g out₀ out → Known T p k t
 walking-known T p k top fr seen t g out₀ out x = so-far-known T p k top fr seen t out₀ out (x .so-far) (x .ready)
 
-pub walking-level : (T : Tables) (p k : List ℕ) (top : Bool) (fr seen : List ℕ) (t : Top) (g h : Indenter) (out₀ out : List ℕ) → Walking T p k top fr seen t g out₀ out → Stepped t g h → Level p k fr t h
+pub walking-level : (T : Tables) (p k : List ℕ) (top : Bool) (fr seen : List ℕ) (t : Top) (g h : Indenter) (out₀ out : List ℕ)
+    → Walking T p k top fr seen t g out₀ out → Stepped t g h → Level p k fr t h
 walking-level T p k top fr seen t g h out₀ out x sp = level-step p k fr t g h (x .held) sp (x .small)
 
 -- B1: no package is shown below as many opened ones as there are frames
@@ -243,12 +252,14 @@ back out at left = putMid at (length out - at) out left
 pub rest-length : (out : List ℕ) (at : ℕ) → at ≤ length out → at + length (rest out at) ≡ length out
 rest-length out at h = rw (length-take, length-drop) (omega arith)
 
-pub rest-fits : (T : Tables) (p k : List ℕ) (top : Bool) (fr seen : List ℕ) (t : Top) (g : Indenter) (out₀ out : List ℕ) → Walking T p k top fr seen t g out₀ out → length out₀ < 18446744073709551616
+pub rest-fits : (T : Tables) (p k : List ℕ) (top : Bool) (fr seen : List ℕ) (t : Top) (g : Indenter) (out₀ out : List ℕ)
+    → Walking T p k top fr seen t g out₀ out → length out₀ < 18446744073709551616
     → t .at + length (rest out (t .at)) < 18446744073709551616
 rest-fits T p k top fr seen t g out₀ out x h = let e = rest-length out (t .at) (x .within) in let s = x .same in omega arith
 
-module _ (T : Tables) (p k : List ℕ) (top : Bool) (fr seen : List ℕ) (t : Top) (out₀ out : List ℕ) (g : Indenter) (x : Walking T p k top fr seen t g out₀ out) (h : Indenter) (sp : Stepped t g h)
-    (u : Top) (st : Step) (fr′ seen′ left : List ℕ) (q : Turned T p k h t fr seen (rest out (t .at)) u st fr′ seen′ left) where
+module _ (T : Tables) (p k : List ℕ) (top : Bool) (fr seen : List ℕ) (t : Top) (out₀ out : List ℕ) (g : Indenter) (x : Walking T p k top fr seen t g out₀ out)
+    (h : Indenter) (sp : Stepped t g h)
+    (u : Top) (st : Step) (fr′ seen′ left : List ℕ) (q : WalkTurned T p k h t fr seen (rest out (t .at)) u st fr′ seen′ left) where
   s : SoFar T p k top fr seen t out₀ out
   s = x .so-far
 
@@ -268,7 +279,7 @@ module _ (T : Tables) (p k : List ℕ) (top : Bool) (fr seen : List ℕ) (t : To
 
   module _ (e : st ≡ On) where
     on : TurnedOn T p k h t fr seen (rest out (t .at)) u fr′ seen′ left
-    unfolding Turned
+    unfolding WalkTurned
     on = rw e at q
 
     went : Went T p k top (state (stackIn p k t fr) (s .rep)) t (rest out (t .at)) u fr′ seen′ left
@@ -283,8 +294,11 @@ module _ (T : Tables) (p k : List ℕ) (top : Bool) (fr seen : List ℕ) (t : To
           turns = turns-then P (startIn p) (state (stackIn p k t fr) (s .rep)) (state (stackIn p k u fr′) (w .rep)) (s .es) (w .es) (s .turns) (w .turns);
           flags = w .flags;
           tally = rw (units-append P lines (s .es) (w .es))
-              (tally-added (unitsFor P lines (s .es)) (unitsFor P lines (w .es)) (t .at) (t .units) (t .depth) (u .at) (u .units) (u .depth) (s .tally) (w .added));
-          wrote = rw (units-append P lines (s .es) (w .es), text-append (unitsFor P lines (s .es)) (unitsFor P lines (w .es))) (wrote-at (w .at) (behind (s .wrote) (w .wrote)));
+              (tally-added (unitsFor P lines (s .es)) (unitsFor P lines (w .es)) (t .at) (t .units) (t .depth) (u .at) (u .units) (u .depth) (s .tally)
+              (w .added));
+          wrote =
+              rw (units-append P lines (s .es) (w .es), text-append (unitsFor P lines (s .es)) (unitsFor P lines (w .es)))
+              (wrote-at (w .at) (behind (s .wrote) (w .wrote)));
         }
 
     on-length : length (back out (t .at) left) ≡ length out₀
@@ -326,23 +340,27 @@ module _ (T : Tables) (p k : List ℕ) (top : Bool) (fr seen : List ℕ) (t : To
   came-back e = part-back left (s .wrote) e
 
   done-at : st ≡ Done → Answered T p k top out₀ (back out (t .at) left) (answerAt 0 0 t)
-  unfolding Turned
+  unfolding WalkTurned
   done-at e =
       let d : TurnedDone p k t fr (rest out (t .at)) left = rw e at q in
       record {
         text = textOf so;
-        is = end-done P lines (solvableIn p) (startIn p) (state (stackIn p k t fr) (s .rep)) (s .es) (s .turns) (length out₀) (t .at) (t .units) (t .depth) (textOf so)
+        is =
+            end-done P lines (solvableIn p) (startIn p) (state (stackIn p k t fr) (s .rep)) (s .es) (s .turns) (length out₀) (t .at) (t .units) (t .depth)
+            (textOf so)
             (d .empty) (s .tally) refl in-room;
         room = came-back (d .same);
       }
 
   loops-at : (n : ℕ) → st ≡ Loops n → Answered T p k top out₀ (back out (t .at) left) (answerAt 11 (solvableIn p n) t)
-  unfolding Turned
+  unfolding WalkTurned
   loops-at n e =
       let d : TurnedLoops p k t fr (rest out (t .at)) n left = rw e at q in
       record {
         text = textOf so;
-        is = end-loops P lines (solvableIn p) (startIn p) (state (stackIn p k t fr) (s .rep)) (s .es) (s .turns) (length out₀) (t .at) (t .units) (t .depth) (textOf so)
+        is =
+            end-loops P lines (solvableIn p) (startIn p) (state (stackIn p k t fr) (s .rep)) (s .es) (s .turns) (length out₀) (t .at) (t .units) (t .depth)
+            (textOf so)
             n (d .stops) (s .tally) refl in-room;
         room = came-back (d .same);
       }
@@ -351,7 +369,7 @@ module _ (T : Tables) (p k : List ℕ) (top : Bool) (fr seen : List ℕ) (t : To
   r = x .ready
 
   full-at : st ≡ Full → Answered T p k top out₀ (back out (t .at) left) (answerAt 10 (u .units) u)
-  unfolding startIn Turned
+  unfolding startIn WalkTurned
   full-at e =
       let f : TurnedFull T p k h t fr seen (rest out (t .at)) u left = rw e at q in
       let is : lines (f .entry) ≡ f .first ++ (f .line ∷ f .rest) = sym (ap (λ (b : Bool). linesIn T p k b (f .entry)) ht) ∙ f .is in
@@ -366,7 +384,8 @@ module _ (T : Tables) (p k : List ℕ) (top : Bool) (fr seen : List ℕ) (t : To
             (textOf (soFar P lines (s .es) (f .entry) (f .first)))
             (halts P (r .G) (r .U) (r .counted) (runsIn p 0)) (f .entry) (f .goes) (f .shown (s .rep) (s .flags)) (f .first) (f .line) (f .rest) is
             y refl (let a = w .count in let b = w .fits in omega arith)
-            (let a = f .over in let b = f .at in let c = rest-length out (t .at) (let x = same-length in let z = in-room in omega arith) in let d = same-length in omega arith);
+            (let a = f .over in let b = f .at in let c = rest-length out (t .at) (let x = same-length in let z = in-room in omega arith) in
+            let d = same-length in omega arith);
         room = w;
       }
 
@@ -377,7 +396,7 @@ module _ (T : Tables) (p k : List ℕ) (top : Bool) (fr seen : List ℕ) (t : To
   none-some e = let z : _≡_ {A = ℕ} 0 1 = cc in let y : ⊥ = omega arith in absurd y
 
   -- a turn that ends the walk gives the answer of its case
-  pub walk-ends : (y : Step) (a : Told) → st ≡ y → toldOf p y t u ≡ some a → Answered T p k top out₀ (back out (t .at) left) a
+  pub walk-ends : (y : Step) (a : WalkAnswer) → st ≡ y → toldOf p y t u ≡ some a → Answered T p k top out₀ (back out (t .at) left) a
   unfolding toldOf
   walk-ends On a e i = none-some i
   walk-ends Done a e i = rw (← some-same i) (done-at e)

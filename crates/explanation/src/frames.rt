@@ -6,6 +6,7 @@ ghost use lib.ListN.{length};
 ghost use Rattle.explanation.specs.Frames.{Packed, belowIn, branchIn, ownerIn, Popped};
 ghost use Rattle.explanation.specs.Judge.{Judged};
 ghost use Rattle.explanation.specs.Stand.{Small, Entered};
+use store::Scratch;
 
 // Runs r..re and kids k..ke wait; d packages are opened; so many bytes and units are written, to this depth.
 pub struct Top {
@@ -50,7 +51,7 @@ fn before(r: usize) -> usize
 }
 
 // Package n is opened above, with only unmerged ones between.
-fn below(p: &[u64; 1280], fr: &[u32; 2080], d: usize, n: usize) -> bool
+fn below(p: &Scratch, fr: &[u32; 2080], d: usize, n: usize) -> bool
     requires { ⌜ d ≤ 2080 ⌝ }
     ensures { λ r. ⌜ r ≡ belowIn (now (p .entry)) (branchIn (now (fr .entry)) d) n ⌝ }
 {
@@ -69,7 +70,7 @@ fn below(p: &[u64; 1280], fr: &[u32; 2080], d: usize, n: usize) -> bool
 }
 
 // A later package of a reported group is skipped, and one that would be opened below itself ends the walk (lines 1066 to 1077).
-pub fn judge(p: &[u64; 1280], fr: &[u32; 2080], seen: &mut [u8; 128], d: usize, n: usize) -> Verdict
+pub fn judge(p: &Scratch, fr: &[u32; 2080], seen: &mut [u8; 128], d: usize, n: usize) -> Verdict
     requires { ⌜ d ≤ 2080 ⌝ }
     requires { ⌜ length (now seen) ≡ 128 ⌝ }
     ensures { λ r. ⌜ Judged (now (p .entry)) (now (fr .entry)) d n (now (seen .entry)) (now (seen .exit)) r ⌝ }
@@ -98,7 +99,7 @@ fn larger(a: usize, b: usize) -> usize
 }
 
 // Behind the line of package n: it is opened, or the next kid comes up.
-pub fn enter(p: &[u64; 1280], fr: &mut [u32; 2080], t: Top, n: usize) -> Top
+pub fn enter(p: &Scratch, fr: &mut [u32; 2080], t: Top, n: usize) -> Top
     requires { ⌜ Small (now p) (now fr) t ⌝ }
     requires { ⌜ length (now fr) ≡ 2080 ⌝ }
     requires { ⌜ (t .k < t .ke) × ((n < 128) × (t .d < 2079)) ⌝ }
@@ -135,7 +136,7 @@ pub fn enter(p: &[u64; 1280], fr: &mut [u32; 2080], t: Top, n: usize) -> Top
 }
 
 // The package opened last has nothing pending.
-pub fn pop(p: &[u64; 1280], fr: &[u32; 2080], t: Top) -> Top
+pub fn pop(p: &Scratch, fr: &[u32; 2080], t: Top) -> Top
     requires { ⌜ (0 < t .d) × (t .d ≤ 2079) ⌝ }
     ensures { λ u. ⌜ Popped (now (p .entry)) (now (fr .entry)) t u ⌝ }
 {

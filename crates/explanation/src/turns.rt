@@ -4,7 +4,9 @@ use super::frames::Verdict;
 use super::frames::enter;
 use super::frames::judge;
 use super::frames::pop;
+use index::Slots;
 use lines::sets::Part;
+use store::Scratch;
 use texts::marks::put_level;
 ghost use mathlib.Core.Path.{_≡_};
 ghost use mathlib.Core.List.{List, _∷_};
@@ -15,11 +17,11 @@ ghost use Rattle.records.specs.Read.{tablesOf};
 ghost use Rattle.index.specs.Index.{Loaded};
 ghost use Rattle.machine.specs.Frames as F;
 ghost use Rattle.machine.specs.Frames.{kidMarks};
-ghost use Rattle.texts.specs.Marks.{marksOf};
+ghost use Rattle.texts.specs.MarkBits.{marksIn};
 ghost use Rattle.plan.specs.Fields.{textLength, runsFrom};
 ghost use Rattle.plan.specs.Texts.{packageIn};
 ghost use Rattle.explanation.specs.Stand.{indenterAt, nextKid, nextRun, Small, Level, Stepped, runsAt, kidsAt, framesAt};
-ghost use Rattle.explanation.specs.Turned.{Settled, Shown, Known, Framed, Turned};
+ghost use Rattle.explanation.specs.Turned.{Settled, ShowTurned, Known, Framed, WalkTurned};
 
 // How a turn ends: the walk goes on, it is done (0), this package would be opened below itself (11), or the next line does not fit (10);
 // `toldOf` (specs/Ends.antt) lists the answers.
@@ -36,7 +38,7 @@ pub struct Move {
 }
 
 // Behind the lines of package n, as far as they came.
-fn settled(p: &[u64; 1280], fr: &mut [u32; 2080], t: Top, n: usize, s: Part) -> Move
+fn settled(p: &Scratch, fr: &mut [u32; 2080], t: Top, n: usize, s: Part) -> Move
     requires { ⌜ Small (now p) (now fr) t ⌝ }
     requires { ⌜ length (now fr) ≡ 2080 ⌝ }
     requires { ⌜ (t .k < t .ke) × ((n < 128) × (t .d < 2079)) ⌝ }
@@ -69,8 +71,8 @@ fn settled(p: &[u64; 1280], fr: &mut [u32; 2080], t: Top, n: usize, s: Part) -> 
 // Package n, the next kid, is shown, and opened if it opens.
 fn show(
     file: &[u8],
-    ix: &[u16; 10432],
-    p: &[u64; 1280],
+    ix: &Slots,
+    p: &Scratch,
     k: &[u16; 1024],
     fr: &mut [u32; 2080],
     out: &mut [u8],
@@ -85,9 +87,11 @@ fn show(
     requires { ⌜ length (now fr) ≡ 2080 ⌝ }
     requires { ⌜ (t .k < t .ke) × ((n < 128) × (t .d < 2079)) ⌝ }
     requires { ⌜ t .at + length (now out) < 18446744073709551616 ⌝ }
-    requires { ⌜ (count ≤ 4160) × (marksOf (indenterAt (now levels) count top) ≡ kidMarks (runsAt (now p) (now k) t (now fr)) (kidsAt (now p) (now k) t (now fr)) (framesAt (now p) (now k) t (now fr))) ⌝ }
+    requires { ⌜ (count ≤ 4160) × (marksIn (indenterAt (now levels) count top)
+        ≡ kidMarks (runsAt (now p) (now k) t (now fr)) (kidsAt (now p) (now k) t (now fr)) (framesAt (now p) (now k) t (now fr))) ⌝ }
     requires { ⌜ textLength (now p) n ≡ length (packageIn (tablesOf (now file)) (now p) n) ⌝ }
-    ensures { λ r. ⌜ Shown (tablesOf (now (file .entry))) (now (p .entry)) (now (k .entry)) (indenterAt (now (levels .entry)) count top) t n (now (fr .entry)) (now (out .entry)) (r .top) (r .step) (now (fr .exit)) (now (out .exit)) ⌝ }
+    ensures { λ r. ⌜ ShowTurned (tablesOf (now (file .entry))) (now (p .entry)) (now (k .entry)) (indenterAt (now (levels .entry)) count top) t n
+        (now (fr .entry)) (now (out .entry)) (r .top) (r .step) (now (fr .exit)) (now (out .exit)) ⌝ }
 {
     let s = lines::sets::package_lines(file, ix, p, k, out, levels, count, top, n);
     settled(p, fr, t, n, s)
@@ -113,8 +117,8 @@ fn next_kid(t: Top) -> Top
 // The next kid's turn (lines 1063 to 1180).
 fn kid_turn(
     file: &[u8],
-    ix: &[u16; 10432],
-    p: &[u64; 1280],
+    ix: &Slots,
+    p: &Scratch,
     k: &[u16; 1024],
     fr: &mut [u32; 2080],
     seen: &mut [u8; 128],
@@ -129,10 +133,12 @@ fn kid_turn(
     requires { ⌜ (length (now fr) ≡ 2080) × (length (now seen) ≡ 128) ⌝ }
     requires { ⌜ t .k < t .ke ⌝ }
     requires { ⌜ t .at + length (now out) < 18446744073709551616 ⌝ }
-    requires { ⌜ (count ≤ 4160) × (marksOf (indenterAt (now levels) count top) ≡ kidMarks (runsAt (now p) (now k) t (now fr)) (kidsAt (now p) (now k) t (now fr)) (framesAt (now p) (now k) t (now fr))) ⌝ }
+    requires { ⌜ (count ≤ 4160) × (marksIn (indenterAt (now levels) count top)
+        ≡ kidMarks (runsAt (now p) (now k) t (now fr)) (kidsAt (now p) (now k) t (now fr)) (framesAt (now p) (now k) t (now fr))) ⌝ }
     requires { ⌜ Known (tablesOf (now file)) (now p) (now k) t ⌝ }
     requires { ⌜ Framed (now p) (now k) (now fr) (now seen) t ⌝ }
-    ensures { λ r. ⌜ Turned (tablesOf (now (file .entry))) (now (p .entry)) (now (k .entry)) (indenterAt (now (levels .entry)) count top) t (now (fr .entry)) (now (seen .entry)) (now (out .entry)) (r .top) (r .step) (now (fr .exit)) (now (seen .exit)) (now (out .exit)) ⌝ }
+    ensures { λ r. ⌜ WalkTurned (tablesOf (now (file .entry))) (now (p .entry)) (now (k .entry)) (indenterAt (now (levels .entry)) count top) t
+        (now (fr .entry)) (now (seen .entry)) (now (out .entry)) (r .top) (r .step) (now (fr .exit)) (now (seen .exit)) (now (out .exit)) ⌝ }
 {
     let n = plan::kid_at(k, t.k);
     let v = judge(p, fr, seen, t.d, n);
@@ -157,7 +163,7 @@ fn kid_turn(
 }
 
 // Behind a run's line of b bytes its kids come up.
-fn next_run(p: &[u64; 1280], t: Top, b: usize) -> Top
+fn next_run(p: &Scratch, t: Top, b: usize) -> Top
     requires { ⌜ (t .r < 2048) × (t .units ≤ t .at) ⌝ }
     requires { ⌜ (0 < b) × (t .at + b < 18446744073709551616) ⌝ }
     ensures { λ u. ⌜ (u ≡ nextRun (now (p .entry)) t b) × (u .k < 2048) × (u .ke < 2048) ⌝ }
@@ -180,8 +186,8 @@ fn next_run(p: &[u64; 1280], t: Top, b: usize) -> Top
 // The next run's turn (lines 929 to 1062); `k` and `fr` are where the walk stands.
 fn run_turn(
     file: &[u8],
-    ix: &[u16; 10432],
-    p: &[u64; 1280],
+    ix: &Slots,
+    p: &Scratch,
     k: &[u16; 1024],
     fr: &[u32; 2080],
     out: &mut [u8],
@@ -194,8 +200,10 @@ fn run_turn(
     requires { ⌜ Small (now p) (now fr) t ⌝ }
     requires { ⌜ (t .ke ≤ t .k) × (t .r < t .re) ⌝ }
     requires { ⌜ t .at + length (now out) < 18446744073709551616 ⌝ }
-    requires { ⌜ (count ≤ 4160) × (marksOf (indenterAt (now levels) count top) ≡ isNil (runsFrom (t .r + 1) (t .re)) ∷ F.marksOf (framesAt (now p) (now k) t (now fr))) ⌝ }
-    ensures { λ r. ⌜ ((seen : List ℕ) → Turned (tablesOf (now (file .entry))) (now (p .entry)) (now (k .entry)) (indenterAt (now (levels .entry)) count top) t (now (fr .entry)) seen (now (out .entry)) (r .top) (r .step) (now (fr .entry)) seen (now (out .exit))) ⌝ }
+    requires { ⌜ (count ≤ 4160) × (marksIn (indenterAt (now levels) count top)
+        ≡ isNil (runsFrom (t .r + 1) (t .re)) ∷ F.marksOf (framesAt (now p) (now k) t (now fr))) ⌝ }
+    ensures { λ r. ⌜ ((seen : List ℕ) → WalkTurned (tablesOf (now (file .entry))) (now (p .entry)) (now (k .entry)) (indenterAt (now (levels .entry)) count top)
+        t (now (fr .entry)) seen (now (out .entry)) (r .top) (r .step) (now (fr .entry)) seen (now (out .exit))) ⌝ }
 {
     let x = t.r;
     let w = plan::wording(p, x);
@@ -217,8 +225,8 @@ fn run_turn(
 // One turn: the next kid, else the next run, else back to the package opened before.
 pub fn turn(
     file: &[u8],
-    ix: &[u16; 10432],
-    p: &[u64; 1280],
+    ix: &Slots,
+    p: &Scratch,
     k: &[u16; 1024],
     fr: &mut [u32; 2080],
     seen: &mut [u8; 128],
@@ -235,7 +243,8 @@ pub fn turn(
     requires { ⌜ Level (now p) (now k) (now fr) t (indenterAt (now levels) count top) ⌝ }
     requires { ⌜ Known (tablesOf (now file)) (now p) (now k) t ⌝ }
     requires { ⌜ Framed (now p) (now k) (now fr) (now seen) t ⌝ }
-    ensures { λ r. ⌜ Turned (tablesOf (now (file .entry))) (now (p .entry)) (now (k .entry)) (indenterAt (now (levels .entry)) count top) t (now (fr .entry)) (now (seen .entry)) (now (out .entry)) (r .top) (r .step) (now (fr .exit)) (now (seen .exit)) (now (out .exit)) ⌝ }
+    ensures { λ r. ⌜ WalkTurned (tablesOf (now (file .entry))) (now (p .entry)) (now (k .entry)) (indenterAt (now (levels .entry)) count top) t
+        (now (fr .entry)) (now (seen .entry)) (now (out .entry)) (r .top) (r .step) (now (fr .exit)) (now (seen .exit)) (now (out .exit)) ⌝ }
 {
     if t.k < t.ke {
         return kid_turn(file, ix, p, k, fr, seen, out, levels, count, top, t);

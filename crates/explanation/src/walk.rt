@@ -3,6 +3,8 @@ use super::frames::Top;
 use super::turns::Step;
 use super::turns::level;
 use super::turns::turn;
+use index::Slots;
+use store::Scratch;
 ghost use mathlib.Core.Path.{_≡_};
 ghost use mathlib.Core.List.{[]};
 ghost use mathlib.Core.Option.{some};
@@ -15,7 +17,7 @@ ghost use Rattle.explanation.specs.Walk.{Ready, Answered};
 ghost use Rattle.explanation.specs.declared.turns.Step.the-variants.{Done, Loops, Full};
 
 // "An answer holds number, place, bytes, units, depth".
-pub struct Told {
+pub struct WalkAnswer {
     pub number: u64,
     pub place: usize,
     pub bytes: usize,
@@ -24,10 +26,10 @@ pub struct Told {
 }
 
 // The answer from where the walk stands.
-fn answer(number: u64, place: usize, t: Top) -> Told
+fn answer(number: u64, place: usize, t: Top) -> WalkAnswer
     ensures { λ r. ⌜ r ≡ answerAt number place t ⌝ }
 {
-    Told {
+    WalkAnswer {
         number,
         place,
         bytes: t.at,
@@ -37,14 +39,14 @@ fn answer(number: u64, place: usize, t: Top) -> Told
 }
 
 // The walk is done; it stood at t before the turn and stands at u.
-fn done(p: &[u64; 1280], t: Top, u: Top) -> Told
+fn done(p: &Scratch, t: Top, u: Top) -> WalkAnswer
     ensures { λ r. ⌜ toldOf (now (p .entry)) Done t u ≡ some r ⌝ }
 {
     answer(0, 0, t)
 }
 
 // Package n would be opened below itself.
-fn looped(p: &[u64; 1280], n: usize, t: Top, u: Top) -> Told
+fn looped(p: &Scratch, n: usize, t: Top, u: Top) -> WalkAnswer
     ensures { λ r. ⌜ toldOf (now (p .entry)) (Loops n) t u ≡ some r ⌝ }
 {
     let place = basis::wide16(plan::solvable(p, n));
@@ -52,7 +54,7 @@ fn looped(p: &[u64; 1280], n: usize, t: Top, u: Top) -> Told
 }
 
 // The next line does not fit.
-fn full(p: &[u64; 1280], t: Top, u: Top) -> Told
+fn full(p: &Scratch, t: Top, u: Top) -> WalkAnswer
     ensures { λ r. ⌜ toldOf (now (p .entry)) Full t u ≡ some r ⌝ }
 {
     answer(10, u.units, u)
@@ -61,15 +63,15 @@ fn full(p: &[u64; 1280], t: Top, u: Top) -> Told
 // The walk over lent frames, flags and marks.
 fn walk_plan(
     file: &[u8],
-    ix: &[u16; 10432],
-    p: &[u64; 1280],
+    ix: &Slots,
+    p: &Scratch,
     k: &[u16; 1024],
     fr: &mut [u32; 2080],
     seen: &mut [u8; 128],
     levels: &mut [u64; 65],
     out: &mut [u8],
     top: bool,
-) -> Told
+) -> WalkAnswer
     requires { ⌜ Loaded (now file) (now ix) ⌝ }
     requires { ⌜ Ready (tablesOf (now file)) (now p) (now k) ⌝ }
     requires { ⌜ (length (now fr) ≡ 2080) × ((length (now seen) ≡ 128) × (length (now levels) ≡ 65)) ⌝ }
@@ -125,12 +127,12 @@ fn walk_plan(
 // The explanation of a packed plan: its text at the start of the room, and the answer.
 pub fn explain_plan(
     file: &[u8],
-    ix: &[u16; 10432],
-    p: &[u64; 1280],
+    ix: &Slots,
+    p: &Scratch,
     k: &[u16; 1024],
     out: &mut [u8],
     top: bool,
-) -> Told
+) -> WalkAnswer
     requires { ⌜ Loaded (now file) (now ix) ⌝ }
     requires { ⌜ Ready (tablesOf (now file)) (now p) (now k) ⌝ }
     ensures { λ r. ⌜ Answered (tablesOf (now (file .entry))) (now (p .entry)) (now (k .entry)) top (now (out .entry)) (now (out .exit)) r ⌝ }

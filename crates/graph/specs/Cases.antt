@@ -10,9 +10,10 @@ use Rattle.records.specs.Shapes.{cut, shapeOf}
 use Rattle.records.specs.Read.{readFrom, readOf, Reading, good, bad}
 use Rattle.records.specs.Views.{originOf, clauseIn, clauseOf, assignedBy, candidatesOf, gatePartners, auxPartners}
 use Rattle.store.specs.Graph.{Graph, addNode, addEdge, addLink, settle, reached, unreached}
-use Rattle.linking.specs.Links.{partyOf, gateReason, parentReason, excludedReason, partnersOr, requirers, linkAll, requiresOf, excludedLinks, lockLinks, constrainsLinks, forbidAll}
+use Rattle.linking.specs.Links.{partyOf, gateReason, parentReason, excludedReason, partnersOr, requirers, linkAll, requiresOf, excludedLinks, lockLinks}
+use Rattle.linking.specs.Links.{constrainsLinks, forbidAll}
 use Rattle.expansion.specs.Expand.{once, onceAll, triplesOf, others, pair, forbid, expand}
-use Rattle.graph.specs.Graphs.{turnAt, buildFrom, buildOf, Outcome, drawn, refused, finished, graphOf}
+use Rattle.graph.specs.Graphs.{turnAt, buildFrom, buildOf, Outcome, drawn, refused, reachedAll, graphOf}
 
 -- ---- records as bytes
 
@@ -57,5 +58,7 @@ toldOf (bad k i) = k ∷ i ∷ []
 pub cases :
     map (λ f. toldOf (readOf f)) ([] ∷ learnt 1 ∷ learnt 0 ∷ many 126 ∷ many 127 ∷ apart ∷ [])
     ≡ (0 ∷ 1 ∷ 0 ∷ []) ∷ (7 ∷ 0 ∷ []) ∷ (0 ∷ 1 ∷ 0 ∷ []) ∷ (0 ∷ 127 ∷ 126 ∷ []) ∷ (8 ∷ 0 ∷ []) ∷ (9 ∷ 1 ∷ []) ∷ []
-unfolding readOf readFrom cut shapeOf originOf clauseIn clauseOf assignedBy candidatesOf gatePartners auxPartners addNode addEdge addLink settle reached unreached partyOf gateReason parentReason excludedReason partnersOr requirers linkAll requiresOf excludedLinks lockLinks constrainsLinks forbidAll once onceAll triplesOf others pair forbid expand turnAt buildFrom buildOf finished graphOf
+unfolding readOf readFrom cut shapeOf originOf clauseIn clauseOf assignedBy candidatesOf gatePartners auxPartners addNode addEdge addLink settle reached
+    unreached partyOf gateReason parentReason excludedReason partnersOr requirers linkAll requiresOf excludedLinks lockLinks constrainsLinks forbidAll once
+    onceAll triplesOf others pair forbid expand turnAt buildFrom buildOf reachedAll graphOf
 cases = refl

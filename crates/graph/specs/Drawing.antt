@@ -18,8 +18,8 @@ use Rattle.store.specs.declared.Size.{Size}
 use Rattle.store.specs.Graph.{Graph, startGraph, settle, unreached}
 use Rattle.store.specs.Table.{graphIn, Stored, Growing, taken, taken-growing, taken-graph}
 use Rattle.links.specs.Build.{Chains}
-use Rattle.reach.specs.Queue.{lowestOf}
-use Rattle.triples.specs.Hashed.{Triples, madeIn, triples-none, made-none, clear-fresh, Clear}
+use Rattle.links.specs.Queue.{lowestOf}
+use Rattle.expansion.specs.Hashed.{Triples, madeIn, triples-none, made-none, clear-fresh, Clear}
 use Rattle.expansion.specs.declared.Work.{Work}
 use Rattle.expansion.specs.declared.Progress.{Progress}
 use Rattle.expansion.specs.declared.Progress.the-variants as P
@@ -33,8 +33,9 @@ use Rattle.graph.specs.declared.Drawing.{Drawing}
 use Rattle.graph.specs.declared.Drawing.the-variants as D
 use Rattle.graph.specs.declared.Core.{Core}
 use Rattle.graph.specs.declared.Core.the-variants as O
-use Rattle.graph.specs.Graphs.{isLearnt, handed, Built, built, stopped, buildOf, Outcome, drawn, refused, finished, graphOf}
-use Rattle.graph.specs.Working.{TurnedSoFar, goTo, haltAt, expandedIn, coreTurnIn, turnAtIn, BuiltSoFar, builtTo, stoppedAt, buildFromIn, buildOfIn, leftOf, forgetBuilt, forget-build}
+use Rattle.graph.specs.Graphs.{isLearnt, handed, Built, built, stopped, buildOf, Outcome, drawn, refused, reachedAll, graphOf}
+use Rattle.graph.specs.Working.{TurnedSoFar, goTo, haltAt, expandedIn, coreTurnIn, turnAtIn, BuiltSoFar, builtTo, stoppedAt, buildFromIn, buildOfIn}
+use Rattle.graph.specs.Working.{leftOf, forgetBuilt, forget-build}
 
 -- ---- one clause
 
@@ -85,11 +86,15 @@ module _ (T : Tables) (i : ℕ) (g tr w : List ℕ) (k : Work) (b : Bool) (q : b
   unfolding turnAtIn
   turn-out e H = record { is = rw ((sym q ∙ e), turnAtIn); holds = H }
 
-  pub turn-in : (c : Clause) (n : Work) (h us m : List ℕ) (d : Turn) → b ≡ true → c ≡ clauseOf T i → n ≡ handWork k i → Turns (coreTurnIn T c (buildIn g tr w n)) h us m d → Turns (turnAtIn T i (buildIn g tr w k)) h us m d
+  pub turn-in : (c : Clause) (n : Work) (h us m : List ℕ) (d : Turn) → b ≡ true → c ≡ clauseOf T i → n ≡ handWork k i
+      → Turns (coreTurnIn T c (buildIn g tr w n)) h us m d → Turns (turnAtIn T i (buildIn g tr w k)) h us m d
   unfolding turnAtIn
   turn-in c n h us m d e f o R =
       let z : buildIn g tr w n ≡ handed i (buildIn g tr w k) = ap (buildIn g tr w) o ∙ hand-build g tr w k i in
-      record { is = R .is ∙ ap (coreTurnIn T c) z ∙ rw ((sym q ∙ e), turnAtIn) (ap (λ (x : Clause). coreTurnIn T x (handed i (buildIn g tr w k))) f); holds = R .holds }
+      record {
+        is = R .is ∙ ap (coreTurnIn T c) z ∙ rw ((sym q ∙ e), turnAtIn) (ap (λ (x : Clause). coreTurnIn T x (handed i (buildIn g tr w k))) f);
+        holds = R .holds;
+      }
 
 pub ruleset turns = (turn-out, turn-in)
 
@@ -108,7 +113,7 @@ pub record Builds (X : BuiltSoFar) (g tr w : List ℕ) (r : Core) : Type 0 where
   pub holds : CoreHolds g tr w r
 
 -- the clauses from number i on, of n, lead to X
-pub record Left (X : BuiltSoFar) (T : Tables) (n i : ℕ) (g tr w : List ℕ) (k : Work) : Type 0 where
+pub record ClausesLeft (X : BuiltSoFar) (T : Tables) (n i : ℕ) (g tr w : List ℕ) (k : Work) : Type 0 where
   pub left : buildFromIn (n - i) T i (buildIn g tr w k) ≡ X
   pub holds : Holds g tr w k
   pub low : i ≤ n
@@ -125,14 +130,15 @@ build-suc : (n m : ℕ) (T : Tables) (i : ℕ) (b : Build) → m ≡ suc n → b
 unfolding buildFromIn
 build-suc n m T i b e = rw e (same-onward n T i (turnAtIn T i b))
 
-pub left-start : (T : Tables) (n : ℕ) (g tr w : List ℕ) (k : Work) → Holds g tr w k → Left (buildFromIn n T 0 (buildIn g tr w k)) T n 0 g tr w k
+pub left-start : (T : Tables) (n : ℕ) (g tr w : List ℕ) (k : Work) → Holds g tr w k → ClausesLeft (buildFromIn n T 0 (buildIn g tr w k)) T n 0 g tr w k
 left-start T n g tr w k H = let z : n - 0 ≡ n = omega arith in record { left = rw z; holds = H; low = omega arith }
 
-module _ (X : BuiltSoFar) (T : Tables) (n i : ℕ) (g tr w h us m : List ℕ) (k : Work) (d : Turn) (L : Left X T n i g tr w k) (l : i < n) (R : Turns (turnAtIn T i (buildIn g tr w k)) h us m d) where
+module _ (X : BuiltSoFar) (T : Tables) (n i : ℕ) (g tr w h us m : List ℕ) (k : Work) (d : Turn) (L : ClausesLeft X T n i g tr w k) (l : i
+    < n) (R : Turns (turnAtIn T i (buildIn g tr w k)) h us m d) where
   rest : onward (n - (i + 1)) T i (turnIn h us m d) ≡ X
   rest = ap (onward (n - (i + 1)) T i) (R .is) ∙ sym (build-suc (n - (i + 1)) (n - i) T i (buildIn g tr w k) (omega arith)) ∙ L .left
 
-  pub left-next : (j : Work) → d ≡ U.On j → Left X T n (i + 1) h us m j
+  pub left-next : (j : Work) → d ≡ U.On j → ClausesLeft X T n (i + 1) h us m j
   left-next j e =
       let z : buildFromIn (n - (i + 1)) T (suc i) (buildIn h us m j) ≡ X = ap (λ (t : Turn). onward (n - (i + 1)) T i (turnIn h us m t)) (sym e) ∙ rest in
       record { left = ap (λ (x : ℕ). buildFromIn (n - (i + 1)) T x (buildIn h us m j)) (add-one i) ∙ z; holds = rw e at (R .holds); low = omega arith }
@@ -141,7 +147,7 @@ module _ (X : BuiltSoFar) (T : Tables) (n i : ℕ) (g tr w h us m : List ℕ) (k
   pub left-stop : (q p : ℕ) (z : Size) → d ≡ U.Refused q z → p ≡ i → Builds X h us m (O.Refused q p z)
   left-stop q p z e f = rw f (record { is = ap (λ (t : Turn). onward (n - (i + 1)) T i (turnIn h us m t)) (sym e) ∙ rest; holds = rw e at (R .holds) })
 
-pub left-end : (X : BuiltSoFar) (T : Tables) (n i : ℕ) (g tr w : List ℕ) (k : Work) → Left X T n i g tr w k → n ≤ i → Builds X g tr w (O.Whole k)
+pub left-end : (X : BuiltSoFar) (T : Tables) (n i : ℕ) (g tr w : List ℕ) (k : Work) → ClausesLeft X T n i g tr w k → n ≤ i → Builds X g tr w (O.Whole k)
 unfolding buildFromIn
 left-end X T n i g tr w k L h =
     let z : n - i ≡ 0 = omega arith in
@@ -180,18 +186,18 @@ some-low (some n) u q e = let z : n ≡ u - 1 = omega arith in ap some z
 
 -- t is what `settle` left in h, u what looking for a node that is not reached gave
 module _ (g h w : List ℕ) (s t : Size) (u : ℕ) (C : Chains h t w) (e : graphIn h t ≡ settle (graphIn g s)) (q : u ≡ lowestOf (unreached (graphIn h t))) where
-  pub end-drawn : u ≡ 0 → Drew (finished (settle (graphIn g s))) (settle (graphIn g s)) h w (D.Whole t)
-  unfolding finished
+  pub end-drawn : u ≡ 0 → Drew (reachedAll (settle (graphIn g s))) (settle (graphIn g s)) h w (D.Whole t)
+  unfolding reachedAll
   end-drawn z =
       let y : unreached (settle (graphIn g s)) ≡ none = ap unreached (sym e) ∙ none-low (unreached (graphIn h t)) u q z in
-      record { is = rw (y, finished) (ap drawn e); holds = e; stored = C .stored; chained = C }
+      record { is = rw (y, reachedAll) (ap drawn e); holds = e; stored = C .stored; chained = C }
 
   -- p is the node's number, wider
-  pub end-unreached : (p : ℕ) → (u ≡ 0 → ⊥) → p ≡ u - 1 → Drew (finished (settle (graphIn g s))) (settle (graphIn g s)) h w (D.Refused 9 p t)
-  unfolding finished
+  pub end-unreached : (p : ℕ) → (u ≡ 0 → ⊥) → p ≡ u - 1 → Drew (reachedAll (settle (graphIn g s))) (settle (graphIn g s)) h w (D.Refused 9 p t)
+  unfolding reachedAll
   end-unreached p z f =
       let y : unreached (settle (graphIn g s)) ≡ some (u - 1) = ap unreached (sym e) ∙ some-low (unreached (graphIn h t)) u q z in
-      record { is = rw (y, finished, f); holds = e; stored = C .stored; chained = tt }
+      record { is = rw (y, reachedAll, f); holds = e; stored = C .stored; chained = tt }
 
 pub ruleset ends = (end-drawn, end-unreached)
 
@@ -207,10 +213,13 @@ start-build g tr w s q e =
     let C : Clear w = rw e clear-fresh in
     rw (q, made-none tr, lasts-none w C)
 
-module _ (T : Tables) (n : ℕ) (g tr w h us m : List ℕ) (s : Size) (r : Core) (a : n ≡ length (T .clauses)) (q : graphIn g s ≡ startGraph) (e : w ≡ replicate 3456 0) (R : Builds (buildFromIn n T 0 (buildIn g tr w (record { size = s; triples = 0 }))) h us m r) where
+module _ (T : Tables) (n : ℕ) (g tr w h us m : List ℕ) (s : Size) (r : Core) (a : n ≡ length (T .clauses)) (q : graphIn g s ≡ startGraph) (e : w
+    ≡ replicate 3456 0) (R : Builds (buildFromIn n T 0 (buildIn g tr w (record { size = s; triples = 0 }))) h us m r) where
   whole : coreIn h us m r ≡ buildOfIn T
   unfolding buildOfIn
-  whole = R .is ∙ ap (λ (x : ℕ). buildFromIn x T 0 (buildIn g tr w (record { size = s; triples = 0 }))) a ∙ ap (buildFromIn (length (T .clauses)) T 0) (start-build g tr w s q e)
+  whole =
+      R .is ∙ ap (λ (x : ℕ). buildFromIn x T 0 (buildIn g tr w (record { size = s; triples = 0 }))) a
+      ∙ ap (buildFromIn (length (T .clauses)) T 0) (start-build g tr w s q e)
 
   pub build-refused : (k i : ℕ) (z : Size) → r ≡ O.Refused k i z → Drew (graphOf T) (leftOf T) h m (D.Refused k i z)
   unfolding graphOf leftOf
@@ -220,7 +229,8 @@ module _ (T : Tables) (n : ℕ) (g tr w h us m : List ℕ) (s : Size) (r : Core)
       let x : buildOf T ≡ stopped k i = sym (forget-build T) ∙ ap forgetBuilt y in
       record { is = rw (x, graphOf); holds = rw (y, leftOf); stored = P .stored; chained = tt }
 
-  pub build-whole : (k : Work) (j v : List ℕ) (d : Drawing) → r ≡ O.Whole k → Drew (finished (settle (graphIn h (k .size)))) (settle (graphIn h (k .size))) j v d → Drew (graphOf T) (leftOf T) j v d
+  pub build-whole : (k : Work) (j v : List ℕ) (d : Drawing) → r ≡ O.Whole k
+      → Drew (reachedAll (settle (graphIn h (k .size)))) (settle (graphIn h (k .size))) j v d → Drew (graphOf T) (leftOf T) j v d
   unfolding graphOf leftOf
   build-whole k j v d f F =
       let y : buildOfIn T ≡ builtTo (buildIn h us m k) = sym whole ∙ ap (coreIn h us m) f in

@@ -8,7 +8,7 @@ use Rattle.records.specs.declared.Clause.the-variants as C
 use Rattle.records.specs.Tables.{Tables}
 use Rattle.records.specs.Views.{clauseOf, clauseIn, coreAt}
 use Rattle.store.specs.Graph.{Graph, handing, settle, reached, unreached}
-use Rattle.expansion.specs.Expand.{Build, Step, on, stop, startBuild, expand}
+use Rattle.expansion.specs.Expand.{Build, ClauseStep, on, stop, startBuild, expand}
 
 -- the clause is Learnt: 7, "Learnt in the core"
 abbrev pub isLearnt : Clause → Bool
@@ -29,7 +29,7 @@ pub data Turned : Type 0 where
   halt : ℕ → Turned
 
 -- 8: "node 129 or edge 1,025 would be added"
-abbrev pub expanded : Step → Turned
+abbrev pub expanded : ClauseStep → Turned
 expanded (on b) = go b
 expanded stop = halt 8
 
@@ -69,11 +69,11 @@ pub data Outcome : Type 0 where
   refused : ℕ → ℕ → Outcome
 
 -- 9: "lowest such node, numbered after unresolved may have gone" (`Bfs` and the assert, conflict.rs, lines 367 to 371)
-unfoldable pub finished : Graph → Outcome
+unfoldable pub reachedAll : Graph → Outcome
 unfolding unreached reached
-finished g = elim (unreached g) [ none ↦ drawn g | some n ↦ refused 9 n ]
+reachedAll g = elim (unreached g) [ none ↦ drawn g | some n ↦ refused 9 n ]
 
 -- `Conflict::graph` (conflict.rs, lines 44 to 378): the core, the removal of unresolved (line 359), reachability
 unfoldable pub graphOf : Tables → Outcome
-unfolding buildOf finished settle
-graphOf T = elim (buildOf T) [ stopped k i ↦ refused k i | built b ↦ finished (settle (b .graph)) ]
+unfolding buildOf reachedAll settle
+graphOf T = elim (buildOf T) [ stopped k i ↦ refused k i | built b ↦ reachedAll (settle (b .graph)) ]

@@ -9,7 +9,7 @@ use Rattle.records.specs.declared.Clause.{Clause}
 use Rattle.records.specs.Tables.{Tables}
 use Rattle.records.specs.Views.{clauseOf, coreAt}
 use Rattle.store.specs.Graph.{Graph, settle}
-use Rattle.expansion.specs.Expand.{Build, startBuild, Step, on, stop, expand}
+use Rattle.expansion.specs.Expand.{Build, startBuild, ClauseStep, on, stop, expand}
 use Rattle.expansion.specs.Working.{StepSoFar, onTo, stopAt, expandIn, forgetStep, forget-expand}
 use Rattle.graph.specs.Graphs.{isLearnt, Turned, go, halt, expanded, coreTurn, handed, turnAt}
 use Rattle.graph.specs.Graphs.{Built, built, stopped, buildFrom, buildOf}

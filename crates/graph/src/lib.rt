@@ -8,13 +8,17 @@ ghost use Rattle.index.specs.Index.{Loaded, Blank};
 ghost use Rattle.store.specs.Graph.{settle};
 ghost use Rattle.store.specs.Table.{graphIn, Growing};
 ghost use Rattle.expansion.specs.State.{buildIn, Holds};
-ghost use Rattle.graph.specs.Graphs.{isLearnt, finished, graphOf};
+ghost use Rattle.graph.specs.Graphs.{isLearnt, reachedAll, graphOf};
 ghost use Rattle.graph.specs.Working.{coreTurnIn, turnAtIn, buildFromIn, leftOf};
 ghost use Rattle.graph.specs.Drawing.{handWork, Turns, Builds, Drew};
 ghost use Rattle.graph.specs.Files.{Makes, madeOf};
 use expansion::Progress;
 use expansion::Work;
+use index::Slots;
 use records::Clause;
+use store::ChainWords;
+use store::GraphWords;
+use store::Scratch;
 use store::Size;
 
 // Where one clause led: on, or to a refusal's number.
@@ -68,16 +72,17 @@ fn is_learnt(c: Clause) -> bool
 // A clause of the core: 7 for Learnt, 8 where there is no room.
 fn core_turn(
     file: &[u8],
-    ix: &[u16; 10432],
-    g: &mut [u64; 1152],
-    tr: &mut [u64; 1280],
-    ls: &mut [u16; 3456],
+    ix: &Slots,
+    g: &mut GraphWords,
+    tr: &mut Scratch,
+    ls: &mut ChainWords,
     k: Work,
     c: Clause,
 ) -> Turn
     requires { ⌜ Loaded (now file) (now ix) ⌝ }
     requires { ⌜ Holds (now g) (now tr) (now ls) k ⌝ }
-    ensures { λ r. ⌜ Turns (coreTurnIn (tablesOf (now (file .entry))) c (buildIn (now (g .entry)) (now (tr .entry)) (now (ls .entry)) k)) (now (g .exit)) (now (tr .exit)) (now (ls .exit)) r ⌝ }
+    ensures { λ r. ⌜ Turns (coreTurnIn (tablesOf (now (file .entry))) c (buildIn (now (g .entry)) (now (tr .entry)) (now (ls .entry)) k)) (now (g .exit))
+        (now (tr .exit)) (now (ls .exit)) r ⌝ }
 {
     if is_learnt(c) {
         let s = k.size;
@@ -110,17 +115,18 @@ fn at_hand(k: Work, i: usize) -> Work
 // Clause i, which may be outside the core.
 fn turn_at(
     file: &[u8],
-    ix: &[u16; 10432],
-    g: &mut [u64; 1152],
-    tr: &mut [u64; 1280],
-    ls: &mut [u16; 3456],
+    ix: &Slots,
+    g: &mut GraphWords,
+    tr: &mut Scratch,
+    ls: &mut ChainWords,
     k: Work,
     i: usize,
 ) -> Turn
     requires { ⌜ Loaded (now file) (now ix) ⌝ }
     requires { ⌜ Holds (now g) (now tr) (now ls) k ⌝ }
     requires { ⌜ i < 1024 ⌝ }
-    ensures { λ r. ⌜ Turns (turnAtIn (tablesOf (now (file .entry))) i (buildIn (now (g .entry)) (now (tr .entry)) (now (ls .entry)) k)) (now (g .exit)) (now (tr .exit)) (now (ls .exit)) r ⌝ }
+    ensures { λ r. ⌜ Turns (turnAtIn (tablesOf (now (file .entry))) i (buildIn (now (g .entry)) (now (tr .entry)) (now (ls .entry)) k)) (now (g .exit))
+        (now (tr .exit)) (now (ls .exit)) r ⌝ }
 {
     if views::in_core(file, ix, i) {
         let c = views::clause(file, ix, i);
@@ -133,17 +139,18 @@ fn turn_at(
 // The first n clauses.
 fn build_core(
     file: &[u8],
-    ix: &[u16; 10432],
+    ix: &Slots,
     n: usize,
-    g: &mut [u64; 1152],
-    tr: &mut [u64; 1280],
-    ls: &mut [u16; 3456],
+    g: &mut GraphWords,
+    tr: &mut Scratch,
+    ls: &mut ChainWords,
     k: Work,
 ) -> Core
     requires { ⌜ Loaded (now file) (now ix) ⌝ }
     requires { ⌜ Holds (now g) (now tr) (now ls) k ⌝ }
     requires { ⌜ n ≤ 1024 ⌝ }
-    ensures { λ r. ⌜ Builds (buildFromIn n (tablesOf (now (file .entry))) 0 (buildIn (now (g .entry)) (now (tr .entry)) (now (ls .entry)) k)) (now (g .exit)) (now (tr .exit)) (now (ls .exit)) r ⌝ }
+    ensures { λ r. ⌜ Builds (buildFromIn n (tablesOf (now (file .entry))) 0 (buildIn (now (g .entry)) (now (tr .entry)) (now (ls .entry)) k)) (now (g .exit))
+        (now (tr .exit)) (now (ls .exit)) r ⌝ }
 {
     let mut m = k;
     let mut i: usize = 0;
@@ -164,14 +171,14 @@ fn build_core(
 }
 
 // Unresolved may go, then the chains, then 9.
-fn finish(g: &mut [u64; 1152], ls: &mut [u16; 3456], s: Size) -> Drawing
+fn finish(g: &mut GraphWords, ls: &mut ChainWords, s: Size) -> Drawing
     requires { ⌜ Growing (now g) s ⌝ }
     requires { ⌜ length (now ls) ≡ 3456 ⌝ }
-    ensures { λ r. ⌜ Drew (finished (settle (graphIn (now (g .entry)) s))) (settle (graphIn (now (g .entry)) s)) (now (g .exit)) (now (ls .exit)) r ⌝ }
+    ensures { λ r. ⌜ Drew (reachedAll (settle (graphIn (now (g .entry)) s))) (settle (graphIn (now (g .entry)) s)) (now (g .exit)) (now (ls .exit)) r ⌝ }
 {
     let t = store::settle(g, s);
     links::chain(g, t, ls);
-    let u = reach::lowest_unreached(g, t, ls);
+    let u = links::reach::lowest_unreached(g, t, ls);
     if u == 0 {
         return Drawing::Whole(t);
     }
@@ -182,11 +189,11 @@ fn finish(g: &mut [u64; 1152], ls: &mut [u16; 3456], s: Size) -> Drawing
 // The graph of a file with n clauses. The tables come as fresh arrays; ls holds the chains of a graph that is drawn.
 fn build(
     file: &[u8],
-    ix: &[u16; 10432],
+    ix: &Slots,
     n: usize,
-    g: &mut [u64; 1152],
-    tr: &mut [u64; 1280],
-    ls: &mut [u16; 3456],
+    g: &mut GraphWords,
+    tr: &mut Scratch,
+    ls: &mut ChainWords,
 ) -> Drawing
     requires { ⌜ Loaded (now file) (now ix) ⌝ }
     requires { ⌜ n ≡ length (tablesOf (now file) .clauses) ⌝ }
@@ -222,10 +229,10 @@ fn made_of(d: Drawing) -> Made
 // From bytes to the graph: every call begins here. The tables come as fresh arrays; on a refusal they are of no use.
 pub fn of_file(
     file: &[u8],
-    ix: &mut [u16; 10432],
-    g: &mut [u64; 1152],
-    tr: &mut [u64; 1280],
-    ls: &mut [u16; 3456],
+    ix: &mut Slots,
+    g: &mut GraphWords,
+    tr: &mut Scratch,
+    ls: &mut ChainWords,
 ) -> Made
     requires { ⌜ Blank (now ix) ⌝ }
     requires { ⌜ now g ≡ replicate 1152 0 ⌝ }
@@ -235,8 +242,8 @@ pub fn of_file(
 {
     let a = index::load(file, ix);
     match a {
-        records::Answer::Refused { number, place } => Made::Refused(number, place),
-        records::Answer::Accepted(c) => {
+        records::ReadAnswer::Refused { number, place } => Made::Refused(number, place),
+        records::ReadAnswer::Accepted(c) => {
             let n = c.clauses;
             let d = build(file, ix, n, g, tr, ls);
             made_of(d)

@@ -15,7 +15,8 @@ use Rattle.store.specs.Graph.{Graph, out, into}
 use Rattle.store.specs.Words.{requirementCode}
 use Rattle.store.specs.Table.{graphIn, edgeIn, Stored, edges-count}
 use Rattle.links.specs.Build.{Chains}
-use Rattle.links.specs.Walk.{Out, Into, firstOut, nextOut, firstIn, nextIn, outLeft, intoLeft, out-start, out-all, out-next, out-less, out-cons, out-end, into-start, into-all, into-next, into-less, into-cons, into-end}
+use Rattle.links.specs.Walk.{Out, Into, firstOut, nextOut, firstIn, nextIn, outLeft, intoLeft, out-start, out-all, out-next, out-less, out-cons, out-end}
+use Rattle.links.specs.Walk.{into-start, into-all, into-next, into-less, into-cons, into-end}
 use Rattle.groups.specs.Small.{filter-short}
 use Rattle.groups.specs.Codes.{outCode, inCode, outCodes, inCodes}
 use Rattle.groups.specs.Multi.{bump, count, evenly, Rest, rest-none, rest-both, sameCodes, even-is, ended-same, long-apart}
@@ -47,7 +48,8 @@ pub record Way (g ls : List ℕ) (d : Bool) (n e : ℕ) : Type 0 where
   pub out-way : d ≡ true → Out g size ls n e
   pub into-way : d ≡ false → Into g size ls n e
 
-pub way-all : (g : List ℕ) (s : Size) (ls : List ℕ) (d : Bool) (n r : ℕ) → Chains g s ls → n < s .nodes → r ≡ firstKey ls d n → keysLeft g d n r ≡ keysIn (graphIn g s) d n
+pub way-all : (g : List ℕ) (s : Size) (ls : List ℕ) (d : Bool) (n r : ℕ) → Chains g s ls → n < s .nodes → r ≡ firstKey ls d n
+    → keysLeft g d n r ≡ keysIn (graphIn g s) d n
 unfolding firstKey keysLeft keysIn outCodes inCodes
 way-all g s ls true n r c h q = ap (map outCode) (out-all g s ls n r c h q)
 way-all g s ls false n r c h q = ap (map inCode) (into-all g s ls n r c h q)
@@ -59,8 +61,10 @@ way-start g s ls false n r c h q = record { size = s; out-way = λ t. absurd (fa
 
 pub way-next : (g ls : List ℕ) (d : Bool) (n e r : ℕ) → Way g ls d n e → 0 < e → r ≡ nextKey ls d (e - 1) → Way g ls d n r
 unfolding nextKey
-way-next g ls true n e r w p q = record { size = w .size; out-way = λ t. out-next g (w .size) ls n e r (w .out-way t) p q; into-way = λ t. absurd (true≢false t) }
-way-next g ls false n e r w p q = record { size = w .size; out-way = λ t. absurd (false≢true t); into-way = λ t. into-next g (w .size) ls n e r (w .into-way t) p q }
+way-next g ls true n e r w p q =
+    record { size = w .size; out-way = λ t. out-next g (w .size) ls n e r (w .out-way t) p q; into-way = λ t. absurd (true≢false t) }
+way-next g ls false n e r w p q =
+    record { size = w .size; out-way = λ t. absurd (false≢true t); into-way = λ t. into-next g (w .size) ls n e r (w .into-way t) p q }
 
 pub way-less : (g ls : List ℕ) (d : Bool) (n e r : ℕ) → Way g ls d n e → 0 < e → r ≡ nextKey ls d (e - 1) → r < e
 unfolding nextKey
@@ -131,7 +135,8 @@ bump-plus : (b : Bool) (c n : ℕ) → c + bump b 0 + n ≡ c + bump b n
 bump-plus true c n = omega arith
 bump-plus false c n = omega arith
 
-pub tally-next : (g ls : List ℕ) (d : Bool) (n k e c t x r Z : ℕ) → tally g d n k e c ≡ Z → Way g ls d n e → 0 < e → t ≡ bump (eqb k x) 0 → x ≡ keyAt g d (e - 1) → r ≡ nextKey ls d (e - 1) → tally g d n k r (c + t) ≡ Z
+pub tally-next : (g ls : List ℕ) (d : Bool) (n k e c t x r Z : ℕ) → tally g d n k e c ≡ Z → Way g ls d n e → 0 < e → t ≡ bump (eqb k x) 0
+    → x ≡ keyAt g d (e - 1) → r ≡ nextKey ls d (e - 1) → tally g d n k r (c + t) ≡ Z
 unfolding tally count
 tally-next g ls d n k e c t x r Z i w p qt qx qr =
     rw (qt, qx) (bump-plus (eqb k (keyAt g d (e - 1))) c (count k (keysLeft g d n r)) ∙ sym (sym i ∙ rw (way-cons g ls d n e r w p qr)))
@@ -164,14 +169,18 @@ pub record Skipped (g ls : List ℕ) (d : Bool) (m n : ℕ) (X Y : List ℕ) (a 
   pub right-way : Way g ls d n b
   pub rest : Rest X Y (keysLeft g d m a) (keysLeft g d n b)
 
-module _ (g : List ℕ) (s : Size) (ls : List ℕ) (d : Bool) (m n a b : ℕ) (c : Chains g s ls) (h : m < s .nodes) (k : n < s .nodes) (p : a ≡ firstKey ls d m) (q : b ≡ firstKey ls d n) where
+module _ (g : List ℕ) (s : Size) (ls : List ℕ) (d : Bool) (m n a b : ℕ) (c : Chains g s ls) (h : m < s .nodes) (k : n < s .nodes) (p : a
+    ≡ firstKey ls d m) (q : b ≡ firstKey ls d n) where
   pub skip-start : Skipped g ls d m n (keysLeft g d m a) (keysLeft g d n b) a b
-  skip-start = record { left-way = way-start g s ls d m a c h p; right-way = way-start g s ls d n b c k q; rest = rest-none (keysLeft g d m a) (keysLeft g d n b) }
+  skip-start =
+      record { left-way = way-start g s ls d m a c h p; right-way = way-start g s ls d n b c k q; rest = rest-none (keysLeft g d m a) (keysLeft g d n b) }
 
-  pub skip-done : (x y : ℕ) → Skipped g ls d m n (keysLeft g d m a) (keysLeft g d n b) x y → Skipped g ls d m n (keysIn (graphIn g s) d m) (keysIn (graphIn g s) d n) x y
+  pub skip-done : (x y : ℕ) → Skipped g ls d m n (keysLeft g d m a) (keysLeft g d n b) x y
+      → Skipped g ls d m n (keysIn (graphIn g s) d m) (keysIn (graphIn g s) d n) x y
   skip-done x y S = rw (way-all g s ls d m a c h p, way-all g s ls d n b c k q) at S
 
-pub skip-next : (g ls : List ℕ) (d : Bool) (m n : ℕ) (X Y : List ℕ) (a b x y p q : ℕ) → Skipped g ls d m n X Y a b → 0 < a → (b ≡ 0 → ⊥) → x ≡ y → x ≡ keyAt g d (a - 1) → y ≡ keyAt g d (b - 1) → p ≡ nextKey ls d (a - 1) → q ≡ nextKey ls d (b - 1) → Skipped g ls d m n X Y p q
+pub skip-next : (g ls : List ℕ) (d : Bool) (m n : ℕ) (X Y : List ℕ) (a b x y p q : ℕ) → Skipped g ls d m n X Y a b → 0 < a → (b ≡ 0 → ⊥) → x ≡ y
+    → x ≡ keyAt g d (a - 1) → y ≡ keyAt g d (b - 1) → p ≡ nextKey ls d (a - 1) → q ≡ nextKey ls d (b - 1) → Skipped g ls d m n X Y p q
 skip-next g ls d m n X Y a b x y p q S ha nb e qx qy qp qq =
     let hb : 0 < b = omega (arith, nb) in
     let z : keysLeft g d m a ≡ x ∷ keysLeft g d m p = rw qx (way-cons g ls d m a p (S .left-way) ha qp) in
@@ -190,7 +199,8 @@ skip-less g ls d m n X Y a b p S ha qp = way-less g ls d m a p (S .left-way) ha 
 unfoldable pub evenLeft : List ℕ → Size → Bool → ℕ → ℕ → ℕ → Bool
 evenLeft g s d m n e = evenly (keysIn (graphIn g s) d m) (keysIn (graphIn g s) d n) (keysLeft g d m e)
 
-module _ (g : List ℕ) (s : Size) (ls : List ℕ) (d : Bool) (m n e : ℕ) (Z : Bool) (i : evenLeft g s d m n e ≡ Z) (w : Way g ls d m e) (p : 0 < e) (k x y : ℕ) (qk : k ≡ keyAt g d (e - 1)) (qx : x ≡ count k (keysIn (graphIn g s) d m)) (qy : y ≡ count k (keysIn (graphIn g s) d n)) where
+module _ (g : List ℕ) (s : Size) (ls : List ℕ) (d : Bool) (m n e : ℕ) (Z : Bool) (i : evenLeft g s d m n e ≡ Z) (w : Way g ls d m e) (p : 0
+    < e) (k x y : ℕ) (qk : k ≡ keyAt g d (e - 1)) (qx : x ≡ count k (keysIn (graphIn g s) d m)) (qy : y ≡ count k (keysIn (graphIn g s) d n)) where
   pub even-stop : (x ≡ y → ⊥) → false ≡ Z
   unfolding evenLeft evenly
   even-stop f =
@@ -217,8 +227,10 @@ module _ (g : List ℕ) (s : Size) (ls : List ℕ) (d : Bool) (m n a b : ℕ) (S
       split (eqb b 0)
       (λ t. let y : keysLeft g d n b ≡ [] = way-end g d n b (let h : b ≡ 0 = eqb-true b 0 t in omega arith) in
       t ∙ sym (ended-same (keysIn (graphIn g s) d m) (keysIn (graphIn g s) d n) (rw (x, y) at (S .rest))))
-      (λ t. let y : keysLeft g d n b ≡ keyAt g d (b - 1) ∷ keysLeft g d n (nextKey ls d (b - 1)) = way-cons g ls d n b (nextKey ls d (b - 1)) (S .right-way) (omega (arith, eqb-false b 0 t)) refl in
-      let r : Rest (keysIn (graphIn g s) d m) (keysIn (graphIn g s) d n) [] (keyAt g d (b - 1) ∷ keysLeft g d n (nextKey ls d (b - 1))) = rw (x, y) at (S .rest) in
+      (λ t. let y : keysLeft g d n b ≡ keyAt g d (b - 1) ∷ keysLeft g d n (nextKey ls d (b - 1)) = way-cons g ls d n b (nextKey ls d (b - 1)) (S .right-way)
+      (omega (arith, eqb-false b 0 t)) refl in
+      let r : Rest (keysIn (graphIn g s) d m) (keysIn (graphIn g s) d n) [] (keyAt g d (b - 1) ∷ keysLeft g d n (nextKey ls d (b - 1))) =
+      rw (x, y) at (S .rest) in
       t ∙ sym (long-apart (keysIn (graphIn g s) d m) (keysIn (graphIn g s) d n) (λ q. omega (arith, r .lengths))))
 
   module _ (x y : ℕ) (p : x ≡ length (keysIn (graphIn g s) d m)) (q : y ≡ length (keysIn (graphIn g s) d n)) where
@@ -250,9 +262,22 @@ module _ (G : Graph) (m n : ℕ) (u : Bool) (k : u ≡ sameIn G false m n) where
 pub keys-few : (g : List ℕ) (s : Size) (S : Stored g s) (d : Bool) (n : ℕ) → length (keysIn (graphIn g s) d n) ≤ 1024
 unfolding keysIn outCodes inCodes out into
 keys-few g s S true n =
-    rw length-map (omega (arith, filter-short (λ (e : Edge). eqb (e .source) n) (reverse (graphIn g s .edges)), length-reverse (graphIn g s .edges), edges-count g s S, S .edges-most))
+    rw length-map (omega (
+      arith,
+      filter-short (λ (e : Edge). eqb (e .source) n) (reverse (graphIn g s .edges)),
+      length-reverse (graphIn g s .edges),
+      edges-count g s S,
+      S .edges-most,
+    ))
 keys-few g s S false n =
-    rw length-map (omega (arith, filter-short (λ (e : Edge). eqb (e .target) n) (reverse (graphIn g s .edges)), length-reverse (graphIn g s .edges), edges-count g s S, S .edges-most))
+    rw length-map (omega (
+      arith,
+      filter-short (λ (e : Edge). eqb (e .target) n) (reverse (graphIn g s .edges)),
+      length-reverse (graphIn g s .edges),
+      edges-count g s S,
+      S .edges-most,
+    ))
 
-pub degree-few : (g : List ℕ) (s : Size) (ls : List ℕ) (d : Bool) (n f e r : ℕ) → Chains g s ls → n < s .nodes → f ≡ firstKey ls d n → span g d n e r ≡ span g d n f 0 → e ≤ 0 → r ≤ 1024
+pub degree-few : (g : List ℕ) (s : Size) (ls : List ℕ) (d : Bool) (n f e r : ℕ) → Chains g s ls → n < s .nodes → f ≡ firstKey ls d n
+    → span g d n e r ≡ span g d n f 0 → e ≤ 0 → r ≤ 1024
 degree-few g s ls d n f e r c h q i l = rw (span-end g s ls d n f c h q e r i l) (keys-few g s (c .stored) d n)

@@ -12,16 +12,16 @@ use lib.Seq.{getD-set-same, getD-set-other}
 use lib.Dec.{eqb}
 use borrow.Author.Tests.{eqb-true, eqb-false, eq-eqb, ne-eqb}
 use Rattle.basis.specs.Lists.{filter, eqList, upto}
-use Rattle.basis.specs.Members.{In, split, either, no-both, in-filter}
+use Rattle.basis.specs.Members.{In, split, either, no-both, in-filter, and-true}
 use Rattle.store.specs.declared.ConflictNode.{ConflictNode}
 use Rattle.store.specs.declared.ConflictNode.the-variants as N
 use Rattle.store.specs.declared.Size.{Size}
 use Rattle.store.specs.Graph.{Graph, nodeAt, isSolvable}
 use Rattle.store.specs.Table.{graphIn, nodeIn, Stored, nodes-count, node-in}
 use Rattle.links.specs.Build.{Chains}
-use Rattle.groups.specs.Small.{both, eq-refl, keys-refl, filter-same}
+use Rattle.groups.specs.Small.{eq-refl, keys-refl, filter-same}
 use Rattle.groups.specs.Groups.{sort, outKeys, inKeys, mergesBy, titleOf, matesBy, headOr, leadBy}
-use Rattle.groups.specs.Counts.{Alike, alike, same-row}
+use Rattle.groups.specs.Counts.{NodesAlike, alike, same-row}
 use Rattle.groups.specs.Codes.{stored-ends, in-same, out-same}
 use Rattle.groups.specs.Multi.{sameCodes}
 use Rattle.groups.specs.Keys.{keysIn, sameIn, sameEdges}
@@ -76,7 +76,8 @@ module _ (title : ℕ → List ℕ) (G : Graph) where
   found n m h none e =
       let l = lead-least n m h e in
       split (eqb (leadBy title G n) m) (λ t. eqb-true (leadBy title G n) m t)
-      (λ t. no-both (mergesBy title G (leadBy title G n) n) (l .0) (none .each (leadBy title G n) (let z : leadBy title G n ≤ m = l .1 in omega (arith, eqb-false (leadBy title G n) m t))))
+      (λ t. no-both (mergesBy title G (leadBy title G n) n) (l .0) (none .each (leadBy title G n) (let z : leadBy title G n ≤ m = l .1 in
+      omega (arith, eqb-false (leadBy title G n) m t))))
 
   lead-alone : (n : ℕ) → isSolvable (nodeAt G n) ≡ false → leadBy title G n ≡ n
   unfolding leadBy matesBy mergesBy
@@ -105,7 +106,8 @@ module _ (title : ℕ → List ℕ) (G : Graph) where
           let x : mergesBy title G (leadBy title G m) n ≡ true = sym (same-row title G m n (leadBy title G m) a) ∙ l .0 in
           split (eqb (leadBy title G m) m)
           (λ u. absurd (true≢false (rw (u, t) at e)))
-          (λ u. no-both (mergesBy title G (leadBy title G m) n) x (none .each (leadBy title G m) (let z : leadBy title G m ≤ m = l .1 in omega (arith, eqb-false (leadBy title G m) m u))))
+          (λ u. no-both (mergesBy title G (leadBy title G m) n) x (none .each (leadBy title G m) (let z : leadBy title G m ≤ m = l .1 in
+          omega (arith, eqb-false (leadBy title G m) m u))))
 
       each : (j : ℕ) → j < suc m → mergesBy title G j n ≡ false
       each j l = split (eqb j m) (λ t. rw (eqb-true j m t) (split (mergesBy title G m n) here (λ u. u))) (λ t. none .each j (omega (arith, eqb-false j m t)))
@@ -148,11 +150,12 @@ module _ (ids prints leads : List ℕ) (m n : ℕ) where
   alike-all : alikeOf ids prints leads m n ≡ true → AlikeAll
   unfolding alikeOf
   alike-all e =
-      let x = both (eqb (getD prints m 0) (getD prints n 0)) (eqb (getD ids m 0) (getD ids n 0) && eqb (getD leads m 0) m) e in
-      let y = both (eqb (getD ids m 0) (getD ids n 0)) (eqb (getD leads m 0) m) (x .1) in
+      let x = and-true (eqb (getD prints m 0) (getD prints n 0)) (eqb (getD ids m 0) (getD ids n 0) && eqb (getD leads m 0) m) e in
+      let y = and-true (eqb (getD ids m 0) (getD ids n 0)) (eqb (getD leads m 0) m) (x .1) in
       record { print = eqb-true (getD prints m 0) (getD prints n 0) (x .0); id = eqb-true (getD ids m 0) (getD ids n 0) (y .0); lead = y .1 }
 
-  alike-none : alikeOf ids prints leads m n ≡ false → (getD prints m 0 ≡ getD prints n 0 → ⊥) ⊎ ((getD ids m 0 ≡ getD ids n 0 → ⊥) ⊎ (eqb (getD leads m 0) m ≡ false))
+  alike-none : alikeOf ids prints leads m n ≡ false → (getD prints m 0 ≡ getD prints n 0 → ⊥)
+      ⊎ ((getD ids m 0 ≡ getD ids n 0 → ⊥) ⊎ (eqb (getD leads m 0) m ≡ false))
   unfolding alikeOf
   alike-none e =
       split (eqb (getD prints m 0) (getD prints n 0))
@@ -214,7 +217,8 @@ module _ (g : List ℕ) (s : Size) (ls ids prints leads : List ℕ) (n : ℕ) (R
     unfolding fitsOf titleIn
     fits-unlike t z q =
         either (alike-none ids prints leads m n (sym q ∙ z))
-        (λ f. never-merges (λ e. f (R .printed .print m (omega (arith, R .small)) ∙ merges-print (titleIn ids) (graphIn g s) m n e ∙ sym (R .printed .print n (R .small)))))
+        (λ f. never-merges (λ e. f (R .printed .print m (omega (arith, R .small)) ∙ merges-print (titleIn ids) (graphIn g s) m n e
+        ∙ sym (R .printed .print n (R .small)))))
         (λ f. either f (λ f. never-merges (λ e. f (heads (alike (titleIn ids) (graphIn g s) m n e .titles)))) (λ f. rw f))
       where
         heads : getD ids m 0 ∷ [] ≡ getD ids n 0 ∷ [] → getD ids m 0 ≡ getD ids n 0
@@ -222,10 +226,13 @@ module _ (g : List ℕ) (s : Size) (ls ids prints leads : List ℕ) (n : ℕ) (R
 
     module _ (v : Bool) (k : v ≡ isSolvable (nodeIn g m)) where
       pub fits-kind : v ≡ false → false ≡ fitsOf (graphIn g s) ids leads m n
-      fits-kind w = never-merges (λ e. no-both (isSolvable (nodeAt (graphIn g s) m)) (alike (titleIn ids) (graphIn g s) m n e .left-is) (sym (kind-is m m-node) ∙ sym k ∙ w))
+      fits-kind w =
+          never-merges (λ e. no-both (isSolvable (nodeAt (graphIn g s) m)) (alike (titleIn ids) (graphIn g s) m n e .left-is) (sym (kind-is m m-node) ∙ sym k
+          ∙ w))
 
       -- the full comparison decides
-      pub fits-edges : (r t : Bool) → r ≡ sameEdges (graphIn g s) m n → v ≡ true → t ≡ true → t ≡ alikeOf ids prints leads m n → isSolvable (nodeIn g n) ≡ true → r ≡ fitsOf (graphIn g s) ids leads m n
+      pub fits-edges : (r t : Bool) → r ≡ sameEdges (graphIn g s) m n → v ≡ true → t ≡ true → t ≡ alikeOf ids prints leads m n → isSolvable (nodeIn g n) ≡ true
+          → r ≡ fitsOf (graphIn g s) ids leads m n
       unfolding fitsOf sameEdges sameIn sameCodes keysIn mergesBy titleIn
       fits-edges r t q w z a i =
           let cheap = alike-all ids prints leads m n (sym a ∙ z) in
@@ -257,7 +264,8 @@ module _ (g : List ℕ) (s : Size) (ls ids prints leads : List ℕ) (n : ℕ) (R
     pub lead-found : (t : Bool) → t ≡ true → t ≡ fitsOf (graphIn g s) ids leads m n → m < n → m ≡ leadBy (titleIn ids) (graphIn g s) n
     unfolding fitsOf
     lead-found t z q lt =
-        sym (found (titleIn ids) (graphIn g s) n m (rw count-is (omega (arith, R .node))) none (right (eqb (getD leads m 0) m) (mergesBy (titleIn ids) (graphIn g s) m n) (sym q ∙ z)))
+        sym (found (titleIn ids) (graphIn g s) n m (rw count-is (omega (arith, R .node))) none
+        (right (eqb (getD leads m 0) m) (mergesBy (titleIn ids) (graphIn g s) m n) (sym q ∙ z)))
       where
         right : (a b : Bool) → a && b ≡ true → b ≡ true
         right true b e = e
@@ -282,9 +290,11 @@ unfolding leadsTo
 leads-at title G zero l h j i = absurd (not-suc-le-zero i)
 leads-at title G (suc k) l h j i =
     split (eqb j k) (λ t. rw (eqb-true j k t) (getD-set-same (leadsTo title G k l) k (leadBy title G k) 0 (rw leads-long (omega arith))))
-    (λ t. getD-set-other (leadsTo title G k l) k j (leadBy title G k) 0 (eqb-false j k t) ∙ leads-at title G k l (omega arith) j (omega (arith, eqb-false j k t)))
+    (λ t. getD-set-other (leadsTo title G k l) k j (leadBy title G k) 0 (eqb-false j k t)
+    ∙ leads-at title G k l (omega arith) j (omega (arith, eqb-false j k t)))
 
-pub ready-at : (g : List ℕ) (s : Size) (ls ids prints leads l : List ℕ) (n : ℕ) → leads ≡ leadsTo (titleIn ids) (graphIn g s) n l → Chains g s ls → Printed (graphIn g s) prints → length l ≡ 128 → n < s .nodes → Ready g s ls ids prints leads n
+pub ready-at : (g : List ℕ) (s : Size) (ls ids prints leads l : List ℕ) (n : ℕ) → leads ≡ leadsTo (titleIn ids) (graphIn g s) n l → Chains g s ls
+    → Printed (graphIn g s) prints → length l ≡ 128 → n < s .nodes → Ready g s ls ids prints leads n
 ready-at g s ls ids prints leads l n q c S k h =
     record {
       chains = c;
@@ -294,7 +304,8 @@ ready-at g s ls ids prints leads l n q c S k h =
       small = omega (arith, c .stored .nodes-most);
     }
 
-pub leads-next : (title : ℕ → List ℕ) (G : Graph) (leads l : List ℕ) (n r : ℕ) → leads ≡ leadsTo title G n l → r ≡ leadBy title G n → set leads n r ≡ leadsTo title G (n + 1) l
+pub leads-next : (title : ℕ → List ℕ) (G : Graph) (leads l : List ℕ) (n r : ℕ) → leads ≡ leadsTo title G n l → r ≡ leadBy title G n
+    → set leads n r ≡ leadsTo title G (n + 1) l
 unfolding leadsTo
 leads-next title G leads l n r q e = rw (add-one, q, e)
 
@@ -345,7 +356,8 @@ numbered : (name : ℕ → List ℕ) (G : Graph) (ids : List ℕ) → Numbered n
 unfolding titleIn
 numbered name G ids R = record { same = names }
   where
-    names : (m n : ℕ) → isSolvable (nodeAt G m) ≡ true → isSolvable (nodeAt G n) ≡ true → eqList (getD ids m 0 ∷ []) (getD ids n 0 ∷ []) ≡ eqList (titleOf name G m) (titleOf name G n)
+    names : (m n : ℕ) → isSolvable (nodeAt G m) ≡ true → isSolvable (nodeAt G n) ≡ true
+        → eqList (getD ids m 0 ∷ []) (getD ids n 0 ∷ []) ≡ eqList (titleOf name G m) (titleOf name G n)
     names m n a b =
         let x = solvable-is (nodeAt G m) a in
         let y = solvable-is (nodeAt G n) b in
@@ -354,5 +366,6 @@ numbered name G ids R = record { same = names }
         ∙ ap (λ (u : List ℕ). eqList (titleOf name G m) u) (title-is name G n (y .0) (y .1))
 
 -- what `group` leaves, by the names
-pub leads-named : (name : ℕ → List ℕ) (G : Graph) (ids : List ℕ) (k : ℕ) (l : List ℕ) → Numbered name G ids → leadsTo (titleIn ids) G k l ≡ leadsTo (titleOf name G) G k l
+pub leads-named : (name : ℕ → List ℕ) (G : Graph) (ids : List ℕ) (k : ℕ) (l : List ℕ) → Numbered name G ids
+    → leadsTo (titleIn ids) G k l ≡ leadsTo (titleOf name G) G k l
 leads-named name G ids k l R = leads-same G (titleIn ids) (titleOf name G) (numbered name G ids R) k l

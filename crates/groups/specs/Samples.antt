@@ -30,7 +30,13 @@ other s = cond (eqb s 1) (113 ∷ []) (114 ∷ [])
 
 -- P7: replay 2 and replay 1 are one group
 abbrev p7 : Graph
-p7 = record { nodes = N.Root ∷ N.UnresolvedDependency ∷ N.Solvable 0 ∷ N.Solvable 1 ∷ []; edges = needs 0 0 2 ∷ needs 0 0 3 ∷ needs 2 1 1 ∷ needs 3 1 1 ∷ []; firsts = 65535 ∷ 65535 ∷ 4 ∷ 6 ∷ []; hand = 9 }
+p7 =
+    record {
+      nodes = N.Root ∷ N.UnresolvedDependency ∷ N.Solvable 0 ∷ N.Solvable 1 ∷ [];
+      edges = needs 0 0 2 ∷ needs 0 0 3 ∷ needs 2 1 1 ∷ needs 3 1 1 ∷ [];
+      firsts = 65535 ∷ 65535 ∷ 4 ∷ 6 ∷ [];
+      hand = 9;
+    }
 
 p7-groups : groups one p7 ≡ (2 ∷ 3 ∷ []) ∷ []
 unfolding groups

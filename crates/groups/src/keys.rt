@@ -8,6 +8,8 @@ ghost use Rattle.store.specs.Table.{graphIn};
 ghost use Rattle.links.specs.Build.{Chains};
 ghost use Rattle.groups.specs.Multi.{bump, count};
 ghost use Rattle.groups.specs.Keys.{keysIn, firstKey, nextKey, keyAt, Way, Skipped, evenLeft, sameIn, sameEdges};
+use store::ChainWords;
+use store::GraphWords;
 use store::Size;
 
 // Where two chains go on past equal beginnings.
@@ -22,7 +24,7 @@ fn wide64(x: usize) -> u64
     x as u64
 }
 
-fn first(ls: &[u16; 3456], d: bool, n: usize) -> usize
+fn first(ls: &ChainWords, d: bool, n: usize) -> usize
     ensures { λ r. ⌜ (r ≡ firstKey (now (ls .entry)) d n) × (r < 65536) ⌝ }
 {
     if d {
@@ -31,7 +33,7 @@ fn first(ls: &[u16; 3456], d: bool, n: usize) -> usize
     links::first_in(ls, n)
 }
 
-fn next(ls: &[u16; 3456], d: bool, e: usize) -> usize
+fn next(ls: &ChainWords, d: bool, e: usize) -> usize
     ensures { λ r. ⌜ (r ≡ nextKey (now (ls .entry)) d e) × (r < 65536) ⌝ }
 {
     if d {
@@ -40,7 +42,7 @@ fn next(ls: &[u16; 3456], d: bool, e: usize) -> usize
     links::next_in(ls, e)
 }
 
-pub fn key_at(g: &[u64; 1152], d: bool, e: usize) -> u64
+pub fn key_at(g: &GraphWords, d: bool, e: usize) -> u64
     ensures { λ r. ⌜ (r ≡ keyAt (now (g .entry)) d e) × (r < 33554432) ⌝ }
 {
     let q = store::requires_at(g, e);
@@ -62,7 +64,7 @@ fn is(k: u64, x: u64) -> usize
 }
 
 // How often key k stands among n's.
-fn count_of(g: &[u64; 1152], s: Size, ls: &[u16; 3456], d: bool, n: usize, k: u64) -> usize
+fn count_of(g: &GraphWords, s: Size, ls: &ChainWords, d: bool, n: usize, k: u64) -> usize
     requires { ⌜ Chains (now g) s (now ls) ⌝ }
     requires { ⌜ n < s .nodes ⌝ }
     ensures { λ r. ⌜ r ≡ count k (keysIn (graphIn (now (g .entry)) s) d n) ⌝ }
@@ -79,7 +81,7 @@ fn count_of(g: &[u64; 1152], s: Size, ls: &[u16; 3456], d: bool, n: usize, k: u6
 }
 
 // How many keys n has.
-fn degree(g: &[u64; 1152], s: Size, ls: &[u16; 3456], d: bool, n: usize) -> usize
+fn degree(g: &GraphWords, s: Size, ls: &ChainWords, d: bool, n: usize) -> usize
     requires { ⌜ Chains (now g) s (now ls) ⌝ }
     requires { ⌜ n < s .nodes ⌝ }
     ensures { λ r. ⌜ (r ≡ length (keysIn (graphIn (now (g .entry)) s) d n)) × (r ≤ 1024) ⌝ }
@@ -94,10 +96,11 @@ fn degree(g: &[u64; 1152], s: Size, ls: &[u16; 3456], d: bool, n: usize) -> usiz
     c
 }
 
-fn skip(g: &[u64; 1152], s: Size, ls: &[u16; 3456], d: bool, m: usize, n: usize) -> Ends
+fn skip(g: &GraphWords, s: Size, ls: &ChainWords, d: bool, m: usize, n: usize) -> Ends
     requires { ⌜ Chains (now g) s (now ls) ⌝ }
     requires { ⌜ (m < s .nodes) × (n < s .nodes) ⌝ }
-    ensures { λ r. ⌜ Skipped (now (g .entry)) (now (ls .entry)) d m n (keysIn (graphIn (now (g .entry)) s) d m) (keysIn (graphIn (now (g .entry)) s) d n) (r .left) (r .right) ⌝ }
+    ensures { λ r. ⌜ Skipped (now (g .entry)) (now (ls .entry)) d m n (keysIn (graphIn (now (g .entry)) s) d m) (keysIn (graphIn (now (g .entry)) s) d n)
+        (r .left) (r .right) ⌝ }
 {
     let mut a = first(ls, d, m);
     let mut b = first(ls, d, n);
@@ -120,9 +123,9 @@ fn skip(g: &[u64; 1152], s: Size, ls: &[u16; 3456], d: bool, m: usize, n: usize)
 
 // Every key of m's from a on stands as often among n's as among m's.
 fn even_from(
-    g: &[u64; 1152],
+    g: &GraphWords,
     s: Size,
-    ls: &[u16; 3456],
+    ls: &ChainWords,
     d: bool,
     m: usize,
     n: usize,
@@ -148,7 +151,7 @@ fn even_from(
 }
 
 // m's and n's keys are equal as sorted lists.
-fn same_keys(g: &[u64; 1152], s: Size, ls: &[u16; 3456], d: bool, m: usize, n: usize) -> bool
+fn same_keys(g: &GraphWords, s: Size, ls: &ChainWords, d: bool, m: usize, n: usize) -> bool
     requires { ⌜ Chains (now g) s (now ls) ⌝ }
     requires { ⌜ (m < s .nodes) × (n < s .nodes) ⌝ }
     ensures { λ r. ⌜ r ≡ sameIn (graphIn (now (g .entry)) s) d m n ⌝ }
@@ -168,7 +171,7 @@ fn same_keys(g: &[u64; 1152], s: Size, ls: &[u16; 3456], d: bool, m: usize, n: u
 }
 
 // The full comparison: m's and n's incoming and outgoing edges are equal as sorted lists.
-pub fn same_edges(g: &[u64; 1152], s: Size, ls: &[u16; 3456], m: usize, n: usize) -> bool
+pub fn same_edges(g: &GraphWords, s: Size, ls: &ChainWords, m: usize, n: usize) -> bool
     requires { ⌜ Chains (now g) s (now ls) ⌝ }
     requires { ⌜ (m < s .nodes) × (n < s .nodes) ⌝ }
     ensures { λ r. ⌜ r ≡ sameEdges (graphIn (now (g .entry)) s) m n ⌝ }

@@ -10,10 +10,13 @@ ghost use Rattle.links.specs.Build.{Chains};
 ghost use Rattle.groups.specs.Groups.{leadBy};
 ghost use Rattle.groups.specs.Prints.{Printed};
 ghost use Rattle.groups.specs.Leads.{titleIn, leadsTo, Ready, alikeOf, fitsOf};
+use store::ChainWords;
+use store::GraphWords;
+use store::PerNode;
 use store::Size;
 
 // What costs little: the same fingerprint, the same name, and m a first member.
-fn alike(ids: &[u16; 128], prints: &[u32; 128], leads: &[u16; 128], m: usize, n: usize) -> bool
+fn alike(ids: &PerNode, prints: &[u32; 128], leads: &PerNode, m: usize, n: usize) -> bool
     requires { ⌜ (m < n) × (n < 128) ⌝ }
     ensures { λ r. ⌜ r ≡ alikeOf (now (ids .entry)) (now (prints .entry)) (now (leads .entry)) m n ⌝ }
 {
@@ -29,12 +32,12 @@ fn alike(ids: &[u16; 128], prints: &[u32; 128], leads: &[u16; 128], m: usize, n:
 
 // m is a first member, and merges with the later node n, a solvable.
 fn fits(
-    g: &[u64; 1152],
+    g: &GraphWords,
     s: Size,
-    ls: &[u16; 3456],
-    ids: &[u16; 128],
+    ls: &ChainWords,
+    ids: &PerNode,
     prints: &[u32; 128],
-    leads: &[u16; 128],
+    leads: &PerNode,
     m: usize,
     n: usize,
 ) -> bool
@@ -56,12 +59,12 @@ fn fits(
 
 // The first member of node n, a solvable, among the nodes before it.
 fn first_fit(
-    g: &[u64; 1152],
+    g: &GraphWords,
     s: Size,
-    ls: &[u16; 3456],
-    ids: &[u16; 128],
+    ls: &ChainWords,
+    ids: &PerNode,
     prints: &[u32; 128],
-    leads: &[u16; 128],
+    leads: &PerNode,
     n: usize,
 ) -> usize
     requires { ⌜ Ready (now g) s (now ls) (now ids) (now prints) (now leads) n ⌝ }
@@ -81,12 +84,12 @@ fn first_fit(
 
 // Node n's first member: itself where no earlier node has its fingerprint.
 fn lead_of(
-    g: &[u64; 1152],
+    g: &GraphWords,
     s: Size,
-    ls: &[u16; 3456],
-    ids: &[u16; 128],
+    ls: &ChainWords,
+    ids: &PerNode,
     prints: &[u32; 128],
-    leads: &[u16; 128],
+    leads: &PerNode,
     n: usize,
 ) -> usize
     requires { ⌜ Ready (now g) s (now ls) (now ids) (now prints) (now leads) n ⌝ }
@@ -104,12 +107,12 @@ fn lead_of(
 }
 
 pub fn lead_all(
-    g: &[u64; 1152],
+    g: &GraphWords,
     s: Size,
-    ls: &[u16; 3456],
-    ids: &[u16; 128],
+    ls: &ChainWords,
+    ids: &PerNode,
     prints: &[u32; 128],
-    leads: &mut [u16; 128],
+    leads: &mut PerNode,
 )
     requires { ⌜ Chains (now g) s (now ls) ⌝ }
     requires { ⌜ Printed (graphIn (now g) s) (now prints) ⌝ }

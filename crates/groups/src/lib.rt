@@ -9,14 +9,17 @@ ghost use lib.ListN.{length, replicate};
 ghost use Rattle.store.specs.Table.{graphIn};
 ghost use Rattle.links.specs.Build.{Chains};
 ghost use Rattle.groups.specs.Leads.{titleIn, leadsTo};
+use store::ChainWords;
+use store::GraphWords;
+use store::PerNode;
 use store::Size;
 
 fn group_in(
-    g: &[u64; 1152],
+    g: &GraphWords,
     s: Size,
-    ls: &[u16; 3456],
-    ids: &[u16; 128],
-    leads: &mut [u16; 128],
+    ls: &ChainWords,
+    ids: &PerNode,
+    leads: &mut PerNode,
     prints: &mut [u32; 128],
 )
     requires { ⌜ Chains (now g) s (now ls) ⌝ }
@@ -30,7 +33,7 @@ fn group_in(
 
 // Each node's first member, its own number where it is unmerged. `ids` gives each solvable node a number that is equal where
 // the texts of the names are. Entries past the last node stay.
-pub fn group(g: &[u64; 1152], s: Size, ls: &[u16; 3456], ids: &[u16; 128], leads: &mut [u16; 128])
+pub fn group(g: &GraphWords, s: Size, ls: &ChainWords, ids: &PerNode, leads: &mut PerNode)
     requires { ⌜ Chains (now g) s (now ls) ⌝ }
     requires { ⌜ length (now leads) ≡ 128 ⌝ }
     ensures { λ _. ⌜ now (leads .exit) ≡ leadsTo (titleIn (now (ids .entry))) (graphIn (now (g .entry)) s) (s .nodes) (now (leads .entry)) ⌝ }

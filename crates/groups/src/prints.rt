@@ -8,6 +8,7 @@ ghost use Rattle.store.specs.Table.{graphIn, Stored};
 ghost use Rattle.groups.specs.Multi.{bump};
 ghost use Rattle.groups.specs.Prints.{mixOf, Printed};
 ghost use Rattle.groups.specs.Laws.Prints.{squareOf, plusAt, plusEdge, twinsTo};
+use store::GraphWords;
 use store::Size;
 
 fn square(x: u64) -> u32
@@ -39,7 +40,7 @@ fn add(prints: &mut [u32; 128], n: usize, t: u32)
 }
 
 // Edge e's numbers, to both its ends.
-fn add_edge(g: &[u64; 1152], s: Size, prints: &mut [u32; 128], e: usize)
+fn add_edge(g: &GraphWords, s: Size, prints: &mut [u32; 128], e: usize)
     requires { ⌜ Stored (now g) s ⌝ }
     requires { ⌜ e < s .edges ⌝ }
     requires { ⌜ length (now prints) ≡ 128 ⌝ }
@@ -55,7 +56,7 @@ fn add_edge(g: &[u64; 1152], s: Size, prints: &mut [u32; 128], e: usize)
     add(prints, b, u);
 }
 
-pub fn print_all(g: &[u64; 1152], s: Size, prints: &mut [u32; 128])
+pub fn print_all(g: &GraphWords, s: Size, prints: &mut [u32; 128])
     requires { ⌜ Stored (now g) s ⌝ }
     requires { ⌜ now prints ≡ replicate 128 0 ⌝ }
     ensures { λ _. ⌜ Printed (graphIn (now (g .entry)) s) (now (prints .exit)) ⌝ }

@@ -16,12 +16,12 @@ use Rattle.records.specs.declared.Table.{Table}
 use Rattle.records.specs.declared.Table.the-variants.{Names, Solvables, VersionSets, Requirements, Candidates, Reasons, Variables, Assigned, Clauses}
 use Rattle.records.specs.Shapes.{Rec, recordsOf, limit}
 use Rattle.records.specs.Tables.{Tables, tableOf, at, noRec}
-use Rattle.records.specs.Read.{shown, readOf, good, tablesOf}
+use Rattle.records.specs.Read.{recText, readOf, good, tablesOf}
 use Rattle.records.specs.Views.{assignedBy}
 use Rattle.records.specs.Cut.{cut-past}
 use Rattle.index.specs.Steps.{read-accepted, isIn, table-is}
 use Rattle.index.specs.Promise.{Valid, sound-assigned, promise}
-use Rattle.index.specs.Index.{Based, Loaded, base, wanted, marksBy, markOf, markIn, before, placed, recordNo}
+use Rattle.index.specs.Index.{Based, Loaded, base, wanted, marksBy, foundMark, markIn, before, placed, recordNo}
 
 pub loaded-good : (file ix : List ℕ) → Loaded file ix → readOf file ≡ good (tablesOf file)
 loaded-good file ix l = l .based .accepted
@@ -41,14 +41,16 @@ abbrev recBy : List Rec → ℕ → Rec
 recBy all zero = noRec
 recBy all (suc i) = at all i
 
-marks-rec : (p : Rec → Bool) (rs : List Rec) (j : ℕ) (all : List Rec) → ((i : ℕ) → at rs i ≡ at all (j + i)) → (n : ℕ) → recBy all (getD (marksBy p rs j) n 0) ≡ at (filter p rs) n
+marks-rec : (p : Rec → Bool) (rs : List Rec) (j : ℕ) (all : List Rec) → ((i : ℕ) → at rs i ≡ at all (j + i)) → (n : ℕ)
+    → recBy all (getD (marksBy p rs j) n 0) ≡ at (filter p rs) n
 unfolding marksBy
 marks-rec p [] j all h n = ap (recBy all) (List·getD-eq-default [] 0 {n = n} (omega arith)) ∙ sym (List·getD-eq-default [] noRec {n = n} (omega arith))
 marks-rec p (r ∷ rs) j all h n =
     let next : (i : ℕ) → at rs i ≡ at all (suc j + i) = λ i. let e : j + suc i ≡ suc j + i = omega arith in rw e at (h (suc i)) in
     split (p r) (λ q. rw (q, marksBy, filter) (here n (marks-rec p rs (suc j) all next))) (λ q. rw (q, marksBy, filter) (marks-rec p rs (suc j) all next n))
   where
-    here : (n : ℕ) → ((n : ℕ) → recBy all (getD (marksBy p rs (suc j)) n 0) ≡ at (filter p rs) n) → recBy all (getD (suc j ∷ marksBy p rs (suc j)) n 0) ≡ at (r ∷ filter p rs) n
+    here : (n : ℕ) → ((n : ℕ) → recBy all (getD (marksBy p rs (suc j)) n 0) ≡ at (filter p rs) n)
+        → recBy all (getD (suc j ∷ marksBy p rs (suc j)) n 0) ≡ at (r ∷ filter p rs) n
     here zero more = let e : j + 0 ≡ j = omega arith in sym (rw e at (h 0))
     here (suc n) more = more n
 
@@ -63,7 +65,8 @@ module _ (file ix : List ℕ) (l : Based file ix) where
   picked zero = past 2048 (omega arith)
   picked (suc i) = refl
 
-  pub found : (t : Table) (n : ℕ) → ((k : ℕ) → wanted t (recordsOf file) k ≡ getD (marksBy (isIn t) (recordsOf file) 0) k 0) → at (recordsOf file) (recordNo (base t) (limit t) ix n) ≡ at (tableOf t (tablesOf file)) n
+  pub found : (t : Table) (n : ℕ) → ((k : ℕ) → wanted t (recordsOf file) k ≡ getD (marksBy (isIn t) (recordsOf file) 0) k 0)
+      → at (recordsOf file) (recordNo (base t) (limit t) ix n) ≡ at (tableOf t (tablesOf file)) n
   unfolding recordNo placed
   found t n w =
       split (ltb n (limit t))
@@ -81,20 +84,24 @@ module _ (file ix : List ℕ) (l : Based file ix) where
   through f t w k n i x e q z = rw (← z) (e ∙ ap f (ap (at (recordsOf file)) q ∙ found t k w))
 
 module _ (file ix : List ℕ) (l : Loaded file ix) where
-  pub name-text : (k n i : ℕ) (x : List ℕ) → x ≡ shown (at (recordsOf file) i) → i ≡ recordNo 0 128 ix k → k ≡ n → x ≡ shown (at (tablesOf file .names) n)
-  name-text = through file ix (l .based) (λ r. shown r) Names (λ j. refl)
+  pub name-text : (k n i : ℕ) (x : List ℕ) → x ≡ recText (at (recordsOf file) i) → i ≡ recordNo 0 128 ix k → k ≡ n → x ≡ recText (at (tablesOf file .names) n)
+  name-text = through file ix (l .based) (λ r. recText r) Names (λ j. refl)
 
-  pub version-text : (k n i : ℕ) (x : List ℕ) → x ≡ shown (at (recordsOf file) i) → i ≡ recordNo 128 256 ix k → k ≡ n → x ≡ shown (at (tablesOf file .solvables) n)
-  version-text = through file ix (l .based) (λ r. shown r) Solvables (λ j. refl)
+  pub version-text : (k n i : ℕ) (x : List ℕ) → x ≡ recText (at (recordsOf file) i) → i ≡ recordNo 128 256 ix k → k ≡ n
+      → x ≡ recText (at (tablesOf file .solvables) n)
+  version-text = through file ix (l .based) (λ r. recText r) Solvables (λ j. refl)
 
-  pub set-text : (k n i : ℕ) (x : List ℕ) → x ≡ shown (at (recordsOf file) i) → i ≡ recordNo 384 256 ix k → k ≡ n → x ≡ shown (at (tablesOf file .versionSets) n)
-  set-text = through file ix (l .based) (λ r. shown r) VersionSets (λ j. refl)
+  pub set-text : (k n i : ℕ) (x : List ℕ) → x ≡ recText (at (recordsOf file) i) → i ≡ recordNo 384 256 ix k → k ≡ n
+      → x ≡ recText (at (tablesOf file .versionSets) n)
+  set-text = through file ix (l .based) (λ r. recText r) VersionSets (λ j. refl)
 
-  pub requirement-text : (k n i : ℕ) (x : List ℕ) → x ≡ shown (at (recordsOf file) i) → i ≡ recordNo 640 256 ix k → k ≡ n → x ≡ shown (at (tablesOf file .requirements) n)
-  requirement-text = through file ix (l .based) (λ r. shown r) Requirements (λ j. refl)
+  pub requirement-text : (k n i : ℕ) (x : List ℕ) → x ≡ recText (at (recordsOf file) i) → i ≡ recordNo 640 256 ix k → k ≡ n
+      → x ≡ recText (at (tablesOf file .requirements) n)
+  requirement-text = through file ix (l .based) (λ r. recText r) Requirements (λ j. refl)
 
-  pub reason-text : (k n i : ℕ) (x : List ℕ) → x ≡ shown (at (recordsOf file) i) → i ≡ recordNo 1920 64 ix k → k ≡ n → x ≡ shown (at (tablesOf file .reasons) n)
-  reason-text = through file ix (l .based) (λ r. shown r) Reasons (λ j. refl)
+  pub reason-text : (k n i : ℕ) (x : List ℕ) → x ≡ recText (at (recordsOf file) i) → i ≡ recordNo 1920 64 ix k → k ≡ n
+      → x ≡ recText (at (tablesOf file .reasons) n)
+  reason-text = through file ix (l .based) (λ r. recText r) Reasons (λ j. refl)
 
   pub solvable-name : (k n i : ℕ) (x : ℕ) → x ≡ (at (recordsOf file) i) .b → i ≡ recordNo 128 256 ix k → k ≡ n → x ≡ (at (tablesOf file .solvables) n) .b
   solvable-name = through file ix (l .based) (λ r. r .b) Solvables (λ j. refl)
@@ -131,20 +138,20 @@ mark-is : (T : Tables) (v : ℕ) → markIn (T .assigned) v ≡ assignedMark T v
 unfolding markIn assignedMark assignedBy
 mark-is T v = go (first (λ g. eqb (g .a) v) (T .assigned))
   where
-    go : (o : Option Rec) → markOf o ≡ after (clauseBy o)
+    go : (o : Option Rec) → foundMark o ≡ after (clauseBy o)
     go none = refl
     go (some g) = refl
 
 pub mark-hit : (g : Rec) (gs : List Rec) (v : ℕ) → eqb (g .a) v ≡ true → markIn (g ∷ gs) v ≡ suc (g .b)
 unfolding markIn
-mark-hit g gs v q = ap markOf (first-hit q)
+mark-hit g gs v q = ap foundMark (first-hit q)
   where
     first-hit : eqb (g .a) v ≡ true → first (λ h. eqb (h .a) v) (g ∷ gs) ≡ some g
     first-hit q = rw (q, first)
 
 pub mark-miss : (g : Rec) (gs : List Rec) (v : ℕ) → eqb (g .a) v ≡ false → markIn (g ∷ gs) v ≡ markIn gs v
 unfolding markIn
-mark-miss g gs v q = ap markOf (first-miss q)
+mark-miss g gs v q = ap foundMark (first-miss q)
   where
     first-miss : eqb (g .a) v ≡ false → first (λ h. eqb (h .a) v) (g ∷ gs) ≡ first (λ h. eqb (h .a) v) gs
     first-miss q = rw (q, first)
@@ -166,11 +173,13 @@ assigned-right T v i h = sound-assigned T i (at (T .assigned) i) v (v .sound Ass
 
 mark-small : (T : Tables) → Valid T → (v : ℕ) → markIn (T .assigned) v ≤ 1024
 mark-small T w v =
-    either (mark-some (T .assigned) v) (λ z. omega arith) (λ o. let b : at (T .assigned) (o .0) .b < 1024 = assigned-right T w (o .0) (o .1) .1 in let e : markIn (T .assigned) v ≡ suc (at (T .assigned) (o .0) .b) = o .3 in omega arith)
+    either (mark-some (T .assigned) v) (λ z. omega arith) (λ o. let b : at (T .assigned) (o .0) .b < 1024 = assigned-right T w (o .0) (o .1) .1 in
+    let e : markIn (T .assigned) v ≡ suc (at (T .assigned) (o .0) .b) = o .3 in omega arith)
 
 mark-past : (T : Tables) → Valid T → (v : ℕ) → 1024 ≤ v → markIn (T .assigned) v ≡ 0
 mark-past T w v h =
-    either (mark-some (T .assigned) v) (λ z. z) (λ o. let a : at (T .assigned) (o .0) .a < 1024 = assigned-right T w (o .0) (o .1) .0 in let e : at (T .assigned) (o .0) .a ≡ v = o .2 in omega arith)
+    either (mark-some (T .assigned) v) (λ z. z) (λ o. let a : at (T .assigned) (o .0) .a < 1024 = assigned-right T w (o .0) (o .1) .0 in
+    let e : at (T .assigned) (o .0) .a ≡ v = o .2 in omega arith)
 
 module _ (file ix : List ℕ) (l : Loaded file ix) where
   pub assigned-mark : (k v r : ℕ) → r ≡ placed 3008 1024 ix k → k ≡ v → r ≡ assignedMark (tablesOf file) v

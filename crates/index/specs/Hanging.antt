@@ -17,7 +17,8 @@ use Rattle.records.specs.Shapes.{recordsOf, limit}
 use Rattle.records.specs.Tables.{Tables, at}
 use Rattle.records.specs.Read.{readOf, good, tablesOf}
 use Rattle.index.specs.Promise.{Valid, promise}
-use Rattle.index.specs.Index.{base, Based, Loaded, Blank, Hangs, indexOf, numbered, noPlaces, linkOf, hung, recordNo, keyIn, candidateLay, partnerLay, candidateKey, partnerKey, candidatesHung, partnersHung}
+use Rattle.index.specs.Index.{base, Based, Loaded, Blank, Hangs, indexOf, numbered, noPlaces, linkOf, hung, recordNo, keyIn, candidateLay, partnerLay}
+use Rattle.index.specs.Index.{candidateKey, partnerKey, candidatesHung, partnersHung}
 use Rattle.index.specs.Found.{found}
 use Rattle.index.specs.Regions.{below-chains}
 use Rattle.index.specs.Loading.{numbers-hold}
@@ -58,7 +59,8 @@ record From (L : Layout) (key : ℕ → ℕ) (m j : ℕ) (ix : List ℕ) : Type 
   head : (n : ℕ) → n < L .keys → getD ix (L .heads + n) 0 ≡ oldest key j m n
   link : (k : ℕ) → k < L .items → getD ix (L .links + k) 0 ≡ cond (leb j k) (linkOf key (L .keys) m k) 0
 
-from-none : (L : Layout) (key : ℕ → ℕ) (m : ℕ) (ix : List ℕ) → ((n : ℕ) → n < L .keys → getD ix (L .heads + n) 0 ≡ 0) → ((k : ℕ) → k < L .items → getD ix (L .links + k) 0 ≡ 0) → From L key m m ix
+from-none : (L : Layout) (key : ℕ → ℕ) (m : ℕ) (ix : List ℕ) → ((n : ℕ) → n < L .keys → getD ix (L .heads + n) 0 ≡ 0)
+    → ((k : ℕ) → k < L .items → getD ix (L .links + k) 0 ≡ 0) → From L key m m ix
 unfolding linkOf
 from-none L key m ix h l = record { head = λ n k. h n k ∙ sym (oldest-past key m m n (omega arith)); link = λ k s. l k s ∙ sym (none k) }
   where
@@ -71,7 +73,8 @@ from-none L key m ix h l = record { head = λ n k. h n k ∙ sym (oldest-past ke
 from-all : (L : Layout) (key : ℕ → ℕ) (m : ℕ) (ix : List ℕ) → From L key m 0 ix → Hangs L key m ix
 from-all L key m ix f = record { head = f .head; link = λ k h. f .link k h ∙ rw (le-leb 0 k (omega arith)) }
 
-module _ (L : Layout) (F : Fits L) (key : ℕ → ℕ) (m i : ℕ) (ix : List ℕ) (wide : length ix ≡ L .size) (im : i < m) (mm : m ≤ L .items) (f : From L key m (suc i) ix) where
+module _ (L : Layout) (F : Fits L) (key : ℕ → ℕ) (m i : ℕ) (ix : List ℕ) (wide : length ix ≡ L .size) (im : i < m) (mm : m
+    ≤ L .items) (f : From L key m (suc i) ix) where
   shift : (k : ℕ) → (k ≡ i → ⊥) → cond (leb (suc i) k) (linkOf key (L .keys) m k) 0 ≡ cond (leb i k) (linkOf key (L .keys) m k) 0
   shift k d =
       split (leb i k)
@@ -90,12 +93,14 @@ module _ (L : Layout) (F : Fits L) (key : ℕ → ℕ) (m i : ℕ) (ix : List �
           split (eqb (key i) n)
           (λ t. let z : n ≡ key i = sym (eqb-true (key i) n t) in rw (oldest-hit key i m n im t, z) (linked-head L F ix wide i (key i) small known))
           (λ t. rw (oldest-miss key i m n im t)
-          (linked-else L F ix wide i (key i) small known (L .heads + n) (λ z. F .apart i n small h (sym z)) (λ z. eqb-false (key i) n t (omega arith)) ∙ f .head n h))
+          (linked-else L F ix wide i (key i) small known (L .heads + n) (λ z. F .apart i n small h (sym z)) (λ z. eqb-false (key i) n t (omega arith))
+          ∙ f .head n h))
 
       links : (k : ℕ) → k < L .items → getD (linked L ix i (key i)) (L .links + k) 0 ≡ cond (leb i k) (linkOf key (L .keys) m k) 0
       links k h =
           split (eqb k i)
-          (λ t. rw (eqb-true k i t, le-leb i i (omega arith), lt-ltb (key i) (L .keys) known) (linked-link L F ix wide i (key i) small known ∙ f .head (key i) known))
+          (λ t. rw (eqb-true k i t, le-leb i i (omega arith), lt-ltb (key i) (L .keys) known) (linked-link L F ix wide i (key i) small known
+          ∙ f .head (key i) known))
           (λ t. linked-else L F ix wide i (key i) small known (L .links + k) (λ z. eqb-false k i t (omega arith)) (F .apart k (key i) h known)
           ∙ f .link k h ∙ shift k (eqb-false k i t))
 
@@ -138,7 +143,8 @@ record Spans (L : Layout) (lo hi : ℕ) : Type 0 where
   heads-from : lo ≤ L .heads
   heads-to : L .heads + L .keys ≤ hi
 
-within-hung : (L : Layout) (F : Fits L) (lo hi : ℕ) → Spans L lo hi → (ix : List ℕ) → length ix ≡ L .size → (n k : ℕ) → k < L .items → Within lo hi ix (hung L n ix k)
+within-hung : (L : Layout) (F : Fits L) (lo hi : ℕ) → Spans L lo hi → (ix : List ℕ) → length ix ≡ L .size → (n k : ℕ) → k < L .items
+    → Within lo hi ix (hung L n ix k)
 unfolding hung
 within-hung L F lo hi s ix w n k h =
     split (ltb n (L .keys))
@@ -189,8 +195,10 @@ module _ (file : List ℕ) where
   candidates-hold m zero ix h l b f = record { still = b; hangs = f; inside = within-none 5056 6336 ix }
   candidates-hold m (suc k) ix h l b f =
       let iy : List ℕ = hung candidateLay (at (recordsOf file) (recordNo 896 1024 ix k) .a) ix k in
-      let q : Within 5056 6336 ix iy = within-hung candidateLay candidate-fits 5056 6336 candidate-spans ix (b .wide) (at (recordsOf file) (recordNo 896 1024 ix k) .a) k (omega arith) in
-      let g : From candidateLay (candidateKey (tablesOf file)) m k iy = rw (reads-candidate ix b k) (from-hung candidateLay candidate-fits (candidateKey (tablesOf file)) m k ix (b .wide) h l f) in
+      let q : Within 5056 6336 ix iy = within-hung candidateLay candidate-fits 5056 6336 candidate-spans ix (b .wide)
+      (at (recordsOf file) (recordNo 896 1024 ix k) .a) k (omega arith) in
+      let g : From candidateLay (candidateKey (tablesOf file)) m k iy =
+      rw (reads-candidate ix b k) (from-hung candidateLay candidate-fits (candidateKey (tablesOf file)) m k ix (b .wide) h l f) in
       let r = candidates-hold m k iy (omega arith) l (based-within file ix iy 5056 6336 (omega arith) q b) g in
       record { still = r .still; hangs = r .hangs; inside = within-twice 5056 6336 ix iy (candidatesHung file k iy) q (r .inside) }
 
@@ -200,18 +208,22 @@ module _ (file : List ℕ) where
   partners-hold m zero ix h l b f = record { still = b; hangs = f; inside = within-none 6336 10432 ix }
   partners-hold m (suc k) ix h l b f =
       let iy : List ℕ = hung partnerLay (keyIn (at (recordsOf file) (recordNo 4032 1024 ix k))) ix k in
-      let q : Within 6336 10432 ix iy = within-hung partnerLay partner-fits 6336 10432 partner-spans ix (b .wide) (keyIn (at (recordsOf file) (recordNo 4032 1024 ix k))) k (omega arith) in
-      let g : From partnerLay (partnerKey (tablesOf file)) m k iy = rw (reads-partner ix b k) (from-hung partnerLay partner-fits (partnerKey (tablesOf file)) m k ix (b .wide) h l f) in
+      let q : Within 6336 10432 ix iy = within-hung partnerLay partner-fits 6336 10432 partner-spans ix (b .wide)
+      (keyIn (at (recordsOf file) (recordNo 4032 1024 ix k))) k (omega arith) in
+      let g : From partnerLay (partnerKey (tablesOf file)) m k iy = rw (reads-partner ix b k)
+      (from-hung partnerLay partner-fits (partnerKey (tablesOf file)) m k ix (b .wide) h l f) in
       let r = partners-hold m k iy (omega arith) l (based-within file ix iy 6336 10432 (omega arith) q b) g in
       record { still = r .still; hangs = r .hangs; inside = within-twice 6336 10432 ix iy (partnersHung file k iy) q (r .inside) }
 
 -- ---- the whole
 
-hangs-low : (L : Layout) (key : ℕ → ℕ) (m lo hi : ℕ) (ix iy : List ℕ) → L .links + L .items ≤ lo → L .heads + L .keys ≤ lo → Within lo hi ix iy → Hangs L key m ix → Hangs L key m iy
+hangs-low : (L : Layout) (key : ℕ → ℕ) (m lo hi : ℕ) (ix iy : List ℕ) → L .links + L .items ≤ lo → L .heads + L .keys ≤ lo → Within lo hi ix iy
+    → Hangs L key m ix → Hangs L key m iy
 hangs-low L key m lo hi ix iy a b q h =
     record { head = λ n k. q .low (L .heads + n) (omega arith) ∙ h .head n k; link = λ n k. q .low (L .links + n) (omega arith) ∙ h .link n k }
 
-pub loaded : (file ix : List ℕ) → readOf file ≡ good (tablesOf file) → Blank ix → Loaded file (indexOf file (length (tablesOf file .candidates)) (length (tablesOf file .clauses)) ix)
+pub loaded : (file ix : List ℕ) → readOf file ≡ good (tablesOf file) → Blank ix
+    → Loaded file (indexOf file (length (tablesOf file .candidates)) (length (tablesOf file .clauses)) ix)
 unfolding indexOf
 loaded file ix e z =
     let T : Tables = tablesOf file in
@@ -227,9 +239,12 @@ loaded file ix e z =
     (from-none candidateLay (candidateKey T) mc i0 (λ a h. free (5056 + a) (omega arith)) (λ a h. free (5312 + a) (omega arith))) in
     let p = partners-hold file mp mp i1 (omega arith) (v .within Clauses) (c .still)
     (from-none partnerLay (partnerKey T) mp i1
-    (λ a h. c .inside .high (6336 + a) (omega arith) ∙ free (6336 + a) (omega arith)) (λ a h. c .inside .high (9408 + a) (omega arith) ∙ free (9408 + a) (omega arith))) in
+    (λ a h. c .inside .high (6336 + a) (omega arith) ∙ free (6336 + a) (omega arith)) (λ a h. c .inside .high (9408 + a) (omega arith)
+    ∙ free (9408 + a) (omega arith))) in
     record {
       based = p .still;
-      candidates = hangs-low candidateLay (candidateKey T) mc 6336 10432 i1 i2 (omega arith) (omega arith) (p .inside) (from-all candidateLay (candidateKey T) mc i1 (c .hangs));
+      candidates =
+          hangs-low candidateLay (candidateKey T) mc 6336 10432 i1 i2 (omega arith) (omega arith) (p .inside)
+          (from-all candidateLay (candidateKey T) mc i1 (c .hangs));
       partners = from-all partnerLay (partnerKey T) mp i2 (p .hangs);
     }

@@ -13,8 +13,8 @@ use Rattle.basis.specs.Members.{split}
 use Rattle.basis.specs.Chains.{Layout, linked, oldest}
 use Rattle.records.specs.declared.Table.{Table}
 use Rattle.records.specs.declared.Table.the-variants.{Names, Solvables, VersionSets, Requirements, Candidates, Reasons, Variables, Assigned, Clauses}
-use Rattle.records.specs.declared.Answer.{Answer}
-use Rattle.records.specs.declared.Answer.the-variants.{Accepted, Refused}
+use Rattle.records.specs.declared.ReadAnswer.{ReadAnswer}
+use Rattle.records.specs.declared.ReadAnswer.the-variants.{Accepted, Refused}
 use Rattle.records.specs.Shapes.{Rec, recordsOf, limit}
 use Rattle.records.specs.Tables.{Tables, at}
 use Rattle.records.specs.Read.{readOf, good, tablesOf}
@@ -66,12 +66,12 @@ marksBy p [] j = []
 marksBy p (r ∷ rs) j = elim (p r) [ true ↦ suc j ∷ marksBy p rs (suc j) | false ↦ marksBy p rs (suc j) ]
 
 -- "8 assigned-by, a variable, b clause number": the clause, plus one, of the first record 8 of a variable
-abbrev pub markOf : Option Rec → ℕ
-markOf none = 0
-markOf (some g) = suc (g .b)
+abbrev pub foundMark : Option Rec → ℕ
+foundMark none = 0
+foundMark (some g) = suc (g .b)
 
 unfoldable pub markIn : List Rec → ℕ → ℕ
-markIn gs v = markOf (first (λ g. eqb (g .a) v) gs)
+markIn gs v = foundMark (first (λ g. eqb (g .a) v) gs)
 
 -- place k of a table's region, for the records rs
 abbrev pub wanted : Table → List Rec → ℕ → ℕ
@@ -112,7 +112,7 @@ pub record Blank (ix : List ℕ) : Type 0 where
   pub zeros : (s : ℕ) → getD ix s 0 ≡ 0
 
 -- what `load` leaves in the index
-abbrev pub Held : Answer → List ℕ → List ℕ → List ℕ → Type 0
+abbrev pub Held : ReadAnswer → List ℕ → List ℕ → List ℕ → Type 0
 Held (Accepted c) file ix₀ ix₁ = Loaded file ix₁
 Held (Refused k i) file ix₀ ix₁ = ix₁ ≡ ix₀
 

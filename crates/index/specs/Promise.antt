@@ -13,7 +13,7 @@ use lib.Seq.{getD-append-seam}
 use lib.Dec.{leb, ltb, eqb}
 use borrow.Author.Tests.{eqb-true, leb-true, ltb-true, ltb-false, eq-eqb, ne-eqb, not-true}
 use Rattle.basis.specs.Lists.{snoc, any, all}
-use Rattle.basis.specs.Members.{split, clash, In, All, Distinct, either, no-both, in-append}
+use Rattle.basis.specs.Members.{split, clash, In, All, Distinct, either, no-both, in-append, and-true}
 use Rattle.basis.specs.Limit.{grow}
 use Rattle.records.specs.declared.Table.{Table}
 use Rattle.records.specs.declared.Table.the-variants.{Names, Solvables, Variables, Assigned, Clauses}
@@ -24,7 +24,7 @@ use Rattle.records.specs.declared.Slot.the-variants as S
 use Rattle.records.specs.declared.Shape.{Shape}
 use Rattle.records.specs.Shapes.{Rec, cut, recordsOf, limit, shapeOf}
 use Rattle.records.specs.Tables.{Tables, noTables, tableOf, put, at, noRec}
-use Rattle.records.specs.Read.{shown, zeros, firstGood, fieldGood, namedGood, numberGood, allows, originGood, good, readOf}
+use Rattle.records.specs.Read.{recText, zeros, firstGood, fieldGood, namedGood, numberGood, allows, originGood, good, readOf}
 use Rattle.records.specs.Steps.{Passed}
 use Rattle.index.specs.Steps.{Steps, read-accepted, isIn, table-put, its-table, each-table, each-kind}
 
@@ -42,7 +42,7 @@ Right T i S.Unassigned r x = x < length (T .variables)
 
 -- byte 1 and the text: "Text is 1 to 24 bytes, each from 32 to 126"
 abbrev pub RightFirst : First → Rec → Type 0
-RightFirst F.Length r = (1 ≤ length (shown r)) × (length (shown r) ≤ 24) × (all (λ x. leb 32 x && leb x 126) (shown r) ≡ true)
+RightFirst F.Length r = (1 ≤ length (recText r)) × (length (recText r) ≤ 24) × (all (λ x. leb 32 x && leb x 126) (recText r) ≡ true)
 RightFirst F.Flag r = r .first ≤ 1
 RightFirst F.Unused r = r .first ≡ 0
 
@@ -93,10 +93,6 @@ sound-grown T U g t i r h =
 
 -- ---- a record that passes
 
-both : (a b : Bool) → a && b ≡ true → (a ≡ true) × (b ≡ true)
-both true b e = (refl, e)
-both false b e = clash (cc)
-
 no-first : (a b : Bool) → a || b ≡ true → a ≡ false → b ≡ true
 no-first true b e f = clash (cc)
 no-first false b e f = e
@@ -111,7 +107,8 @@ named T o x h = (one, two)
     two : o ≡ 2 → x < length (T .names)
     two e = ltb-true x (length (T .names)) (rw e at h)
 
-right-new : (T : Tables) (t : Table) (s : Slot) (r : Rec) (x : ℕ) → fieldGood s r x ≡ true → numberGood T t s r x ≡ true → originGood T s x ≡ true → Right T (length (tableOf t T)) s r x
+right-new : (T : Tables) (t : Table) (s : Slot) (r : Rec) (x : ℕ) → fieldGood s r x ≡ true → numberGood T t s r x ≡ true → originGood T s x ≡ true
+    → Right T (length (tableOf t T)) s r x
 right-new T t S.Unused r x f n o = eqb-true x 0 f
 right-new T t S.Own r x f n o = eqb-true x (length (tableOf t T)) n
 right-new T t (S.Names u) r x f n o = ltb-true x (length (tableOf u T)) n
@@ -120,28 +117,34 @@ right-new T t S.Origin r x f n o = leb-true x 5 f
 right-new T t S.Named r x f n o = (named T (r .b) x n .0, named T (r .b) x n .1, none-named)
   where
     none-named : (r .b ≡ 1 → ⊥) → (r .b ≡ 2 → ⊥) → x ≡ 0
-    none-named p q = eqb-true x 0 (no-first (eqb (r .b) 2) (eqb x 0) (no-first (eqb (r .b) 1) (eqb (r .b) 2 || eqb x 0) f (ne-eqb (r .b) 1 p)) (ne-eqb (r .b) 2 q))
-right-new T t S.Unassigned r x f n o = ltb-true x (length (T .variables)) (both (ltb x (length (T .variables))) (not (any (λ g. eqb (g .a) x) (T .assigned))) n .0)
+    none-named p q =
+        eqb-true x 0 (no-first (eqb (r .b) 2) (eqb x 0) (no-first (eqb (r .b) 1) (eqb (r .b) 2 || eqb x 0) f (ne-eqb (r .b) 1 p)) (ne-eqb (r .b) 2 q))
+right-new T t S.Unassigned r x f n o =
+    ltb-true x (length (T .variables)) (and-true (ltb x (length (T .variables))) (not (any (λ g. eqb (g .a) x) (T .assigned))) n .0)
 
 first-new : (k : First) (r : Rec) → length (r .text) ≡ 24 → firstGood k r ≡ true → RightFirst k r
 first-new F.Length r w e =
-    let p = both (leb 1 (r .first)) (leb (r .first) 24 && (all (λ x. leb 32 x && leb x 126) (shown r) && zeros (drop (r .first) (r .text)))) e in
-    let q = both (leb (r .first) 24) (all (λ x. leb 32 x && leb x 126) (shown r) && zeros (drop (r .first) (r .text))) (p .1) in
+    let p = and-true (leb 1 (r .first)) (leb (r .first) 24 && (all (λ x. leb 32 x && leb x 126) (recText r) && zeros (drop (r .first) (r .text)))) e in
+    let q = and-true (leb (r .first) 24) (all (λ x. leb 32 x && leb x 126) (recText r) && zeros (drop (r .first) (r .text))) (p .1) in
     let a : 1 ≤ r .first = leb-true 1 (r .first) (p .0) in
-    let b : r .first ≤ 24 = leb-true (r .first) 24 (q .0) in
-    (simp length-take (omega arith), simp length-take (omega arith), both (all (λ x. leb 32 x && leb x 126) (shown r)) (zeros (drop (r .first) (r .text))) (q .1) .0)
-first-new F.Flag r w e = leb-true (r .first) 1 (both (leb (r .first) 1) (zeros (r .text)) e .0)
-first-new F.Unused r w e = eqb-true (r .first) 0 (both (eqb (r .first) 0) (zeros (r .text)) e .0)
+    let b : r .first ≤ 24 = leb-true (r .first) 24 (q .0) in (
+      simp length-take (omega arith),
+      simp length-take (omega arith),
+      and-true (all (λ x. leb 32 x && leb x 126) (recText r)) (zeros (drop (r .first) (r .text))) (q .1) .0,
+    )
+first-new F.Flag r w e = leb-true (r .first) 1 (and-true (leb (r .first) 1) (zeros (r .text)) e .0)
+first-new F.Unused r w e = eqb-true (r .first) 0 (and-true (eqb (r .first) 0) (zeros (r .text)) e .0)
 
 pub sound-new : (T : Tables) (r : Rec) (s : Shape) → length (r .text) ≡ 24 → Passed T r s → Sound T (s .table) (length (tableOf (s .table) T)) r
 sound-new T r s w p =
-    let f = both (firstGood (s .first) r) (fieldGood (s .a) r (r .a) && (fieldGood (s .b) r (r .b) && fieldGood (s .c) r (r .c))) (p .shaped) in
-    let g = both (fieldGood (s .a) r (r .a)) (fieldGood (s .b) r (r .b) && fieldGood (s .c) r (r .c)) (f .1) in
-    let h = both (fieldGood (s .b) r (r .b)) (fieldGood (s .c) r (r .c)) (g .1) in
-    let n = both (numberGood T (s .table) (s .a) r (r .a)) (numberGood T (s .table) (s .b) r (r .b) && numberGood T (s .table) (s .c) r (r .c)) (p .numbered) in
-    let m = both (numberGood T (s .table) (s .b) r (r .b)) (numberGood T (s .table) (s .c) r (r .c)) (n .1) in
-    let o = both (originGood T (s .a) (r .a)) (originGood T (s .b) (r .b) && originGood T (s .c) (r .c)) (p .allowed) in
-    let q = both (originGood T (s .b) (r .b)) (originGood T (s .c) (r .c)) (o .1) in
+    let f = and-true (firstGood (s .first) r) (fieldGood (s .a) r (r .a) && (fieldGood (s .b) r (r .b) && fieldGood (s .c) r (r .c))) (p .shaped) in
+    let g = and-true (fieldGood (s .a) r (r .a)) (fieldGood (s .b) r (r .b) && fieldGood (s .c) r (r .c)) (f .1) in
+    let h = and-true (fieldGood (s .b) r (r .b)) (fieldGood (s .c) r (r .c)) (g .1) in
+    let n = and-true (numberGood T (s .table) (s .a) r (r .a)) (numberGood T (s .table) (s .b) r (r .b)
+    && numberGood T (s .table) (s .c) r (r .c)) (p .numbered) in
+    let m = and-true (numberGood T (s .table) (s .b) r (r .b)) (numberGood T (s .table) (s .c) r (r .c)) (n .1) in
+    let o = and-true (originGood T (s .a) (r .a)) (originGood T (s .b) (r .b) && originGood T (s .c) (r .c)) (p .allowed) in
+    let q = and-true (originGood T (s .b) (r .b)) (originGood T (s .c) (r .c)) (o .1) in
     record {
       shape = s;
       known = p .known;
@@ -155,8 +158,43 @@ sound-new T r s w p =
 -- the records of kind 8 are those of their table
 assigned-slots : (k : ℕ) (s : Shape) → shapeOf k ≡ some s → s .table ≡ Assigned → (s .a ≡ S.Unassigned) × (s .b ≡ S.Names Clauses)
 assigned-slots =
-    each-kind (λ o. (s : Shape) → o ≡ some s → s .table ≡ Assigned → (s .a ≡ S.Unassigned) × (s .b ≡ S.Names Clauses))
-    (λ s e h. (cc, cc), (λ s e h. (cc, cc), (λ s e h. (cc, cc), (λ s e h. (cc, cc), (λ s e h. (cc, cc), (λ s e h. (cc, cc), (λ s e h. (cc, cc), (λ s e h. (cc, cc), (λ s e h. (cc, cc), (λ s e h. (cc, cc), (λ s e h. (cc, cc), (λ s e h. (cc, cc), (λ s e h. (cc, cc), (λ s e h. (cc, cc), (λ s e h. (cc, cc), (λ s e h. (cc, cc), (λ s e h. (cc, cc), (λ s e h. (cc, cc), tt))))))))))))))))))
+    each-kind (λ o. (s : Shape) → o ≡ some s → s .table ≡ Assigned → (s .a ≡ S.Unassigned) × (s .b ≡ S.Names Clauses)) (
+      λ s e h. (cc, cc),
+      (
+        λ s e h. (cc, cc),
+        (
+          λ s e h. (cc, cc),
+          (
+            λ s e h. (cc, cc),
+            (
+              λ s e h. (cc, cc),
+              (
+                λ s e h. (cc, cc),
+                (
+                  λ s e h. (cc, cc),
+                  (
+                    λ s e h. (cc, cc),
+                    (
+                      λ s e h. (cc, cc),
+                      (
+                        λ s e h. (cc, cc),
+                        (
+                          λ s e h. (cc, cc),
+                          (
+                            λ s e h. (cc, cc),
+                            (λ s e h. (cc, cc), (λ s e h. (cc, cc), (λ s e h. (cc, cc), (λ s e h. (cc, cc), (λ s e h. (cc, cc), (λ s e h. (cc, cc), tt)))))),
+                          ),
+                        ),
+                      ),
+                    ),
+                  ),
+                ),
+              ),
+            ),
+          ),
+        ),
+      ),
+    )
     (λ s e h. (cc, cc))
 
 pub sound-assigned : (T : Tables) (i : ℕ) (r : Rec) → Valid T → Sound T Assigned i r → (r .a < 1024) × (r .b < 1024)
@@ -177,7 +215,8 @@ map-snoc f (x ∷ xs) a = ap (λ (m : List _). f x ∷ m) (map-snoc f xs a)
 
 distinct-snoc : {A : Type 0} (l : List A) (a : A) → Distinct l → (In a l → ⊥) → Distinct (snoc l a)
 distinct-snoc [] a d h = (λ i. i, tt)
-distinct-snoc (x ∷ xs) a d h = (λ i. either (in-append x xs (a ∷ []) i) (d .0) (λ j. either j (λ e. h (inl (sym e))) (λ z. z)), distinct-snoc xs a (d .1) (λ i. h (inr i)))
+distinct-snoc (x ∷ xs) a d h =
+    (λ i. either (in-append x xs (a ∷ []) i) (d .0) (λ j. either j (λ e. h (inl (sym e))) (λ z. z)), distinct-snoc xs a (d .1) (λ i. h (inr i)))
 
 any-map : (l : List Rec) (x : ℕ) → In x (map (λ g. g .a) l) → any (λ g. eqb (g .a) x) l ≡ true
 any-map [] x i = absurd i
@@ -234,8 +273,9 @@ module _ (T : Tables) (r : Rec) (s : Shape) (p : Passed T r s) where
   pub unseen : s .table ≡ Assigned → any (λ g. eqb (g .a) (r .a)) (T .assigned) ≡ false
   unseen z =
       let y : s .a ≡ S.Unassigned = assigned-slots (r .kind) s (p .known) z .0 in
-      let n = both (numberGood T (s .table) (s .a) r (r .a)) (numberGood T (s .table) (s .b) r (r .b) && numberGood T (s .table) (s .c) r (r .c)) (p .numbered) .0 in
-      not-true _ (both (ltb (r .a) (length (T .variables))) (not (any (λ g. eqb (g .a) (r .a)) (T .assigned))) (rw y at n) .1)
+      let n = and-true (numberGood T (s .table) (s .a) r (r .a)) (numberGood T (s .table) (s .b) r (r .b)
+      && numberGood T (s .table) (s .c) r (r .c)) (p .numbered) .0 in
+      not-true _ (and-true (ltb (r .a) (length (T .variables))) (not (any (λ g. eqb (g .a) (r .a)) (T .assigned))) (rw y at n) .1)
 
   once-more : Valid T → Distinct (map (λ g. g .a) (more .assigned))
   once-more v =
@@ -251,10 +291,19 @@ module _ (T : Tables) (r : Rec) (s : Shape) (p : Passed T r s) where
 -- ---- the theorem
 
 pub valid-none : Valid noTables
-valid-none = record { within = each-table (λ t. length (tableOf t noTables) ≤ limit t) (omega arith) (omega arith) (omega arith) (omega arith) (omega arith) (omega arith) (omega arith) (omega arith) (omega arith); sound = λ t i h. absurd (empty t i h); once = tt }
+valid-none =
+    record {
+      within = each-table (λ t. length (tableOf t noTables) ≤ limit t) (omega arith) (omega arith) (omega arith) (omega arith) (omega arith)
+          (omega arith) (omega arith) (omega arith) (omega arith);
+      sound = λ t i h. absurd (empty t i h);
+      once = tt;
+    }
   where
     empty : (t : Table) (i : ℕ) → i < length (tableOf t noTables) → ⊥
-    empty = each-table (λ t. (i : ℕ) → i < length (tableOf t noTables) → ⊥) (λ i h. not-suc-le-zero h) (λ i h. not-suc-le-zero h) (λ i h. not-suc-le-zero h) (λ i h. not-suc-le-zero h) (λ i h. not-suc-le-zero h) (λ i h. not-suc-le-zero h) (λ i h. not-suc-le-zero h) (λ i h. not-suc-le-zero h) (λ i h. not-suc-le-zero h)
+    empty =
+        each-table (λ t. (i : ℕ) → i < length (tableOf t noTables) → ⊥) (λ i h. not-suc-le-zero h) (λ i h. not-suc-le-zero h) (λ i h. not-suc-le-zero h) (λ i h.
+        not-suc-le-zero h) (λ i h. not-suc-le-zero h) (λ i h. not-suc-le-zero h) (λ i h. not-suc-le-zero h) (λ i h. not-suc-le-zero h) (λ i h.
+        not-suc-le-zero h)
 
 valid-steps : (rs : List Rec) (T U : Tables) → All (λ r. length (r .text) ≡ 24) rs → Steps T rs U → Valid T → Valid U
 valid-steps [] T U w e v = rw (← e) v

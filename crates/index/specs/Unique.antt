@@ -10,8 +10,8 @@ use borrow.Author.Tests.{ltb-true, ltb-false}
 use Rattle.basis.specs.Members.{split}
 use Rattle.records.specs.declared.Table.{Table}
 use Rattle.records.specs.declared.Table.the-variants.{Names, Solvables, VersionSets, Requirements, Candidates, Reasons, Variables, Assigned, Clauses}
-use Rattle.records.specs.declared.Answer.{Answer}
-use Rattle.records.specs.declared.Answer.the-variants.{Accepted, Refused}
+use Rattle.records.specs.declared.ReadAnswer.{ReadAnswer}
+use Rattle.records.specs.declared.ReadAnswer.the-variants.{Accepted, Refused}
 use Rattle.records.specs.Shapes.{limit}
 use Rattle.index.specs.Index.{Loaded, Held, base}
 
@@ -53,6 +53,6 @@ module _ (file ix iy : List ℕ) (p : Loaded file ix) (q : Loaded file iy) where
   pub loaded-unique : ix ≡ iy
   loaded-unique = ext-getD 0 ix iy (p .based .wide ∙ sym (q .based .wide)) (λ i h. everywhere i (omega (arith, p .based .wide)))
 
-pub held-unique : (r : Answer) (file ix a b : List ℕ) → Held r file ix a → Held r file ix b → a ≡ b
+pub held-unique : (r : ReadAnswer) (file ix a b : List ℕ) → Held r file ix a → Held r file ix b → a ≡ b
 held-unique (Accepted c) file ix a b p q = loaded-unique file a b p q
 held-unique (Refused k i) file ix a b p q = p ∙ sym q

@@ -1,11 +1,11 @@
 // The index over an accepted record file: where the record of each number stands, and chains by which later passes find what
 // they would else scan for. The file is read first, and the index is filled only where it is accepted.
-// Regions: names 0, solvables 128, version sets 384, requirements 640, candidates 896, reasons 1920, variables 1984, assigned-by
-// (by variable) 3008, clauses 4032; heads and links of the candidates 5056 and 5312, of the core's partners 6336 and 9408.
+pub mod regions;
+
 use basis::get16;
 use basis::put16;
 use basis::wide16;
-use records::Answer;
+use records::ReadAnswer;
 use records::fields::a_at;
 use records::fields::b_at;
 use records::fields::first_at;
@@ -17,7 +17,11 @@ ghost use Rattle.basis.specs.Chains.{linked};
 ghost use Rattle.records.specs.Shapes.{recordsOf};
 ghost use Rattle.records.specs.Tables.{at};
 ghost use Rattle.records.specs.Read.{readOf, answerOf};
-ghost use Rattle.index.specs.Index.{placed, recordNo, baseOf, assign, marked, passedBy, numbered, noPlaces, hung, keyIn, candidateLay, partnerLay, candidatesHung, partnersHung, Blank, Held};
+ghost use Rattle.index.specs.Index.{placed, recordNo, baseOf, assign, marked, passedBy, numbered, noPlaces, hung, keyIn, candidateLay, partnerLay};
+ghost use Rattle.index.specs.Index.{candidatesHung, partnersHung, Blank, Held};
+
+// The index of a file: a number for each record, and the chains.
+pub type Slots = [u16; 10432];
 
 // How many candidates and clauses have been numbered.
 pub struct Places {
@@ -26,7 +30,7 @@ pub struct Places {
 }
 
 // What stands at place n of the region at b, which has l places; 0 past them.
-pub fn place(ix: &[u16; 10432], b: usize, l: usize, n: usize) -> usize
+pub fn place(ix: &Slots, b: usize, l: usize, n: usize) -> usize
     requires { ⌜ b + l ≤ 10432 ⌝ }
     ensures { λ r. ⌜ (r ≡ placed b l (now (ix .entry)) n) × (r < 65536) ⌝ }
 {
@@ -34,7 +38,7 @@ pub fn place(ix: &[u16; 10432], b: usize, l: usize, n: usize) -> usize
 }
 
 // The record that stands there; 2048, past every record, for none.
-pub fn record_no(ix: &[u16; 10432], b: usize, l: usize, n: usize) -> usize
+pub fn record_no(ix: &Slots, b: usize, l: usize, n: usize) -> usize
     requires { ⌜ b + l ≤ 10432 ⌝ }
     ensures { λ r. ⌜ (r ≡ recordNo b l (now (ix .entry)) n) × (r < 65536) ⌝ }
 {
@@ -48,36 +52,36 @@ fn base(kind: u8) -> usize
 {
     if 15 < kind {
         if kind < 26 {
-            return 4032;
+            return regions::CLAUSES;
         }
         return 10432;
     }
     match kind {
-        1 => 0,
-        2 => 128,
-        3 => 384,
-        4 => 640,
-        5 => 896,
-        6 => 1920,
-        7 => 1984,
-        8 => 3008,
+        1 => regions::NAMES,
+        2 => regions::SOLVABLES,
+        3 => regions::SETS,
+        4 => regions::REQUIREMENTS,
+        5 => regions::CANDIDATES,
+        6 => regions::REASONS,
+        7 => regions::VARIABLES,
+        8 => regions::ASSIGNED,
         _ => 10432,
     }
 }
 
 // A record 8, by its variable.
-fn assign_at(file: &[u8], i: usize, ix: &mut [u16; 10432])
+fn assign_at(file: &[u8], i: usize, ix: &mut Slots)
     ensures { λ _. ⌜ now (ix .exit) ≡ assign (at (recordsOf (now (file .entry))) i) (now (ix .entry)) ⌝ }
 {
     let b = wide16(b_at(file, i));
     let a = wide16(a_at(file, i));
     if b < 1024 {
-        put16(ix, 3008 + a, (b + 1) as u16);
+        put16(ix, regions::ASSIGNED + a, (b + 1) as u16);
     }
 }
 
 // Record i, whose table begins at b.
-fn mark(file: &[u8], i: usize, b: usize, c: Places, ix: &mut [u16; 10432])
+fn mark(file: &[u8], i: usize, b: usize, c: Places, ix: &mut Slots)
     requires { ⌜ (i < 2048) × (b ≤ 10432) × (c .candidates ≤ i) × (c .clauses ≤ i) ⌝ }
     ensures { λ _. ⌜ now (ix .exit) ≡ marked b (at (recordsOf (now (file .entry))) i) i c (now (ix .entry)) ⌝ }
 {
@@ -88,11 +92,11 @@ fn mark(file: &[u8], i: usize, b: usize, c: Places, ix: &mut [u16; 10432])
         put16(ix, 896 + p, x);
         return;
     }
-    if b == 4032 {
-        put16(ix, 4032 + q, x);
+    if b == regions::CLAUSES {
+        put16(ix, regions::CLAUSES + q, x);
         return;
     }
-    if b == 3008 {
+    if b == regions::ASSIGNED {
         assign_at(file, i, ix);
         return;
     }
@@ -113,7 +117,7 @@ fn passed(b: usize, c: Places) -> Places
             clauses: q,
         };
     }
-    if b == 4032 {
+    if b == regions::CLAUSES {
         return Places {
             candidates: p,
             clauses: q + 1,
@@ -123,7 +127,7 @@ fn passed(b: usize, c: Places) -> Places
 }
 
 // Every record of an accepted file.
-fn number(file: &[u8], ix: &mut [u16; 10432])
+fn number(file: &[u8], ix: &mut Slots)
     requires { ⌜ length (now file) ≤ 65536 ⌝ }
     ensures { λ _. ⌜ now (ix .exit) ≡ numbered (recordsOf (now (file .entry))) 0 noPlaces (now (ix .entry)) ⌝ }
 {
@@ -142,23 +146,23 @@ fn number(file: &[u8], ix: &mut [u16; 10432])
 }
 
 // Candidate k goes to the head of the chain of requirement n.
-fn link_candidate(ix: &mut [u16; 10432], k: usize, n: usize)
+fn link_candidate(ix: &mut Slots, k: usize, n: usize)
     requires { ⌜ (k < 1024) × (n < 256) ⌝ }
     ensures { λ _. ⌜ now (ix .exit) ≡ linked candidateLay (now (ix .entry)) k n ⌝ }
 {
-    let h = get16(ix, 5056 + n);
-    put16(ix, 5312 + k, h);
-    put16(ix, 5056 + n, (k + 1) as u16);
+    let h = get16(ix, regions::CANDIDATE_HEADS + n);
+    put16(ix, regions::CANDIDATE_LINKS + k, h);
+    put16(ix, regions::CANDIDATE_HEADS + n, (k + 1) as u16);
 }
 
 // Clause k goes to the head of the chain of key n.
-fn link_partner(ix: &mut [u16; 10432], k: usize, n: usize)
+fn link_partner(ix: &mut Slots, k: usize, n: usize)
     requires { ⌜ (k < 1024) × (n < 3072) ⌝ }
     ensures { λ _. ⌜ now (ix .exit) ≡ linked partnerLay (now (ix .entry)) k n ⌝ }
 {
-    let h = get16(ix, 6336 + n);
-    put16(ix, 9408 + k, h);
-    put16(ix, 6336 + n, (k + 1) as u16);
+    let h = get16(ix, regions::GATES + n);
+    put16(ix, regions::PARTNER_LINKS + k, h);
+    put16(ix, regions::GATES + n, (k + 1) as u16);
 }
 
 // The key of the clause that record i is.
@@ -182,7 +186,7 @@ fn key_at(file: &[u8], i: usize) -> usize
     3072
 }
 
-fn hang_candidate(file: &[u8], ix: &mut [u16; 10432], k: usize)
+fn hang_candidate(file: &[u8], ix: &mut Slots, k: usize)
     requires { ⌜ k < 1024 ⌝ }
     ensures { λ _. ⌜ now (ix .exit) ≡ hung candidateLay (at (recordsOf (now (file .entry))) (recordNo 896 1024 (now (ix .entry)) k) .a) (now (ix .entry)) k ⌝ }
 {
@@ -193,11 +197,12 @@ fn hang_candidate(file: &[u8], ix: &mut [u16; 10432], k: usize)
     }
 }
 
-fn hang_partner(file: &[u8], ix: &mut [u16; 10432], k: usize)
+fn hang_partner(file: &[u8], ix: &mut Slots, k: usize)
     requires { ⌜ k < 1024 ⌝ }
-    ensures { λ _. ⌜ now (ix .exit) ≡ hung partnerLay (keyIn (at (recordsOf (now (file .entry))) (recordNo 4032 1024 (now (ix .entry)) k))) (now (ix .entry)) k ⌝ }
+    ensures { λ _. ⌜ now (ix .exit) ≡ hung partnerLay (keyIn (at (recordsOf (now (file .entry))) (recordNo 4032 1024 (now (ix .entry)) k))) (now (ix .entry))
+        k ⌝ }
 {
-    let i = record_no(ix, 4032, 1024, k);
+    let i = record_no(ix, regions::CLAUSES, regions::CLAUSES_MOST, k);
     let n = key_at(file, i);
     if n < 3072 {
         link_partner(ix, k, n);
@@ -205,7 +210,7 @@ fn hang_partner(file: &[u8], ix: &mut [u16; 10432], k: usize)
 }
 
 // The last candidate first, so that a chain begins with the first one.
-fn hang_candidates(file: &[u8], ix: &mut [u16; 10432], m: usize)
+fn hang_candidates(file: &[u8], ix: &mut Slots, m: usize)
     requires { ⌜ m ≤ 1024 ⌝ }
     ensures { λ _. ⌜ now (ix .exit) ≡ candidatesHung (now (file .entry)) m (now (ix .entry)) ⌝ }
 {
@@ -217,7 +222,7 @@ fn hang_candidates(file: &[u8], ix: &mut [u16; 10432], m: usize)
     }
 }
 
-fn hang_partners(file: &[u8], ix: &mut [u16; 10432], m: usize)
+fn hang_partners(file: &[u8], ix: &mut Slots, m: usize)
     requires { ⌜ m ≤ 1024 ⌝ }
     ensures { λ _. ⌜ now (ix .exit) ≡ partnersHung (now (file .entry)) m (now (ix .entry)) ⌝ }
 {
@@ -230,9 +235,10 @@ fn hang_partners(file: &[u8], ix: &mut [u16; 10432], m: usize)
 }
 
 // m candidates and n clauses.
-fn fill(file: &[u8], ix: &mut [u16; 10432], m: usize, n: usize)
+fn fill(file: &[u8], ix: &mut Slots, m: usize, n: usize)
     requires { ⌜ (length (now file) ≤ 65536) × (m ≤ 1024) × (n ≤ 1024) ⌝ }
-    ensures { λ _. ⌜ now (ix .exit) ≡ partnersHung (now (file .entry)) n (candidatesHung (now (file .entry)) m (numbered (recordsOf (now (file .entry))) 0 noPlaces (now (ix .entry)))) ⌝ }
+    ensures { λ _. ⌜ now (ix .exit) ≡ partnersHung (now (file .entry)) n
+        (candidatesHung (now (file .entry)) m (numbered (recordsOf (now (file .entry))) 0 noPlaces (now (ix .entry)))) ⌝ }
 {
     number(file, ix);
     hang_candidates(file, ix, m);
@@ -240,13 +246,13 @@ fn fill(file: &[u8], ix: &mut [u16; 10432], m: usize, n: usize)
 }
 
 // Reads a file, and fills the index where it is accepted; else the index stays as it was.
-pub fn load(file: &[u8], ix: &mut [u16; 10432]) -> Answer
+pub fn load(file: &[u8], ix: &mut Slots) -> ReadAnswer
     requires { ⌜ Blank (now ix) ⌝ }
     ensures { λ r. ⌜ r ≡ answerOf (readOf (now (file .entry))) ⌝ }
     ensures { λ r. ⌜ Held r (now (file .entry)) (now (ix .entry)) (now (ix .exit)) ⌝ }
 {
     let r = arms::read(file);
-    let Answer::Accepted(c) = r else {
+    let ReadAnswer::Accepted(c) = r else {
         return r;
     };
     let m = c.candidates;

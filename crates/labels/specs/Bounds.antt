@@ -42,7 +42,13 @@ module _ (g : List ℕ) (s : Size) (S : Stored g s) where
   unfolding targets out
   targets-few n =
       rw (length-map, length-reverse)
-      (omega (arith, filter-short (λ (e : Edge). eqb (e .source) n) (reverse (graphIn g s .edges)), length-reverse (graphIn g s .edges), edges-count g s S, S .edges-most))
+      (omega (
+        arith,
+        filter-short (λ (e : Edge). eqb (e .source) n) (reverse (graphIn g s .edges)),
+        length-reverse (graphIn g s .edges),
+        edges-count g s S,
+        S .edges-most,
+      ))
 
 -- ---- post-order holds nodes only
 
@@ -50,7 +56,8 @@ module _ (to : ℕ → List ℕ) (N : ℕ) (g : Inner to N) where
   abbrev Within : Walk → Type 0
   Within w = (t : ℕ) → In t (w .left) → t < N
 
-  within-all : (F : ℕ → Walk → Walk) → ((n : ℕ) (w : Walk) → n < N → Within w → Within (F n w)) → (ns : List ℕ) → ((t : ℕ) → In t ns → t < N) → (w : Walk) → Within w → Within (through F ns w)
+  within-all : (F : ℕ → Walk → Walk) → ((n : ℕ) (w : Walk) → n < N → Within w → Within (F n w)) → (ns : List ℕ) → ((t : ℕ) → In t ns → t < N) → (w : Walk)
+      → Within w → Within (through F ns w)
   unfolding through
   within-all F step [] h w o = o
   within-all F step (n ∷ ns) h w o = within-all F step ns (λ t i. h t (inr i)) (F n w) (step n w (h n (inl refl)) o)
@@ -60,7 +67,8 @@ module _ (to : ℕ → List ℕ) (N : ℕ) (g : Inner to N) where
   within zero n w h o = o
   within (suc f) n w h o =
       zero? (getD (w .marks) n 0)
-      (λ e. rw (visit-at f to n w e) (close (through (λ m u. visit f to m u) (to n) (mark n w)) (within-all (λ m u. visit f to m u) (within f) (to n) (g .each n h) (mark n w) o)))
+      (λ e. rw (visit-at f to n w e) (close (through (λ m u. visit f to m u) (to n) (mark n w))
+      (within-all (λ m u. visit f to m u) (within f) (to n) (g .each n h) (mark n w) o)))
       (λ j e. rw (visit-past (suc f) to n w (λ z. omega arith)) o)
     where
       close : (v : Walk) → Within v → Within (leave n v)

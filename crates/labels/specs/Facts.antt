@@ -1,7 +1,7 @@
--- What document 01 asks of the labels: "no node has both labels; where the graph has no cycle, 'already' may be dropped from both rules".
+-- What document 01 asks of the labels: "no node has and-true labels; where the graph has no cycle, 'already' may be dropped from and-true rules".
 use mathlib.Core.Path.{_≡_, refl, sym, ap, _∙_, subst}
 use mathlib.Core.Logic.{_⊎_, inl, inr}
-use mathlib.Core.Bool.{Bool, true, false, cond, _&&_, _||_, not, true≢false, false≢true}
+use mathlib.Core.Bool.{Bool, true, false, cond, _&&_, _||_, not, false≢true}
 use mathlib.Core.List.{List, [], _∷_, _++_, map, reverse, reverseAux}
 use Prim.Native.Nat.{ℕ, zero, suc, _<_, _≤_}
 use native.Mathlib.Omega.{arith}
@@ -9,7 +9,7 @@ use lib.ListN.{length, getD, replicate, length-replicate, getD-replicate, List·
 use lib.Dec.{eqb}
 use borrow.Author.Tests.{eqb-true, eqb-false, eq-eqb, ne-eqb}
 use Rattle.basis.specs.Lists.{any, all, filter, has, snoc}
-use Rattle.basis.specs.Members.{In, split, either, no-both, in-append, in-reverse, in-filter, any-some, all-at, has-in, has-out, in-has, map-in}
+use Rattle.basis.specs.Members.{In, split, either, no-both, in-append, in-reverse, in-filter, any-some, all-at, has-in, has-out, in-has, map-in, and-true}
 use Rattle.store.specs.declared.ConflictEdge.{ConflictEdge}
 use Rattle.store.specs.declared.ConflictEdge.the-variants as W
 use Rattle.store.specs.declared.Edge.{Edge}
@@ -18,13 +18,10 @@ use Rattle.labels.specs.Order.{postorder}
 use Rattle.labels.specs.Walks.{Inner}
 use Rattle.labels.specs.Ordered.{Leads, Acyclic, Ordered, none, more, postorder-ordered}
 use Rattle.labels.specs.Runs.{Run, addTo, runsOf, everyRun, someRun}
-use Rattle.labels.specs.Labels.{targets, orderOf, conflicts, excludes, canInstall, isLacking, passing, installables, missings, installable, missing, hasUnresolved}
+use Rattle.labels.specs.Labels.{targets, orderOf, conflicts, excludes, canInstall, isLacking, passing, installables, missings, installable, missing}
+use Rattle.labels.specs.Labels.{hasUnresolved}
 
 -- ---- small laws
-
-both : (a b : Bool) → a && b ≡ true → (a ≡ true) × (b ≡ true)
-both true b e = (refl, e)
-both false b e = absurd (false≢true e)
 
 not-yes : (a : Bool) → not a ≡ true → a ≡ false
 not-yes true e = absurd (false≢true e)
@@ -85,7 +82,8 @@ from-runs : (es : List Edge) (r : Run) (t : ℕ) → In r (runsOf es) → In t (
 from-runs [] r t j i = absurd j
 from-runs (e ∷ es) r t j i = go (λ s k l. from-runs es s t k l) (e .weight) refl
   where
-    go : ((s : Run) → In s (runsOf es) → In t (s .to) → In t (map (λ e. e .target) es)) → (w : ConflictEdge) → e .weight ≡ w → In t (map (λ e. e .target) (e ∷ es))
+    go : ((s : Run) → In s (runsOf es) → In t (s .to) → In t (map (λ e. e .target) es)) → (w : ConflictEdge) → e .weight ≡ w
+        → In t (map (λ e. e .target) (e ∷ es))
     go rest (W.Requires q) p = either (from-add q (e .target) (runsOf es) r t (rw (p, runsOf) at j) i) (λ k. inl k) (λ k. inr (rest (k .0) (k .1) (k .2)))
     go rest (W.Conflict c) p = inr (rest r (rw (p, runsOf) at j) i)
 
@@ -140,10 +138,10 @@ module _ (G : Graph) (n : ℕ) where
   unfolding isLacking
   lacking-local p q h = rw (some-same p q (out G n) (λ t i. h t (in-targets t i)))
 
--- ---- no node has both labels
+-- ---- no node has and-true labels
 
 module _ (G : Graph) where
-  -- each node of I is resolved and has a node of I in every run; each of M is unresolved or has a run inside M; no node is in both
+  -- each node of I is resolved and has a node of I in every run; each of M is unresolved or has a run inside M; no node is in and-true
   record Apart (I M : List ℕ) : Type 0 where
     upright : (n : ℕ) → has n I ≡ true → (isUnresolved (nodeAt G n) ≡ false) × (everyRun (λ t. has t I) (runsOf (out G n)) ≡ true)
     hanging : (n : ℕ) → has n M ≡ true → (isUnresolved (nodeAt G n) ≡ true) ⊎ (someRun (λ t. has t M) (runsOf (out G n)) ≡ true)
@@ -156,13 +154,14 @@ module _ (G : Graph) where
     installs : canInstall G (λ t. has t I) n ≡ true → (isUnresolved (nodeAt G n) ≡ false) × (everyRun (λ t. has t I) (runsOf (out G n)) ≡ true)
     unfolding canInstall
     installs e =
-        let x = both (not (isUnresolved (nodeAt G n))) (not (any excludes (into G n)) && (not (any conflicts (out G n)) && everyRun (λ t. has t I) (runsOf (out G n)))) e in
-        let y = both (not (any excludes (into G n))) (not (any conflicts (out G n)) && everyRun (λ t. has t I) (runsOf (out G n))) (x .1) in
-        (not-yes (isUnresolved (nodeAt G n)) (x .0), both (not (any conflicts (out G n))) (everyRun (λ t. has t I) (runsOf (out G n))) (y .1) .1)
+        let x = and-true (not (isUnresolved (nodeAt G n))) (not (any excludes (into G n))
+        && (not (any conflicts (out G n)) && everyRun (λ t. has t I) (runsOf (out G n)))) e in
+        let y = and-true (not (any excludes (into G n))) (not (any conflicts (out G n)) && everyRun (λ t. has t I) (runsOf (out G n))) (x .1) in
+        (not-yes (isUnresolved (nodeAt G n)) (x .0), and-true (not (any conflicts (out G n))) (everyRun (λ t. has t I) (runsOf (out G n))) (y .1) .1)
 
     lacks : isLacking G (λ t. has t M) n ≡ true → someRun (λ t. has t M) (runsOf (out G n)) ≡ true
     unfolding isLacking
-    lacks e = both (not (any conflicts (out G n))) (someRun (λ t. has t M) (runsOf (out G n))) e .1
+    lacks e = and-true (not (any conflicts (out G n))) (someRun (λ t. has t M) (runsOf (out G n))) e .1
 
     one-more : canInstall G (λ t. has t I) n ≡ true → Apart (n ∷ I) M
     one-more e =
@@ -204,7 +203,7 @@ module _ (G : Graph) where
       (λ f. rw (e, f, passing) (along ns I (n ∷ M) (one-less I M a n f)))
       (λ f. rw (e, f, passing) (along ns I M a)))
 
-  -- "no node has both labels"
+  -- "no node has and-true labels"
   pub not-both : (n : ℕ) → installable G n ≡ true → missing G n ≡ true → ⊥
   unfolding installables missings
   not-both n i m =
@@ -213,7 +212,12 @@ module _ (G : Graph) where
       (λ u. false≢true (rw (u, cond) at m))
     where
       start : hasUnresolved G ≡ true → Apart [] (1 ∷ [])
-      start u = record { upright = λ n h. absurd (false≢true h); hanging = λ n h. either (has-cons n 1 [] h) (λ q. inl (rw q u)) (λ k. absurd (false≢true k)); apart = λ n h k. false≢true h }
+      start u =
+          record {
+            upright = λ n h. absurd (false≢true h);
+            hanging = λ n h. either (has-cons n 1 [] h) (λ q. inl (rw q u)) (λ k. absurd (false≢true k));
+            apart = λ n h k. false≢true h;
+          }
 
 -- ---- "already" may be dropped
 
@@ -298,13 +302,15 @@ module _ (to : ℕ → List ℕ) (rule : (ℕ → Bool) → ℕ → Bool) (local
     still m f =
         local m (λ t. has t after) (λ t. has t before) (λ t j. plus-other (rule (λ t. has t before) n) n t before (apart-from n t k once (f t j)))
 
-    earlier : (m : ℕ) → ((t : ℕ) → In t (to m) → In t k) → In m k → has m before ≡ has m start || rule (λ t. has t before) m → has m after ≡ has m start || rule (λ t. has t after) m
+    earlier : (m : ℕ) → ((t : ℕ) → In t (to m) → In t k) → In m k → has m before ≡ has m start || rule (λ t. has t before) m → has m after ≡ has m start
+        || rule (λ t. has t after) m
     earlier m f h e = rw (still m f) (plus-other (rule (λ t. has t before) n) n m before (apart-from n m k once h) ∙ e)
 
     last : ((t : ℕ) → In t (to n) → In t k) → has n after ≡ has n start || rule (λ t. has t after) n
     last f = rw (still n f) (plus-own (rule (λ t. has t before) n) (has n start) n before (outside k n start once))
 
-  pub settled : (late : Type 0) → late → (start l : List ℕ) → Ordered to late l → (m : ℕ) → In m l → has m (passing rule l start) ≡ has m start || rule (λ t. has t (passing rule l start)) m
+  pub settled : (late : Type 0) → late → (start l : List ℕ) → Ordered to late l → (m : ℕ) → In m l → has m (passing rule l start) ≡ has m start
+      || rule (λ t. has t (passing rule l start)) m
   settled late z start l none m i = absurd i
   settled late z start l (more {l = k} n o once behind) m i =
       rw (passing-last k n start)

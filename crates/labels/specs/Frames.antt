@@ -60,7 +60,7 @@ pub record Inside (g : List ℕ) (s : Size) (ls ms os fs : List ℕ) (h k : ℕ)
   pub node : (i : ℕ) → i < h → getD fs i 0 % 128 < s .nodes
   pub old : (i : ℕ) → i < h → Old g s ls (getD fs i 0 % 128) (getD fs i 0 / 128)
 
-pub record Turned (g : List ℕ) (s : Size) (ls ms os fs : List ℕ) (h k : ℕ) (ms′ os′ fs′ : List ℕ) (h′ k′ : ℕ) : Type 0 where
+pub record PostTurned (g : List ℕ) (s : Size) (ls ms os fs : List ℕ) (h k : ℕ) (ms′ os′ fs′ : List ℕ) (h′ k′ : ℕ) : Type 0 where
   pub inside : Inside g s ls ms′ os′ fs′ h′ k′
   pub same : whole g s ms′ os′ fs′ h′ k′ ≡ whole g s ms os fs h k
   pub less : turns g s ms′ fs′ h′ < turns g s ms fs h
@@ -80,7 +80,8 @@ module _ (g : List ℕ) (s : Size) (S : Stored g s) where
   inner-in : Inner (targets (graphIn g s)) (s .nodes)
   inner-in = rw (nodes-count g s S) at (inner (graphIn g s) (sound g s S))
 
-  in-new : (n : ℕ) (w : Walk) → n < s .nodes → Ok (s .nodes) (s .nodes) w → getD (w .marks) n 0 ≡ 0 → visitIn g s n w ≡ leave n (through (visitIn g s) (targets (graphIn g s) n) (mark n w))
+  in-new : (n : ℕ) (w : Walk) → n < s .nodes → Ok (s .nodes) (s .nodes) w → getD (w .marks) n 0 ≡ 0
+      → visitIn g s n w ≡ leave n (through (visitIn g s) (targets (graphIn g s) n) (mark n w))
   unfolding visitIn
   in-new n w h o e = visit-new (s .nodes) (targets (graphIn g s)) inner-in n w h o e
 
@@ -117,7 +118,8 @@ module _ (g : List ℕ) (s : Size) (ls : List ℕ) (x : ℕ) (S : List ℕ) (w :
     fin-skip : (m : ℕ) → m ≡ edgeIn g (x / 128 - 1) .target → (getD (w .marks) m 0 ≡ 0 → ⊥) → fin g s ((x % 128 + 128 * r) ∷ S) w ≡ fin g s (x ∷ S) w
     fin-skip m e f = ap (fin g s ((x % 128 + 128 * r) ∷ S)) (sym (in-past g s m w f) ∙ ap (λ (t : ℕ). visitIn g s t w) e) ∙ fin-one
 
-    fin-push : (m f : ℕ) → Chains g s ls → m ≡ edgeIn g (x / 128 - 1) .target → m < s .nodes → f ≡ firstOld ls m → Ok (s .nodes) (s .nodes) w → getD (w .marks) m 0 ≡ 0 → fin g s ((m + 128 * f) ∷ (x % 128 + 128 * r) ∷ S) (mark m w) ≡ fin g s (x ∷ S) w
+    fin-push : (m f : ℕ) → Chains g s ls → m ≡ edgeIn g (x / 128 - 1) .target → m < s .nodes → f ≡ firstOld ls m → Ok (s .nodes) (s .nodes) w
+        → getD (w .marks) m 0 ≡ 0 → fin g s ((m + 128 * f) ∷ (x % 128 + 128 * r) ∷ S) (mark m w) ≡ fin g s (x ∷ S) w
     unfolding fin
     fin-push m f c e h k ok z =
         let l : s .nodes ≤ 128 = c .stored .nodes-most in
@@ -138,7 +140,7 @@ module _ (g : List ℕ) (s : Size) (ls ms os fs : List ℕ) (k j x : ℕ) (I : I
   below-top : j < length fs
   below-top = omega (arith, I .room, I .chains .stored .nodes-most, I .flen)
 
-  leave-at : x / 128 ≤ 0 → Turned g s ls ms os fs (suc j) k ms (set os k (x % 128)) fs j (k + 1)
+  leave-at : x / 128 ≤ 0 → PostTurned g s ls ms os fs (suc j) k ms (set os k (x % 128)) fs j (k + 1)
   unfolding whole framesOf turns weight
   leave-at h =
       let c : k < length os = omega (arith, I .room, I .chains .stored .nodes-most, I .olen) in
@@ -185,11 +187,12 @@ module _ (g : List ℕ) (s : Size) (ls ms os fs : List ℕ) (k j x : ℕ) (I : I
         split (eqb i j) (λ t. rw (eqb-true i j t, at-top, node₁, place₁) (old-next g s ls (x % 128) (x / 128) r top-old p qr))
         (λ t. rw (getD-set-other fs j i (x % 128 + 128 * r) 0 (eqb-false i j t)) (I .old i h))
 
-    skip-at : (getD ms m 0 ≡ 0 → ⊥) → Turned g s ls ms os fs (suc j) k ms os fs₁ (suc j) k
+    skip-at : (getD ms m 0 ≡ 0 → ⊥) → PostTurned g s ls ms os fs (suc j) k ms os fs₁ (suc j) k
     unfolding whole framesOf turns weight
     skip-at f =
         record {
-          inside = record { chains = I .chains; mlen = I .mlen; olen = I .olen; flen = rw length-set (I .flen); room = I .room; node = node-skip; old = old-skip };
+          inside =
+              record { chains = I .chains; mlen = I .mlen; olen = I .olen; flen = rw length-set (I .flen); room = I .room; node = node-skip; old = old-skip };
           same = rw (at-top, frames-set fs j j (x % 128 + 128 * r) (omega arith), ← q)
               (fin-skip g s ls x (framesOf fs j) (record { marks = ms; left = take k os }) r top-old p qr m qm f);
           less = rw (at-top, frames-set fs j j (x % 128 + 128 * r) (omega arith), ← q) (omega (arith, shorter));
@@ -244,7 +247,7 @@ module _ (g : List ℕ) (s : Size) (ls ms os fs : List ℕ) (k j x : ℕ) (I : I
       unfolding turns weight
       less-push = rw (both, opened fs j, ← q) (omega (arith, fewer, short, shorter))
 
-      push-at : Turned g s ls ms os fs (suc j) k (set ms m 1) os fs₂ (suc (suc j)) k
+      push-at : PostTurned g s ls ms os fs (suc j) k (set ms m 1) os fs₂ (suc (suc j)) k
       unfolding whole
       push-at =
           record {
@@ -266,24 +269,27 @@ module _ (g : List ℕ) (s : Size) (ls ms os fs : List ℕ) (k j x : ℕ) (I : I
 -- ---- as the code leaves them
 
 module _ (g : List ℕ) (s : Size) (ls ms os fs : List ℕ) (h k : ℕ) (I : Inside g s ls ms os fs h k) (pos : 0 < h) where
-  pub turn-leave : (x : ℕ) → x ≡ getD fs (h - 1) 0 → x / 128 ≤ 0 → Turned g s ls ms os fs h k ms (set os k (x % 128)) fs (h - 1) (k + 1)
+  pub turn-leave : (x : ℕ) → x ≡ getD fs (h - 1) 0 → x / 128 ≤ 0 → PostTurned g s ls ms os fs h k ms (set os k (x % 128)) fs (h - 1) (k + 1)
   turn-leave x q e = go h I pos q
     where
-      go : (h : ℕ) → Inside g s ls ms os fs h k → 0 < h → x ≡ getD fs (h - 1) 0 → Turned g s ls ms os fs h k ms (set os k (x % 128)) fs (h - 1) (k + 1)
+      go : (h : ℕ) → Inside g s ls ms os fs h k → 0 < h → x ≡ getD fs (h - 1) 0 → PostTurned g s ls ms os fs h k ms (set os k (x % 128)) fs (h - 1) (k + 1)
       go zero I p q = absurd (not-suc-le-zero p)
       go (suc j) I p q = rw sub-one (leave-at g s ls ms os fs k j x I (rw sub-one at q) e)
 
-  pub turn-skip : (x m r : ℕ) → x ≡ getD fs (h - 1) 0 → 0 < x / 128 → m ≡ edgeIn g (x / 128 - 1) .target → r ≡ nextOld ls (x / 128 - 1) → (getD ms m 0 ≡ 0 → ⊥) → Turned g s ls ms os fs h k ms os (set fs (h - 1) (x % 128 + 128 * r)) h k
+  pub turn-skip : (x m r : ℕ) → x ≡ getD fs (h - 1) 0 → 0 < x / 128 → m ≡ edgeIn g (x / 128 - 1) .target → r ≡ nextOld ls (x / 128 - 1) → (getD ms m 0 ≡ 0 → ⊥)
+      → PostTurned g s ls ms os fs h k ms os (set fs (h - 1) (x % 128 + 128 * r)) h k
   turn-skip x m r q p qm qr f = go h I pos q
     where
-      go : (h : ℕ) → Inside g s ls ms os fs h k → 0 < h → x ≡ getD fs (h - 1) 0 → Turned g s ls ms os fs h k ms os (set fs (h - 1) (x % 128 + 128 * r)) h k
+      go : (h : ℕ) → Inside g s ls ms os fs h k → 0 < h → x ≡ getD fs (h - 1) 0 → PostTurned g s ls ms os fs h k ms os (set fs (h - 1) (x % 128 + 128 * r)) h k
       go zero I o q = absurd (not-suc-le-zero o)
       go (suc j) I o q = rw sub-one (skip-at g s ls ms os fs k j x I (rw sub-one at q) m r p qm qr f)
 
-  pub turn-push : (x m r f : ℕ) → x ≡ getD fs (h - 1) 0 → 0 < x / 128 → m ≡ edgeIn g (x / 128 - 1) .target → r ≡ nextOld ls (x / 128 - 1) → f ≡ firstOld ls m → getD ms m 0 ≡ 0 → Turned g s ls ms os fs h k (set ms m 1) os (set (set fs (h - 1) (x % 128 + 128 * r)) h (m + 128 * f)) (h + 1) k
+  pub turn-push : (x m r f : ℕ) → x ≡ getD fs (h - 1) 0 → 0 < x / 128 → m ≡ edgeIn g (x / 128 - 1) .target → r ≡ nextOld ls (x / 128 - 1) → f ≡ firstOld ls m
+      → getD ms m 0 ≡ 0 → PostTurned g s ls ms os fs h k (set ms m 1) os (set (set fs (h - 1) (x % 128 + 128 * r)) h (m + 128 * f)) (h + 1) k
   turn-push x m r f q p qm qr qf new = go h I pos q
     where
-      go : (h : ℕ) → Inside g s ls ms os fs h k → 0 < h → x ≡ getD fs (h - 1) 0 → Turned g s ls ms os fs h k (set ms m 1) os (set (set fs (h - 1) (x % 128 + 128 * r)) h (m + 128 * f)) (h + 1) k
+      go : (h : ℕ) → Inside g s ls ms os fs h k → 0 < h → x ≡ getD fs (h - 1) 0
+          → PostTurned g s ls ms os fs h k (set ms m 1) os (set (set fs (h - 1) (x % 128 + 128 * r)) h (m + 128 * f)) (h + 1) k
       go zero I o q = absurd (not-suc-le-zero o)
       go (suc j) I o q = rw (sub-one, add-one) (push-at g s ls ms os fs k j x I (rw sub-one at q) m r p qm qr f qf new)
 
@@ -335,13 +341,20 @@ module _ (g : List ℕ) (s : Size) (ls ms os fs : List ℕ) (f : ℕ) (c : Chain
         flen = rw length-set (F .flen);
         room = omega (arith, unseen-mark (s .nodes) 0 ms (c .stored .some) (omega (arith, mlong)) (mzero 0), unseen-le (s .nodes) ms);
         node = λ i l. let z : i ≡ 0 = omega arith in rw (z, getD-set-same fs 0 (128 * f) 0 short-frames, first-node) (c .stored .some);
-        old = λ i l. let z : i ≡ 0 = omega arith in rw (z, getD-set-same fs 0 (128 * f) 0 short-frames, first-node, first-place) (old-start g s ls 0 f c (c .stored .some) qf);
+        old =
+            λ i l. let z : i ≡ 0 = omega arith in rw (
+              z,
+              getD-set-same fs 0 (128 * f) 0 short-frames,
+              first-node,
+              first-place,
+            ) (old-start g s ls 0 f c (c .stored .some) qf);
       }
 
   first-whole : whole g s (set ms 0 1) os (set fs 0 (128 * f)) 1 0 ≡ visitIn g s 0 (record { marks = ms; left = [] })
   unfolding whole framesOf fin
   first-whole =
-      let o : Ok (s .nodes) (s .nodes) (record { marks = ms; left = [] }) = record { long = omega (arith, mlong, c .stored .nodes-most); few = unseen-le (s .nodes) ms } in
+      let o : Ok (s .nodes) (s .nodes) (record { marks = ms; left = [] }) =
+      record { long = omega (arith, mlong, c .stored .nodes-most); few = unseen-le (s .nodes) ms } in
       rw (getD-set-same fs 0 (128 * f) 0 short-frames, first-node, first-place, rest-all g s ls 0 f c (c .stored .some) qf)
       (sym (in-new g s (c .stored) 0 (record { marks = ms; left = [] }) (c .stored .some) o (mzero 0)))
 
@@ -349,7 +362,8 @@ module _ (g : List ℕ) (s : Size) (ls ms os fs : List ℕ) (f : ℕ) (c : Chain
   unfolding leftOf orderOf postorder visitIn
   start-whole = ap leftOf first-whole ∙ rw (F .none, nodes-count g s (c .stored))
 
-pub turn-on : (g : List ℕ) (s : Size) (ls ms os fs : List ℕ) (h k : ℕ) (P : List ℕ) (ms′ os′ fs′ : List ℕ) (h′ k′ : ℕ) → Turned g s ls ms os fs h k ms′ os′ fs′ h′ k′ → leftOf (whole g s ms os fs h k) ≡ P → leftOf (whole g s ms′ os′ fs′ h′ k′) ≡ P
+pub turn-on : (g : List ℕ) (s : Size) (ls ms os fs : List ℕ) (h k : ℕ) (P : List ℕ) (ms′ os′ fs′ : List ℕ) (h′ k′ : ℕ)
+    → PostTurned g s ls ms os fs h k ms′ os′ fs′ h′ k′ → leftOf (whole g s ms os fs h k) ≡ P → leftOf (whole g s ms′ os′ fs′ h′ k′) ≡ P
 turn-on g s ls ms os fs h k P ms′ os′ fs′ h′ k′ t e = ap leftOf (t .same) ∙ e
 
 turn-end : (g : List ℕ) (s : Size) (ms os fs : List ℕ) (h k : ℕ) (P : List ℕ) → leftOf (whole g s ms os fs h k) ≡ P → h ≤ 0 → take k os ≡ P
@@ -358,14 +372,16 @@ turn-end g s ms os fs zero k P e l = e
 turn-end g s ms os fs (suc h) k P e l = absurd (not-suc-le-zero l)
 
 -- the post-order in a table, k nodes
-pub record Listed (g : List ℕ) (s : Size) (ls os : List ℕ) (k : ℕ) : Type 0 where
+pub record Posted (g : List ℕ) (s : Size) (ls os : List ℕ) (k : ℕ) : Type 0 where
   pub chains : Chains g s ls
   pub is : take k os ≡ orderOf (graphIn g s)
   pub long : length os ≡ 128
   pub few : k ≤ 128
 
 -- every frame is finished
-pub turn-done : (g : List ℕ) (s : Size) (ls ms os fs : List ℕ) (f : ℕ) (ms′ os′ fs′ : List ℕ) (h k : ℕ) → Inside g s ls ms′ os′ fs′ h k → leftOf (whole g s ms′ os′ fs′ h k) ≡ leftOf (whole g s (set ms 0 1) os (set fs 0 (128 * f)) 1 0) → h ≤ 0 → Fresh ms os fs → f ≡ firstOld ls 0 → Listed g s ls os′ k
+pub turn-done : (g : List ℕ) (s : Size) (ls ms os fs : List ℕ) (f : ℕ) (ms′ os′ fs′ : List ℕ) (h k : ℕ) → Inside g s ls ms′ os′ fs′ h k
+    → leftOf (whole g s ms′ os′ fs′ h k) ≡ leftOf (whole g s (set ms 0 1) os (set fs 0 (128 * f)) 1 0) → h ≤ 0 → Fresh ms os fs → f ≡ firstOld ls 0
+    → Posted g s ls os′ k
 turn-done g s ls ms os fs f ms′ os′ fs′ h k I e l F qf =
     record {
       chains = I .chains;

@@ -27,8 +27,8 @@ bitsOf false true = 2
 bitsOf false false = 0
 
 -- each node's labels; 0 past the last node
-unfoldable pub marksOf : Graph → List ℕ
-marksOf G = map (λ n. bitsOf (installable G n) (missing G n)) (upto 128 0)
+unfoldable pub labelBits : Graph → List ℕ
+labelBits G = map (λ n. bitsOf (installable G n) (missing G n)) (upto 128 0)
 
 -- what a table of marks says of node t
 unfoldable pub instAt : List ℕ → ℕ → Bool
@@ -122,7 +122,8 @@ module _ (G : Graph) where
   unfolding passing
   passing-one rule n ns yet = split (rule (λ t. has t yet) n) (λ e. rw (e, passing)) (λ e. rw (e, passing))
 
-  agrees-all : (ns ms I M : List ℕ) → ((t : ℕ) → In t ns → t < 128) → Agrees ms I M → Agrees (marksAlong G ns ms) (passing (canInstall G) ns I) (passing (isLacking G) ns M)
+  agrees-all : (ns ms I M : List ℕ) → ((t : ℕ) → In t ns → t < 128) → Agrees ms I M
+      → Agrees (marksAlong G ns ms) (passing (canInstall G) ns I) (passing (isLacking G) ns M)
   unfolding marksAlong passing
   agrees-all [] ms I M h a = a
   agrees-all (n ∷ ns) ms I M h a =
@@ -184,8 +185,8 @@ length-upto : (k a : ℕ) → length (upto k a) ≡ k
 length-upto zero a = refl
 length-upto (suc k) a = ap suc (length-upto k (suc a))
 
-agrees-end : (G : Graph) (ms : List ℕ) → Agrees ms (installables G) (missings G) → ms ≡ marksOf G
-unfolding marksOf
+agrees-end : (G : Graph) (ms : List ℕ) → Agrees ms (installables G) (missings G) → ms ≡ labelBits G
+unfolding labelBits
 agrees-end G ms a =
     ext-getD 0 ms (map (λ n. bitsOf (installable G n) (missing G n)) (upto 128 0))
     (a .long ∙ sym (length-map (upto 128 0) (λ n. bitsOf (installable G n) (missing G n)) ∙ length-upto 128 0))
@@ -194,7 +195,8 @@ agrees-end G ms a =
     zero-plus : (t : ℕ) → bitsOf (installable G (0 + t)) (missing G (0 + t)) ≡ bitsOf (installable G t) (missing G t)
     zero-plus t = let z : 0 + t ≡ t = omega arith in rw z
 
-pub marks-end : (G : Graph) → Sound G → (ms : List ℕ) → ms ≡ cond (hasUnresolved G) (set (replicate 128 0) 1 2) (replicate 128 0) → marksAlong G (orderOf G) ms ≡ marksOf G
+pub marks-end : (G : Graph) → Sound G → (ms : List ℕ) → ms ≡ cond (hasUnresolved G) (set (replicate 128 0) 1 2) (replicate 128 0)
+    → marksAlong G (orderOf G) ms ≡ labelBits G
 unfolding installables
 marks-end G s ms q =
     agrees-end G (marksAlong G (orderOf G) ms)
@@ -208,6 +210,6 @@ marks-end G s ms q =
 
 -- ---- reading the result
 
-pub marks-at : (G : Graph) (n : ℕ) → n < 128 → getD (marksOf G) n 0 ≡ bitsOf (installable G n) (missing G n)
-unfolding marksOf
+pub marks-at : (G : Graph) (n : ℕ) → n < 128 → getD (labelBits G) n 0 ≡ bitsOf (installable G n) (missing G n)
+unfolding labelBits
 marks-at G n h = upto-at (λ n. bitsOf (installable G n) (missing G n)) 128 0 n h ∙ (let z : 0 + n ≡ n = omega arith in rw z)

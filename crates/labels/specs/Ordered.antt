@@ -74,17 +74,28 @@ module _ (to : ℕ → List ℕ) where
   same w s od = record { marks⁺ = λ t x. x; left⁺ = λ t x. x; fresh = λ t x. inl x; newly = λ t x. inl x; here = λ t x. absurd x; kept = s; ord = od }
 
   same-one : (n : ℕ) (w : Walk) → Marked w n → Sealed w → Ordered to (Acyclic to) (w .left) → Grown (n ∷ []) w w
-  same-one n w m s od = record { marks⁺ = λ t x. x; left⁺ = λ t x. x; fresh = λ t x. inl x; newly = λ t x. inl x; here = λ t x. either x (λ e. rw e m) (λ i. absurd i); kept = s; ord = od }
+  same-one n w m s od =
+      record {
+        marks⁺ = λ t x. x;
+        left⁺ = λ t x. x;
+        fresh = λ t x. inl x;
+        newly = λ t x. inl x;
+        here = λ t x. either x (λ e. rw e m) (λ i. absurd i);
+        kept = s;
+        ord = od;
+      }
 
   module _ (N : ℕ) (g : Inner to N) where
     grown-all : (F : ℕ → Walk → Walk) (b : ℕ) → ((n : ℕ) (w : Walk) → n < N → Ok N b w → Ok N b (F n w))
         → ((n : ℕ) (w : Walk) → n < N → Ok N b w → Opens w n → Sealed w → Ordered to (Acyclic to) (w .left) → Grown (n ∷ []) w (F n w))
-        → (ns : List ℕ) (w : Walk) → Below N ns → Ok N b w → ((m : ℕ) → In m ns → Opens w m) → Sealed w → Ordered to (Acyclic to) (w .left) → Grown ns w (through F ns w)
+        → (ns : List ℕ) (w : Walk) → Below N ns → Ok N b w → ((m : ℕ) → In m ns → Opens w m) → Sealed w → Ordered to (Acyclic to) (w .left)
+        → Grown ns w (through F ns w)
     unfolding through
     grown-all F b keep step [] w h o op s od = same w s od
     grown-all F b keep step (n ∷ ns) w h o op s od =
         let a : Grown (n ∷ []) w (F n w) = step n w (h n (inl refl)) o (op n (inl refl)) s od in
-        let c : Grown ns (F n w) (through F ns (F n w)) = grown-all F b keep step ns (F n w) (λ t i. h t (inr i)) (keep n w (h n (inl refl)) o) (λ m i. opens-on (n ∷ []) w (F n w) m a (op m (inr i))) (a .kept) (a .ord) in
+        let c : Grown ns (F n w) (through F ns (F n w)) = grown-all F b keep step ns (F n w) (λ t i. h t (inr i)) (keep n w (h n (inl refl)) o) (λ m i.
+        opens-on (n ∷ []) w (F n w) m a (op m (inr i))) (a .kept) (a .ord) in
         record {
           marks⁺ = λ t x. c .marks⁺ t (a .marks⁺ t x);
           left⁺ = λ t x. c .left⁺ t (a .left⁺ t x);
@@ -106,7 +117,9 @@ module _ (to : ℕ → List ℕ) where
       close {v} a = record {
         marks⁺ = λ t x. a .marks⁺ t (mark-kept w n t len x);
         left⁺ = λ t x. in-left t (v .left) (n ∷ []) (a .left⁺ t x);
-        fresh = λ t x. either (a .fresh t x) (λ k. either (marked-mark w n t k) (λ q. inr (rw q (in-last n (v .left)))) (λ j. inl j)) (λ i. inr (in-left t (v .left) (n ∷ []) i));
+        fresh =
+            λ t x. either (a .fresh t x) (λ k. either (marked-mark w n t k) (λ q. inr (rw q (in-last n (v .left)))) (λ j. inl j)) (λ i.
+            inr (in-left t (v .left) (n ∷ []) i));
         newly = λ t x. either (in-append t (v .left) (n ∷ []) x) (λ i. old t i) (λ j. either j (λ q. inr (rw q (λ m. m e))) (λ z. absurd z));
         here = λ t x. either x (λ q. rw q (a .marks⁺ n (mark-own w n len))) (λ i. absurd i);
         kept = λ t x. either (in-append t (v .left) (n ∷ []) x) (λ i. a .kept t i) (λ j. either j (λ q. rw q (a .marks⁺ n (mark-own w n len))) (λ z. absurd z));

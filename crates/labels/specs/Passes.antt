@@ -19,23 +19,26 @@ use Rattle.store.specs.Graph.{Graph, out, into, nodeAt, isUnresolved, isExclude
 use Rattle.store.specs.Words.{requirementCode}
 use Rattle.store.specs.Table.{graphIn, edgeIn, nodeIn, Stored, nodes-count, node-in}
 use Rattle.links.specs.Build.{Chains}
-use Rattle.links.specs.Walk.{Out, Into, firstOut, nextOut, firstIn, nextIn, outLeft, intoLeft, out-start, out-next, out-less, out-all, out-cons, out-end, into-start, into-next, into-less, into-all, into-cons, into-end}
+use Rattle.links.specs.Walk.{Out, Into, firstOut, nextOut, firstIn, nextIn, outLeft, intoLeft, out-start, out-next, out-less, out-all, out-cons, out-end}
+use Rattle.links.specs.Walk.{into-start, into-next, into-less, into-all, into-cons, into-end}
 use Rattle.labels.specs.declared.passes.Scan.{Scan}
 use Rattle.labels.specs.declared.passes.Verdict.{Verdict}
 use Rattle.labels.specs.Runs.{runsOf, everyRun, someRun}
 use Rattle.labels.specs.Labels.{orderOf, conflicts, excludes, canInstall, isLacking, hasUnresolved}
 use Rattle.labels.specs.Scan.{scanStart, scanEnd, stepOf, refused, verdict, verdict-is}
-use Rattle.labels.specs.Marks.{bitsOf, instAt, missAt, nodeMark, anew, marksAlong, marksOf, marks-end}
-use Rattle.labels.specs.Frames.{Listed}
+use Rattle.labels.specs.Marks.{bitsOf, instAt, missAt, nodeMark, anew, marksAlong, labelBits, marks-end}
+use Rattle.labels.specs.Frames.{Posted}
 use Rattle.labels.specs.Bounds.{sound, order-below}
 
 -- ---- one step of a scan
 
-pub step-same : (o : Scan) (k : ℕ) (i m b a : Bool) → o .key ≡ k → b ≡ o .bare && not i → a ≡ o .all && m → record { key = k; lost = o .lost; bare = b; hit = o .hit; all = a } ≡ stepOf o k i m
+pub step-same : (o : Scan) (k : ℕ) (i m b a : Bool) → o .key ≡ k → b ≡ o .bare && not i → a ≡ o .all && m
+    → record { key = k; lost = o .lost; bare = b; hit = o .hit; all = a } ≡ stepOf o k i m
 unfolding stepOf
 step-same o k i m b a e p q = rw (eq-eqb (o .key) k e, cond, p, q)
 
-pub step-other : (o : Scan) (k : ℕ) (i m l h : Bool) → (o .key ≡ k → ⊥) → l ≡ o .lost || o .bare → h ≡ o .hit || o .all → record { key = k; lost = l; bare = not i; hit = h; all = m } ≡ stepOf o k i m
+pub step-other : (o : Scan) (k : ℕ) (i m l h : Bool) → (o .key ≡ k → ⊥) → l ≡ o .lost || o .bare → h ≡ o .hit || o .all
+    → record { key = k; lost = l; bare = not i; hit = h; all = m } ≡ stepOf o k i m
 unfolding stepOf
 step-other o k i m l h e p q = rw (ne-eqb (o .key) k e, cond, p, q)
 
@@ -63,7 +66,8 @@ module _ (g ls : List ℕ) (n e r : ℕ) (w : Going g ls n e) (p : 0 < e) (q : r
   pub going-less : r < e
   going-less = out-less g (w .size) ls n e r (w .on) p q
 
-scan-whole : (g : List ℕ) (s : Size) (ls ms : List ℕ) (n r : ℕ) → Chains g s ls → n < s .nodes → r ≡ firstOut ls n → scanLeft g n ms r scanStart ≡ verdictOf (graphIn g s) ms n
+scan-whole : (g : List ℕ) (s : Size) (ls ms : List ℕ) (n r : ℕ) → Chains g s ls → n < s .nodes → r ≡ firstOut ls n
+    → scanLeft g n ms r scanStart ≡ verdictOf (graphIn g s) ms n
 unfolding scanLeft verdictOf
 scan-whole g s ls ms n r c h q = rw (out-all g s ls n r c h q)
 
@@ -74,7 +78,8 @@ pub scan-next : (g ls ms : List ℕ) (n e : ℕ) (o x : Scan) (Z : Verdict) (k r
 unfolding scanLeft verdict
 scan-next g ls ms n e o x Z k r i w p z qk qx qr = sym (sym i ∙ rw (out-cons g (w .size) ls n e r (w .on) p qr, ← qk, ne-eqb k 0 z, verdict, qx, ← qk))
 
-module _ (g : List ℕ) (s : Size) (ls ms : List ℕ) (n f e : ℕ) (o : Scan) (i : scanLeft g n ms e o ≡ scanLeft g n ms f scanStart) (c : Chains g s ls) (h : n < s .nodes) (qf : f ≡ firstOut ls n) where
+module _ (g : List ℕ) (s : Size) (ls ms : List ℕ) (n f e : ℕ) (o : Scan) (i : scanLeft g n ms e o ≡ scanLeft g n ms f scanStart) (c : Chains g s ls) (h : n
+    < s .nodes) (qf : f ≡ firstOut ls n) where
   pub scan-stop : (k : ℕ) → k ≡ 0 → k ≡ requirementCode (edgeIn g (e - 1) .weight) → Going g ls n e → 0 < e
       → refused ≡ verdictOf (graphIn g s) ms n
   unfolding scanLeft verdict
@@ -108,7 +113,8 @@ module _ (g ls : List ℕ) (n e r : ℕ) (w : Coming g ls n e) (p : 0 < e) (q : 
   unfolding exLeft
   ex-next t Z i z qt = sym (sym i ∙ rw (into-cons g (w .size) ls n e r (w .on) p q, ← qt, z, any))
 
-module _ (g : List ℕ) (s : Size) (ls : List ℕ) (n f e : ℕ) (i : exLeft g n e ≡ exLeft g n f) (c : Chains g s ls) (h : n < s .nodes) (qf : f ≡ firstIn ls n) where
+module _ (g : List ℕ) (s : Size) (ls : List ℕ) (n f e : ℕ) (i : exLeft g n e ≡ exLeft g n f) (c : Chains g s ls) (h : n < s .nodes) (qf : f
+    ≡ firstIn ls n) where
   ex-whole : exLeft g n f ≡ any excludes (into (graphIn g s) n)
   unfolding exLeft
   ex-whole = rw (into-all g s ls n f c h qf)
@@ -154,19 +160,27 @@ module _ (g : List ℕ) (s : Size) (ls : List ℕ) (n : ℕ) (every : Bool) wher
 
 -- ---- a node's mark
 
-pub mark-via : (g : List ℕ) (s : Size) (ls ms : List ℕ) (n : ℕ) (v : Verdict) (c i m a b : Bool) (r : ℕ) → v ≡ verdictOf (graphIn g s) ms n → c ≡ installing g s ls n (v .every) → i ≡ instAt ms n → m ≡ missAt ms n → a ≡ c || i → b ≡ v .some || m → r ≡ bitsOf a b → r ≡ nodeMark (graphIn g s) ms n
+pub mark-via : (g : List ℕ) (s : Size) (ls ms : List ℕ) (n : ℕ) (v : Verdict) (c i m a b : Bool) (r : ℕ) → v ≡ verdictOf (graphIn g s) ms n
+    → c ≡ installing g s ls n (v .every) → i ≡ instAt ms n → m ≡ missAt ms n → a ≡ c || i → b ≡ v .some || m → r ≡ bitsOf a b → r ≡ nodeMark (graphIn g s) ms n
 unfolding verdictOf installing nodeMark canInstall isLacking
 mark-via g s ls ms n v c i m a b r qv qc qi qm qa qb qr =
-    let z : v ≡ record { every = not (any conflicts (out (graphIn g s) n)) && everyRun (instAt ms) (runsOf (out (graphIn g s) n)); some = not (any conflicts (out (graphIn g s) n)) && someRun (missAt ms) (runsOf (out (graphIn g s) n)) } =
+    let z : v ≡ record {
+      every = not (any conflicts (out (graphIn g s) n)) && everyRun (instAt ms) (runsOf (out (graphIn g s) n));
+      some = not (any conflicts (out (graphIn g s) n)) && someRun (missAt ms) (runsOf (out (graphIn g s) n));
+    } =
     qv ∙ verdict-is (instAt ms) (missAt ms) (out (graphIn g s) n) in
     qr ∙ rw (qa, qb, qc, qi, qm, z)
 
 -- the mark by the rules alone, from the verdict on the outgoing edges
-pub again-via : (g : List ℕ) (s : Size) (ls ms : List ℕ) (n : ℕ) (v : Verdict) (c : Bool) (r : ℕ) → v ≡ verdictOf (graphIn g s) ms n → c ≡ installing g s ls n (v .every) → r ≡ bitsOf c (v .some)
+pub again-via : (g : List ℕ) (s : Size) (ls ms : List ℕ) (n : ℕ) (v : Verdict) (c : Bool) (r : ℕ) → v ≡ verdictOf (graphIn g s) ms n
+    → c ≡ installing g s ls n (v .every) → r ≡ bitsOf c (v .some)
     → r ≡ anew (graphIn g s) ms n
 unfolding verdictOf installing anew canInstall isLacking
 again-via g s ls ms n v c r qv qc qr =
-    let z : v ≡ record { every = not (any conflicts (out (graphIn g s) n)) && everyRun (instAt ms) (runsOf (out (graphIn g s) n)); some = not (any conflicts (out (graphIn g s) n)) && someRun (missAt ms) (runsOf (out (graphIn g s) n)) } =
+    let z : v ≡ record {
+      every = not (any conflicts (out (graphIn g s) n)) && everyRun (instAt ms) (runsOf (out (graphIn g s) n));
+      some = not (any conflicts (out (graphIn g s) n)) && someRun (missAt ms) (runsOf (out (graphIn g s) n));
+    } =
     qv ∙ verdict-is (instAt ms) (missAt ms) (out (graphIn g s) n) in
     qr ∙ rw (qc, z)
 
@@ -180,7 +194,7 @@ in-at (x ∷ l) (suc i) h = inr (in-at l i (omega arith))
 unfoldable pub marksLeft : Graph → List ℕ → ℕ → List ℕ → ℕ → List ℕ
 marksLeft G os k ms i = marksAlong G (drop i (take k os)) ms
 
-module _ (g : List ℕ) (s : Size) (ls os : List ℕ) (k : ℕ) (L : Listed g s ls os k) where
+module _ (g : List ℕ) (s : Size) (ls os : List ℕ) (k : ℕ) (L : Posted g s ls os k) where
   pub taken : length (take k os) ≡ k
   taken = length-take-le k os (omega (arith, L .few, L .long))
 
@@ -190,7 +204,10 @@ module _ (g : List ℕ) (s : Size) (ls os : List ℕ) (k : ℕ) (L : Listed g s 
 
   pub node-below : (n i : ℕ) → n ≡ getD os i 0 → i < k → n < s .nodes
   node-below n i q h =
-      rw (nodes-count g s (L .chains .stored)) at (order-below (graphIn g s) (sound g s (L .chains .stored)) n (rw (← L .is, q) (at (take k os) i (omega (arith, taken)) (getD-take k os i 0 h))))
+      rw (nodes-count g s (L .chains .stored)) at (order-below (graphIn g s) (sound g s (L .chains .stored)) n (rw (
+        ← L .is,
+        q,
+      ) (at (take k os) i (omega (arith, taken)) (getD-take k os i 0 h))))
     where
       at : (l : List ℕ) (i : ℕ) → i < length l → getD l i 0 ≡ getD os i 0 → In (getD os i 0) l
       at l i h e = rw (← e) (in-at l i h)
@@ -198,7 +215,8 @@ module _ (g : List ℕ) (s : Size) (ls os : List ℕ) (k : ℕ) (L : Listed g s 
   pub node-small : (n i : ℕ) → n ≡ getD os i 0 → i < k → n < 128
   node-small n i q h = omega (arith, node-below n i q h, L .chains .stored .nodes-most)
 
-  pub along-next : (ms m Z : List ℕ) (n i v : ℕ) → marksLeft (graphIn g s) os k ms i ≡ Z → n ≡ getD os i 0 → i < k → v ≡ nodeMark (graphIn g s) ms n → m ≡ set ms n v → marksLeft (graphIn g s) os k m (i + 1) ≡ Z
+  pub along-next : (ms m Z : List ℕ) (n i v : ℕ) → marksLeft (graphIn g s) os k ms i ≡ Z → n ≡ getD os i 0 → i < k → v ≡ nodeMark (graphIn g s) ms n
+      → m ≡ set ms n v → marksLeft (graphIn g s) os k m (i + 1) ≡ Z
   unfolding marksLeft marksAlong
   along-next ms m Z n i v e qn h qv qm =
       sym (sym e ∙ rw (drop-cons (take k os) i 0 (omega (arith, taken)), getD-take k os i 0 h, ← qn, add-one, qm, qv))
@@ -217,7 +235,8 @@ pub miss-via : (ms : List ℕ) (t v : ℕ) → v ≡ getD ms t 0 → ltb 1 v ≡
 unfolding missAt
 miss-via ms t v e = rw e
 
-pub step-via : (x o : Scan) (k t u : ℕ) (ms : List ℕ) (i m : Bool) → x ≡ stepOf o k i m → i ≡ instAt ms t → m ≡ missAt ms t → t ≡ u → x ≡ stepOf o k (instAt ms u) (missAt ms u)
+pub step-via : (x o : Scan) (k t u : ℕ) (ms : List ℕ) (i m : Bool) → x ≡ stepOf o k i m → i ≡ instAt ms t → m ≡ missAt ms t → t ≡ u
+    → x ≡ stepOf o k (instAt ms u) (missAt ms u)
 step-via x o k t u ms i m e p q z = rw (← z, ← p, ← q) e
 
 -- ---- before the pass, and the whole
@@ -240,6 +259,7 @@ module _ (g : List ℕ) (s : Size) (ms : List ℕ) (S : Stored g s) where
     pub start-without : u ≡ false → ms ≡ cond (hasUnresolved (graphIn g s)) (set ms 1 2) ms
     start-without e = rw (← is-first, e)
 
-pub label-whole : (g : List ℕ) (s : Size) (ls os : List ℕ) (k : ℕ) (ms m l : List ℕ) → Listed g s ls os k → Blank ms → m ≡ cond (hasUnresolved (graphIn g s)) (set ms 1 2) ms → l ≡ marksAlong (graphIn g s) (orderOf (graphIn g s)) m → l ≡ marksOf (graphIn g s)
+pub label-whole : (g : List ℕ) (s : Size) (ls os : List ℕ) (k : ℕ) (ms m l : List ℕ) → Posted g s ls os k → Blank ms
+    → m ≡ cond (hasUnresolved (graphIn g s)) (set ms 1 2) ms → l ≡ marksAlong (graphIn g s) (orderOf (graphIn g s)) m → l ≡ labelBits (graphIn g s)
 label-whole g s ls os k ms m l L B qm ql =
     ql ∙ marks-end (graphIn g s) (sound g s (L .chains .stored)) m (qm ∙ ap (λ (l : List ℕ). cond (hasUnresolved (graphIn g s)) (set l 1 2) l) (B .zeros))

@@ -15,7 +15,13 @@ needs a q b = record { source = a; target = b; weight = W.Requires q; clause = a
 
 -- P7: "All four nodes are missing, none installable."
 abbrev p7 : Graph
-p7 = record { nodes = N.Root ∷ N.UnresolvedDependency ∷ N.Solvable 0 ∷ N.Solvable 1 ∷ []; edges = needs 0 0 2 ∷ needs 0 0 3 ∷ needs 2 1 1 ∷ needs 3 1 1 ∷ []; firsts = 65535 ∷ 65535 ∷ 4 ∷ 6 ∷ []; hand = 9 }
+p7 =
+    record {
+      nodes = N.Root ∷ N.UnresolvedDependency ∷ N.Solvable 0 ∷ N.Solvable 1 ∷ [];
+      edges = needs 0 0 2 ∷ needs 0 0 3 ∷ needs 2 1 1 ∷ needs 3 1 1 ∷ [];
+      firsts = 65535 ∷ 65535 ∷ 4 ∷ 6 ∷ [];
+      hand = 9;
+    }
 
 p7-order : orderOf p7 ≡ 1 ∷ 2 ∷ 3 ∷ 0 ∷ []
 unfolding orderOf

@@ -153,7 +153,8 @@ unfolding along join
 along-none p f k [] = refl
 along-none p f k (e ∷ es) = go (λ k. along-none p f k es) (e .weight) refl
   where
-    go : ((k : ℕ) → along p (record { key = k; hit = false; all = false }) es ≡ false) → (w : ConflictEdge) → e .weight ≡ w → along p (record { key = k; hit = false; all = false }) (e ∷ es) ≡ false
+    go : ((k : ℕ) → along p (record { key = k; hit = false; all = false }) es ≡ false) → (w : ConflictEdge) → e .weight ≡ w
+        → along p (record { key = k; hit = false; all = false }) (e ∷ es) ≡ false
     go on (W.Conflict c) u = rw (u, along) (on k)
     go on (W.Requires q) u = rw (u, along, f (e .target)) (split (eqb k (suc q)) (λ t. rw t (on (suc q))) (λ t. rw t (on (suc q))))
 
@@ -170,7 +171,8 @@ module _ (p q : ℕ → Bool) where
   hitPart o = record { key = o .key; hit = o .hit; all = o .all }
 
   parts : Scan → List Edge → Verdict
-  parts o es = record { every = not (any conflicts es) && not (along (λ t. not (p t)) (lostPart o) es); some = not (any conflicts es) && along q (hitPart o) es }
+  parts o es =
+      record { every = not (any conflicts es) && not (along (λ t. not (p t)) (lostPart o) es); some = not (any conflicts es) && along q (hitPart o) es }
 
   verdict-parts : (o : Scan) (es : List Edge) → verdict p q o es ≡ parts o es
   unfolding verdict along join lostPart hitPart parts stepOf
@@ -186,6 +188,9 @@ module _ (p q : ℕ → Bool) where
           never : suc r ≡ 0 → _≡_ {A = ℕ} 1 0
           never z = cc
 
-  pub verdict-is : (es : List Edge) → verdict p q scanStart es ≡ record { every = not (any conflicts es) && everyRun p (runsOf es); some = not (any conflicts es) && someRun q (runsOf es) }
+  pub verdict-is : (es : List Edge) → verdict p q scanStart es ≡ record {
+    every = not (any conflicts es) && everyRun p (runsOf es);
+    some = not (any conflicts es) && someRun q (runsOf es);
+  }
   unfolding parts lostPart hitPart
   verdict-is es = verdict-parts scanStart es ∙ rw (along-start (λ t. not (p t)) es, along-start q es, every-not p (runsOf es))

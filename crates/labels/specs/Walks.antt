@@ -56,7 +56,8 @@ unseen-mark (suc k) n ms h l e =
 
 -- ---- one visit
 
-pub visit-at : (f : ℕ) (to : ℕ → List ℕ) (n : ℕ) (w : Walk) → getD (w .marks) n 0 ≡ 0 → visit (suc f) to n w ≡ leave n (through (λ m u. visit f to m u) (to n) (mark n w))
+pub visit-at : (f : ℕ) (to : ℕ → List ℕ) (n : ℕ) (w : Walk) → getD (w .marks) n 0 ≡ 0
+    → visit (suc f) to n w ≡ leave n (through (λ m u. visit f to m u) (to n) (mark n w))
 unfolding visit
 visit-at f to n w e = rw (eq-eqb (getD (w .marks) n 0) 0 e, visit)
 
@@ -86,12 +87,14 @@ abbrev pub Below : ℕ → List ℕ → Type 0
 Below N ns = (t : ℕ) → In t ns → t < N
 
 module _ (N : ℕ) where
-  pub through-ok : (F : ℕ → Walk → Walk) (b : ℕ) → ((n : ℕ) (w : Walk) → n < N → Ok N b w → Ok N b (F n w)) → (ns : List ℕ) (w : Walk) → Below N ns → Ok N b w → Ok N b (through F ns w)
+  pub through-ok : (F : ℕ → Walk → Walk) (b : ℕ) → ((n : ℕ) (w : Walk) → n < N → Ok N b w → Ok N b (F n w)) → (ns : List ℕ) (w : Walk) → Below N ns → Ok N b w
+      → Ok N b (through F ns w)
   unfolding through
   through-ok F b step [] w h o = o
   through-ok F b step (n ∷ ns) w h o = through-ok F b step ns (F n w) (λ t i. h t (inr i)) (step n w (h n (inl refl)) o)
 
-  through-same : (F H : ℕ → Walk → Walk) (b : ℕ) → ((n : ℕ) (w : Walk) → n < N → Ok N b w → Ok N b (H n w)) → ((n : ℕ) (w : Walk) → n < N → Ok N b w → F n w ≡ H n w) → (ns : List ℕ) (w : Walk) → Below N ns → Ok N b w → through F ns w ≡ through H ns w
+  through-same : (F H : ℕ → Walk → Walk) (b : ℕ) → ((n : ℕ) (w : Walk) → n < N → Ok N b w → Ok N b (H n w))
+      → ((n : ℕ) (w : Walk) → n < N → Ok N b w → F n w ≡ H n w) → (ns : List ℕ) (w : Walk) → Below N ns → Ok N b w → through F ns w ≡ through H ns w
   unfolding through
   through-same F H b keep same [] w h o = refl
   through-same F H b keep same (n ∷ ns) w h o =
@@ -116,11 +119,13 @@ module _ (N : ℕ) where
         (λ j e. sym (visit-past 1 to n w (λ q. omega arith)))
     more (suc f) n w h o =
         zero? (getD (w .marks) n 0)
-        (λ e. visit-at f to n w e ∙ ap (leave n) (through-same (λ m u. visit f to m u) (λ m u. visit (suc f) to m u) f (keeps (suc f) f) (more f) (to n) (mark n w) (g .each n h) (ok-mark N f n w h e o)) ∙ sym (visit-at (suc f) to n w e))
+        (λ e. visit-at f to n w e ∙ ap (leave n) (through-same (λ m u. visit f to m u) (λ m u. visit (suc f) to m u) f (keeps (suc f) f) (more f) (to n)
+        (mark n w) (g .each n h) (ok-mark N f n w h e o)) ∙ sym (visit-at (suc f) to n w e))
         (λ j e. visit-past (suc f) to n w (λ q. omega arith) ∙ sym (visit-past (suc (suc f)) to n w (λ q. omega arith)))
 
     -- the rule with the same number on both sides
-    pub visit-new : (n : ℕ) (w : Walk) → n < N → Ok N N w → getD (w .marks) n 0 ≡ 0 → visit N to n w ≡ leave n (through (λ m u. visit N to m u) (to n) (mark n w))
+    pub visit-new : (n : ℕ) (w : Walk) → n < N → Ok N N w → getD (w .marks) n 0 ≡ 0
+        → visit N to n w ≡ leave n (through (λ m u. visit N to m u) (to n) (mark n w))
     visit-new n w h o e = go N refl
       where
         go : (k : ℕ) → N ≡ k → visit N to n w ≡ leave n (through (λ m u. visit N to m u) (to n) (mark n w))
@@ -128,5 +133,6 @@ module _ (N : ℕ) where
         go (suc f) q =
             let o′ : Ok N (suc f) w = record { long = o .long; few = rw (← q) (o .few) } in
             let same : through (λ m u. visit f to m u) (to n) (mark n w) ≡ through (λ m u. visit (suc f) to m u) (to n) (mark n w) =
-            through-same (λ m u. visit f to m u) (λ m u. visit (suc f) to m u) f (keeps (suc f) f) (more f) (to n) (mark n w) (g .each n h) (ok-mark N f n w h e o′) in
+            through-same (λ m u. visit f to m u) (λ m u. visit (suc f) to m u) f (keeps (suc f) f) (more f) (to n) (mark n w) (g .each n h)
+            (ok-mark N f n w h e o′) in
             rw q (visit-at f to n w e ∙ ap (leave n) same)

@@ -6,25 +6,28 @@ pub mod passes;
 ghost use mathlib.Core.Path.{_≡_};
 ghost use Rattle.store.specs.Table.{graphIn};
 ghost use Rattle.links.specs.Build.{Chains};
-ghost use Rattle.labels.specs.Marks.{marksOf};
+ghost use Rattle.labels.specs.Marks.{labelBits};
 ghost use Rattle.labels.specs.Frames.{Fresh};
 ghost use Rattle.labels.specs.Passes.{Blank};
+use store::ChainWords;
+use store::GraphWords;
+use store::PerNode;
 use store::Size;
 
 // With the arrays that the walk needs.
 fn label_in(
-    g: &[u64; 1152],
+    g: &GraphWords,
     s: Size,
-    ls: &[u16; 3456],
-    marks: &mut [u16; 128],
-    seen: &mut [u16; 128],
-    order: &mut [u16; 128],
+    ls: &ChainWords,
+    marks: &mut PerNode,
+    seen: &mut PerNode,
+    order: &mut PerNode,
     frames: &mut [u32; 128],
 )
     requires { ⌜ Chains (now g) s (now ls) ⌝ }
     requires { ⌜ Blank (now marks) ⌝ }
     requires { ⌜ Fresh (now seen) (now order) (now frames) ⌝ }
-    ensures { λ _. ⌜ now (marks .exit) ≡ marksOf (graphIn (now (g .entry)) s) ⌝ }
+    ensures { λ _. ⌜ now (marks .exit) ≡ labelBits (graphIn (now (g .entry)) s) ⌝ }
 {
     let count = order::post_order(g, s, ls, seen, order, frames);
     passes::mark_start(g, s, marks);
@@ -32,10 +35,10 @@ fn label_in(
 }
 
 // Each node's labels, 1 for installable and 2 for missing, into a table of zeros.
-pub fn label(g: &[u64; 1152], s: Size, ls: &[u16; 3456], marks: &mut [u16; 128])
+pub fn label(g: &GraphWords, s: Size, ls: &ChainWords, marks: &mut PerNode)
     requires { ⌜ Chains (now g) s (now ls) ⌝ }
     requires { ⌜ Blank (now marks) ⌝ }
-    ensures { λ _. ⌜ now (marks .exit) ≡ marksOf (graphIn (now (g .entry)) s) ⌝ }
+    ensures { λ _. ⌜ now (marks .exit) ≡ labelBits (graphIn (now (g .entry)) s) ⌝ }
 {
     let mut seen = [0u16; 128];
     let mut order = [0u16; 128];

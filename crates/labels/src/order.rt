@@ -3,7 +3,10 @@
 ghost use mathlib.Core.Path.{_≡_};
 ghost use Prim.Native.Nat.{_<_};
 ghost use Rattle.links.specs.Build.{Chains};
-ghost use Rattle.labels.specs.Frames.{Inside, Turned, Fresh, Listed};
+ghost use Rattle.labels.specs.Frames.{Inside, PostTurned, Fresh, Posted};
+use store::ChainWords;
+use store::GraphWords;
+use store::PerNode;
 use store::Size;
 
 // How many frames there are, and how many nodes were left.
@@ -20,18 +23,19 @@ fn wide32(x: u32) -> usize
 
 // One turn: the top frame takes its next target, or is left.
 fn turn(
-    g: &[u64; 1152],
+    g: &GraphWords,
     s: Size,
-    ls: &[u16; 3456],
-    seen: &mut [u16; 128],
-    order: &mut [u16; 128],
+    ls: &ChainWords,
+    seen: &mut PerNode,
+    order: &mut PerNode,
     frames: &mut [u32; 128],
     high: usize,
     left: usize,
 ) -> At
     requires { ⌜ Inside (now g) s (now ls) (now seen) (now order) (now frames) high left ⌝ }
     requires { ⌜ 0 < high ⌝ }
-    ensures { λ r. ⌜ Turned (now (g .entry)) s (now (ls .entry)) (now (seen .entry)) (now (order .entry)) (now (frames .entry)) high left (now (seen .exit)) (now (order .exit)) (now (frames .exit)) (r .high) (r .left) ⌝ }
+    ensures { λ r. ⌜ PostTurned (now (g .entry)) s (now (ls .entry)) (now (seen .entry)) (now (order .entry)) (now (frames .entry)) high left (now (seen .exit))
+        (now (order .exit)) (now (frames .exit)) (r .high) (r .left) ⌝ }
 {
     let top = high - 1;
     let x = wide32(frames[top]);
@@ -64,16 +68,16 @@ fn turn(
 
 // The nodes in post-order; how many.
 pub fn post_order(
-    g: &[u64; 1152],
+    g: &GraphWords,
     s: Size,
-    ls: &[u16; 3456],
-    seen: &mut [u16; 128],
-    order: &mut [u16; 128],
+    ls: &ChainWords,
+    seen: &mut PerNode,
+    order: &mut PerNode,
     frames: &mut [u32; 128],
 ) -> usize
     requires { ⌜ Chains (now g) s (now ls) ⌝ }
     requires { ⌜ Fresh (now seen) (now order) (now frames) ⌝ }
-    ensures { λ r. ⌜ Listed (now (g .entry)) s (now (ls .entry)) (now (order .exit)) r ⌝ }
+    ensures { λ r. ⌜ Posted (now (g .entry)) s (now (ls .entry)) (now (order .exit)) r ⌝ }
 {
     let f = links::first_old(ls, 0);
     seen[0] = 1;

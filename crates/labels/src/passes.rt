@@ -11,8 +11,11 @@ ghost use Rattle.links.specs.Build.{Chains};
 ghost use Rattle.labels.specs.Labels.{orderOf, excludes, hasUnresolved};
 ghost use Rattle.labels.specs.Scan.{stepOf};
 ghost use Rattle.labels.specs.Marks.{bitsOf, instAt, missAt, nodeMark, anew, marksAlong};
-ghost use Rattle.labels.specs.Frames.{Listed};
+ghost use Rattle.labels.specs.Frames.{Posted};
 ghost use Rattle.labels.specs.Passes.{verdictOf, installing};
+use store::ChainWords;
+use store::GraphWords;
+use store::PerNode;
 use store::Size;
 
 // One pass along a node's outgoing edges. `key` is 1 + the requirement of the run that is open, 0 before the first.
@@ -56,13 +59,13 @@ fn bits(installable: bool, missing: bool) -> u16
     }
 }
 
-fn inst_at(marks: &[u16; 128], t: usize) -> bool
+fn inst_at(marks: &PerNode, t: usize) -> bool
     ensures { λ r. ⌜ r ≡ instAt (now (marks .entry)) t ⌝ }
 {
     basis::get16(marks, t) % 2 == 1
 }
 
-fn miss_at(marks: &[u16; 128], t: usize) -> bool
+fn miss_at(marks: &PerNode, t: usize) -> bool
     ensures { λ r. ⌜ r ≡ missAt (now (marks .entry)) t ⌝ }
 {
     1 < basis::get16(marks, t)
@@ -90,14 +93,15 @@ fn step(o: Scan, k: u64, i: bool, m: bool) -> Scan
 }
 
 // The step that edge e makes, with key k.
-fn step_at(g: &[u64; 1152], marks: &[u16; 128], o: Scan, k: u64, e: usize) -> Scan
-    ensures { λ r. ⌜ r ≡ stepOf o k (instAt (now (marks .entry)) (edgeIn (now (g .entry)) e .target)) (missAt (now (marks .entry)) (edgeIn (now (g .entry)) e .target)) ⌝ }
+fn step_at(g: &GraphWords, marks: &PerNode, o: Scan, k: u64, e: usize) -> Scan
+    ensures { λ r. ⌜ r ≡ stepOf o k (instAt (now (marks .entry)) (edgeIn (now (g .entry)) e .target))
+        (missAt (now (marks .entry)) (edgeIn (now (g .entry)) e .target)) ⌝ }
 {
     let t = store::target_at(g, e);
     step(o, k, inst_at(marks, t), miss_at(marks, t))
 }
 
-fn scan_out(g: &[u64; 1152], s: Size, ls: &[u16; 3456], marks: &[u16; 128], n: usize) -> Verdict
+fn scan_out(g: &GraphWords, s: Size, ls: &ChainWords, marks: &PerNode, n: usize) -> Verdict
     requires { ⌜ Chains (now g) s (now ls) ⌝ }
     requires { ⌜ n < s .nodes ⌝ }
     ensures { λ r. ⌜ r ≡ verdictOf (graphIn (now (g .entry)) s) (now (marks .entry)) n ⌝ }
@@ -128,7 +132,7 @@ fn scan_out(g: &[u64; 1152], s: Size, ls: &[u16; 3456], marks: &[u16; 128], n: u
 }
 
 // An Excluded edge leads to n.
-fn excluded_into(g: &[u64; 1152], s: Size, ls: &[u16; 3456], n: usize) -> bool
+fn excluded_into(g: &GraphWords, s: Size, ls: &ChainWords, n: usize) -> bool
     requires { ⌜ Chains (now g) s (now ls) ⌝ }
     requires { ⌜ n < s .nodes ⌝ }
     ensures { λ r. ⌜ r ≡ any excludes (into (graphIn (now (g .entry)) s) n) ⌝ }
@@ -145,7 +149,7 @@ fn excluded_into(g: &[u64; 1152], s: Size, ls: &[u16; 3456], n: usize) -> bool
     false
 }
 
-fn can_install(g: &[u64; 1152], s: Size, ls: &[u16; 3456], n: usize, every: bool) -> bool
+fn can_install(g: &GraphWords, s: Size, ls: &ChainWords, n: usize, every: bool) -> bool
     requires { ⌜ Chains (now g) s (now ls) ⌝ }
     requires { ⌜ n < s .nodes ⌝ }
     ensures { λ r. ⌜ r ≡ installing (now (g .entry)) s (now (ls .entry)) n every ⌝ }
@@ -162,7 +166,7 @@ fn can_install(g: &[u64; 1152], s: Size, ls: &[u16; 3456], n: usize, every: bool
 }
 
 // Node n's mark, from the marks so far.
-fn node_mark(g: &[u64; 1152], s: Size, ls: &[u16; 3456], marks: &[u16; 128], n: usize) -> u16
+fn node_mark(g: &GraphWords, s: Size, ls: &ChainWords, marks: &PerNode, n: usize) -> u16
     requires { ⌜ Chains (now g) s (now ls) ⌝ }
     requires { ⌜ n < s .nodes ⌝ }
     ensures { λ r. ⌜ r ≡ nodeMark (graphIn (now (g .entry)) s) (now (marks .entry)) n ⌝ }
@@ -175,7 +179,7 @@ fn node_mark(g: &[u64; 1152], s: Size, ls: &[u16; 3456], marks: &[u16; 128], n: 
 }
 
 // Node n's mark by the rules alone, whatever mark it has (order 10).
-pub fn mark_again(g: &[u64; 1152], s: Size, ls: &[u16; 3456], marks: &[u16; 128], n: usize) -> u16
+pub fn mark_again(g: &GraphWords, s: Size, ls: &ChainWords, marks: &PerNode, n: usize) -> u16
     requires { ⌜ Chains (now g) s (now ls) ⌝ }
     requires { ⌜ n < s .nodes ⌝ }
     ensures { λ r. ⌜ r ≡ anew (graphIn (now (g .entry)) s) (now (marks .entry)) n ⌝ }
@@ -186,7 +190,7 @@ pub fn mark_again(g: &[u64; 1152], s: Size, ls: &[u16; 3456], marks: &[u16; 128]
 }
 
 // Before the pass: the unresolved node is missing, where there is one.
-pub fn mark_start(g: &[u64; 1152], s: Size, marks: &mut [u16; 128])
+pub fn mark_start(g: &GraphWords, s: Size, marks: &mut PerNode)
     requires { ⌜ Stored (now g) s ⌝ }
     ensures { λ _. ⌜ now (marks .exit) ≡ cond (hasUnresolved (graphIn (now (g .entry)) s)) (set (now (marks .entry)) 1 2) (now (marks .entry)) ⌝ }
 {
@@ -200,14 +204,14 @@ pub fn mark_start(g: &[u64; 1152], s: Size, marks: &mut [u16; 128])
 }
 
 pub fn mark_all(
-    g: &[u64; 1152],
+    g: &GraphWords,
     s: Size,
-    ls: &[u16; 3456],
-    marks: &mut [u16; 128],
-    order: &[u16; 128],
+    ls: &ChainWords,
+    marks: &mut PerNode,
+    order: &PerNode,
     count: usize,
 )
-    requires { ⌜ Listed (now g) s (now ls) (now order) count ⌝ }
+    requires { ⌜ Posted (now g) s (now ls) (now order) count ⌝ }
     ensures { λ _. ⌜ now (marks .exit) ≡ marksAlong (graphIn (now (g .entry)) s) (orderOf (graphIn (now (g .entry)) s)) (now (marks .entry)) ⌝ }
 {
     let mut i: usize = 0;

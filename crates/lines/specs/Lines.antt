@@ -9,7 +9,7 @@ use Rattle.records.specs.Views.{nameText, setName, setText, requirementText, re
 use Rattle.labels.specs.Runs.{Run}
 use Rattle.machine.specs.Machine.{Entry, Op, requirement, candidate}
 use Rattle.texts.specs.Indent.{indent, atTop}
-use Rattle.plan.specs.Plan.{Shown, runInstallable, noCandidates, Kind, excluded, bare, conflicting, constraining, requiring, kindOf}
+use Rattle.plan.specs.Plan.{Shown, runInstallable, noCandidates, Kind, excluded, bare, conflicting, constraining, requiring, lineKind}
 use Rattle.plan.specs.Display.{packageText}
 
 -- "Option 1 indents the top level"
@@ -25,12 +25,14 @@ module _ (S : Shown) where
       (cond top (utf8 "No candidates were found for " ++ q ++ utf8 ".") (q ++ utf8 ", for which no candidates were found."))
       (cond (runInstallable S r)
       (q ++ cond top (utf8 " can be installed with any of the following options:") (utf8 ", which can be installed with any of the following options:"))
-      (q ++ cond top (utf8 " cannot be installed because there are no viable options:") (utf8 ", which cannot be installed because there are no viable options:")))
+      (q ++ cond top (utf8 " cannot be installed because there are no viable options:")
+      (utf8 ", which cannot be installed because there are no viable options:")))
 
   -- lines 1138 to 1150
   abbrev pub setLine : ℕ → List ℕ
   setLine v =
-      nameText (S .tables) (setName (S .tables) v) ++ utf8 " " ++ setText (S .tables) v ++ utf8 ", which conflicts with any installable versions previously reported"
+      nameText (S .tables) (setName (S .tables) v) ++ utf8 " " ++ setText (S .tables) v
+      ++ utf8 ", which conflicts with any installable versions previously reported"
 
   -- lines 1136 to 1151; "under 'would constrain' the final line is" last
   abbrev pub setLines : ℕ → List Bool → List ℕ → List (List ℕ)
@@ -51,5 +53,5 @@ module _ (S : Shown) where
   linesOf opt e =
       elim (e .op) [
         | requirement r ↦ (indent (topOf opt) (e .marks) ++ runLine (atTop (e .marks)) r ++ utf8 "\n") ∷ []
-        | candidate n ↦ packageLines opt (e .marks) n (kindOf S n)
+        | candidate n ↦ packageLines opt (e .marks) n (lineKind S n)
       ]

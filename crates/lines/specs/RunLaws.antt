@@ -14,7 +14,7 @@ use Rattle.records.specs.Views.{requirementText}
 use Rattle.texts.specs.Wrote.{Wrote}
 use Rattle.texts.specs.Laws.Wrote.{wrote-none}
 use Rattle.texts.specs.Indent.{indent}
-use Rattle.texts.specs.Marks.{marksAt, marksOf}
+use Rattle.texts.specs.MarkBits.{marksAt, marksIn}
 use Rattle.texts.specs.Levels.{marks-count}
 use Rattle.lines.specs.Said.{runLead, runTail, runSaid, wordsSize}
 use Rattle.lines.specs.Tried.{Tried, tried-wrote, tried-full}
@@ -101,16 +101,20 @@ module _ (top : Bool) (w : ℕ) where
     pub found-wrote : w ≡ 0 → top ≡ false → Wrote (utf8 ", for which no candidates were found.\n") o d r → Wrote (runTail top w) o d r
     found-wrote a b h = rw (found-is a b) h
 
-    pub options-wrote : (w ≡ 0 → ⊥) → w ≡ 1 → top ≡ true → Wrote (utf8 " can be installed with any of the following options:\n") o d r → Wrote (runTail top w) o d r
+    pub options-wrote : (w ≡ 0 → ⊥) → w ≡ 1 → top ≡ true → Wrote (utf8 " can be installed with any of the following options:\n") o d r
+        → Wrote (runTail top w) o d r
     options-wrote a c b h = rw (options-is a c b) h
 
-    pub which-options-wrote : (w ≡ 0 → ⊥) → w ≡ 1 → top ≡ false → Wrote (utf8 ", which can be installed with any of the following options:\n") o d r → Wrote (runTail top w) o d r
+    pub which-options-wrote : (w ≡ 0 → ⊥) → w ≡ 1 → top ≡ false → Wrote (utf8 ", which can be installed with any of the following options:\n") o d r
+        → Wrote (runTail top w) o d r
     which-options-wrote a c b h = rw (which-options-is a c b) h
 
-    pub viable-wrote : (w ≡ 0 → ⊥) → (w ≡ 1 → ⊥) → top ≡ true → Wrote (utf8 " cannot be installed because there are no viable options:\n") o d r → Wrote (runTail top w) o d r
+    pub viable-wrote : (w ≡ 0 → ⊥) → (w ≡ 1 → ⊥) → top ≡ true → Wrote (utf8 " cannot be installed because there are no viable options:\n") o d r
+        → Wrote (runTail top w) o d r
     viable-wrote a c b h = rw (viable-is a c b) h
 
-    pub which-viable-wrote : (w ≡ 0 → ⊥) → (w ≡ 1 → ⊥) → top ≡ false → Wrote (utf8 ", which cannot be installed because there are no viable options:\n") o d r → Wrote (runTail top w) o d r
+    pub which-viable-wrote : (w ≡ 0 → ⊥) → (w ≡ 1 → ⊥) → top ≡ false → Wrote (utf8 ", which cannot be installed because there are no viable options:\n") o d r
+        → Wrote (runTail top w) o d r
     which-viable-wrote a c b h = rw (which-viable-is a c b) h
 
   pub lead-below-wrote : (o : List ℕ) → w ≡ 0 → top ≡ false → Wrote (runLead top w) o o 0
@@ -145,7 +149,20 @@ module _ (top : Bool) (w : ℕ) where
 
 pub ruleset leads = (lead-room, lead-wrote, lead-below-wrote, lead-other-wrote)
 
-pub ruleset tails = (stop-room, stop-wrote, found-room, found-wrote, options-room, options-wrote, which-options-room, which-options-wrote, viable-room, viable-wrote, which-viable-room, which-viable-wrote)
+pub ruleset tails = (
+  stop-room,
+  stop-wrote,
+  found-room,
+  found-wrote,
+  options-room,
+  options-wrote,
+  which-options-room,
+  which-options-wrote,
+  viable-room,
+  viable-wrote,
+  which-viable-room,
+  which-viable-wrote,
+)
 
 pub ruleset sizes = (stop-size, found-size, options-size, which-options-size, viable-size, which-viable-size)
 
@@ -159,13 +176,15 @@ tail-some false w = split (eqb w 0) (λ q. rw q (omega arith)) (λ q. split (eqb
 -- a: the indent's length, s: that of the wording, text: the requirement's
 module _ (T : Tables) (top : Bool) (ws : List ℕ) (n w q : ℕ) (text : List ℕ) (is : text ≡ requirementText T q) where
   run-is : runSaid T top (marksAt ws n) w q ≡ indent top (marksAt ws n) ++ runLead (eqb n 1) w ++ text ++ runTail (eqb n 1) w
-  unfolding runSaid marksOf
+  unfolding runSaid marksIn
   run-is = let c : length (marksAt ws n) ≡ n = marks-count (record { levels = ws; count = n; top = top }) in rw (is, c)
 
-  run-size : length (runSaid T top (marksAt ws n) w q) ≡ length (indent top (marksAt ws n)) + (length (runLead (eqb n 1) w) + length (runTail (eqb n 1) w)) + length text
+  run-size : length (runSaid T top (marksAt ws n) w q) ≡ length (indent top (marksAt ws n)) + (length (runLead (eqb n 1) w) + length (runTail (eqb n 1) w))
+      + length text
   run-size = rw (run-is, length-append, length-append, length-append) (omega arith)
 
-  pub run-wrote : (o d : List ℕ) (r : ℕ) → Wrote (indent top (marksAt ws n) ++ runLead (eqb n 1) w ++ text ++ runTail (eqb n 1) w) o d r → Tried (runSaid T top (marksAt ws n) w q) o d r
+  pub run-wrote : (o d : List ℕ) (r : ℕ) → Wrote (indent top (marksAt ws n) ++ runLead (eqb n 1) w ++ text ++ runTail (eqb n 1) w) o d r
+      → Tried (runSaid T top (marksAt ws n) w q) o d r
   run-wrote o d r h =
       let l = run-size in
       let z = tail-some (eqb n 1) w in

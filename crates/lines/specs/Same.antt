@@ -17,11 +17,11 @@ use Rattle.store.specs.Graph.{Graph}
 use Rattle.labels.specs.Runs.{Run}
 use Rattle.machine.specs.Machine.{Entry, entry, requirement, candidate}
 use Rattle.texts.specs.Indent.{indent, atTop}
-use Rattle.plan.specs.Plan.{Shown, shownOf, leadOf, runInstallable, noCandidates, Kind, excluded, bare, conflicting, constraining, requiring, kindOf}
+use Rattle.plan.specs.Plan.{Shown, shownOf, leadShown, runInstallable, noCandidates, Kind, excluded, bare, conflicting, constraining, requiring, lineKind}
 use Rattle.plan.specs.Display.{solvableOf, membersOf, packageText}
 use Rattle.plan.specs.Fields.{solvableIn, tagIn, reasonIn, setsIn, kindIn, kindBy, requirementIn, wordingIn}
 use Rattle.plan.specs.Planned.{wordingOf, RunIs, NodeIs, Planned}
-use Rattle.plan.specs.Mates.{in-upto, members-alike}
+use Rattle.plan.specs.Mates.{upto-in, members-alike}
 use Rattle.plan.specs.Texts.{packageIn}
 use Rattle.plan.specs.Laws.Texts.{package-agrees}
 use Rattle.lines.specs.Lines.{topOf, runLine, setLine, setLines, packageLines, linesOf}
@@ -34,7 +34,8 @@ words-same : (top no yes : Bool) (a q : List ℕ)
     ≡ a ++ cond no (cond top (utf8 "No candidates were found for " ++ q ++ utf8 ".") (q ++ utf8 ", for which no candidates were found."))
     (cond yes
     (q ++ cond top (utf8 " can be installed with any of the following options:") (utf8 ", which can be installed with any of the following options:"))
-    (q ++ cond top (utf8 " cannot be installed because there are no viable options:") (utf8 ", which cannot be installed because there are no viable options:"))) ++ utf8 "\n"
+    (q ++ cond top (utf8 " cannot be installed because there are no viable options:")
+    (utf8 ", which cannot be installed because there are no viable options:"))) ++ utf8 "\n"
 unfolding runLead runTail
 words-same true true y a q = simp append-assoc
 words-same false true y a q = simp append-assoc
@@ -66,7 +67,11 @@ module _ (T : Tables) (G : Graph) (p k : List ℕ) where
   module _ (z : Planned S p k) where
     member-below : (n : ℕ) → n < length (G .nodes) → (x : ℕ) → In x (membersOf S n) → x < length (G .nodes)
     member-below n h x i =
-        omega (arith, in-upto (length (G .nodes)) 0 x (in-filter (λ m. eqb (leadOf S m) (leadOf S n)) x (upto (length (G .nodes)) 0) (rw (members-alike T G n h) at i) .1) .1)
+        omega (
+          arith,
+          upto-in (length (G .nodes)) 0 x (in-filter (λ m. eqb (leadShown S m) (leadShown S n)) x (upto (length (G .nodes)) 0)
+              (rw (members-alike T G n h) at i) .1) .1,
+        )
 
     solvable-same : (x : ℕ) → x < length (G .nodes) → solvableIn p x ≡ solvableOf S x
     unfolding shownOf
@@ -81,7 +86,9 @@ module _ (T : Tables) (G : Graph) (p k : List ℕ) where
     sets-same : (opt : ℕ) (ms : List Bool) (vs : List ℕ) → setsSaid T (topOf opt) ms vs ≡ setLines S opt ms vs
     unfolding setsSaid setSaid shownOf
     sets-same opt ms [] = refl
-    sets-same opt ms (v ∷ vs) = rw (sets-same opt ms vs) (ap (λ (l : List ℕ). l ∷ setLines S opt ms vs) (set-words (indent (topOf opt) (isNil vs ∷ ms)) (nameText T (setName T v)) (setText T v)))
+    sets-same opt ms (v ∷ vs) =
+        rw (sets-same opt ms vs) (ap (λ (l : List ℕ). l ∷ setLines S opt ms vs)
+        (set-words (indent (topOf opt) (isNil vs ∷ ms)) (nameText T (setName T v)) (setText T v)))
 
     kind-same : (opt : ℕ) (ms : List Bool) (n t r : ℕ) (vs : List ℕ) (x : List ℕ) → x ≡ packageText S n
         → (indent (topOf opt) ms ++ x ++ packageTail T t r) ∷ cond (eqb t 3) (setsSaid T (topOf opt) ms vs) [] ≡ packageLines S opt ms n (kindBy t r vs)

@@ -20,7 +20,8 @@ pub record Tried (line room left : List ℕ) (r : ℕ) : Type 0 where
   pub within : r ≤ length room
 
 pub tried-wrote : {line o d : List ℕ} {r : ℕ} → Wrote line o d r → 0 < length line → Tried line o d r
-tried-wrote {line} {o} {d} {r} w h = record { wrote = λ q. w; full = λ q. let c = w .count in let z : ⊥ = omega arith in absurd z; within = let c = w .count in let f = w .fits in omega arith }
+tried-wrote {line} {o} {d} {r} w h =
+    record { wrote = λ q. w; full = λ q. let c = w .count in let z : ⊥ = omega arith in absurd z; within = let c = w .count in let f = w .fits in omega arith }
 
 pub tried-full : (line o : List ℕ) → length o < length line → Tried line o o 0
 tried-full line o h = record { wrote = λ q. let z : ⊥ = omega arith in absurd z; full = λ q. (refl, h); within = omega arith }
@@ -30,7 +31,7 @@ tried-full line o h = record { wrote = λ q. let z : ⊥ = omega arith in absurd
 abbrev pub textAll : List (List ℕ) → List ℕ
 textAll ls = concatMap (λ l. l) ls
 
-pub record Whole (ls : List (List ℕ)) (room left : List ℕ) (bytes units : ℕ) : Type 0 where
+pub record LinesWhole (ls : List (List ℕ)) (room left : List ℕ) (bytes units : ℕ) : Type 0 where
   pub wrote : Wrote (textAll ls) room left bytes
   pub count : units ≡ length ls
 
@@ -45,7 +46,7 @@ pub record Broken (ls : List (List ℕ)) (room left : List ℕ) (bytes units : �
   pub over : length room < bytes + length line
 
 abbrev pub Lined : List (List ℕ) → List ℕ → List ℕ → ℕ → ℕ → Bool → Type 0
-Lined ls o d b u false = Whole ls o d b u
+Lined ls o d b u false = LinesWhole ls o d b u
 Lined ls o d b u true = Broken ls o d b u
 
 -- ---- two results that the relations allow are equal
@@ -87,7 +88,8 @@ same-tail : {A : Type 0} {x y : A} {xs ys : List A} → _≡_ {A = List A} (x �
 same-tail e = cc
 
 -- the lines before the first that does not fit
-same-first : (f g : List (List ℕ)) (l m : List ℕ) (fs gs : List (List ℕ)) (room : ℕ) → f ++ (l ∷ fs) ≡ g ++ (m ∷ gs) → length (textAll f) ≤ room → room < length (textAll f) + length l
+same-first : (f g : List (List ℕ)) (l m : List ℕ) (fs gs : List (List ℕ)) (room : ℕ) → f ++ (l ∷ fs) ≡ g ++ (m ∷ gs) → length (textAll f) ≤ room
+    → room < length (textAll f) + length l
     → length (textAll g) ≤ room → room < length (textAll g) + length m → f ≡ g
 same-first [] [] l m fs gs room e a b c d = refl
 same-first [] (y ∷ g) l m fs gs room e a b c d =
@@ -108,7 +110,7 @@ same-first (x ∷ f) (y ∷ g) l m fs gs room e a b c d =
     let t = same-first f g l m fs gs (room - length x) (same-tail e) (omega arith) (omega arith) (omega arith) (omega arith) in
     rw (q, t)
 
-whole-broken : {ls : List (List ℕ)} {o d e : List ℕ} {b c u v : ℕ} → Whole ls o d b u → Broken ls o e c v → ⊥
+whole-broken : {ls : List (List ℕ)} {o d e : List ℕ} {b c u v : ℕ} → LinesWhole ls o d b u → Broken ls o e c v → ⊥
 whole-broken {ls} {o} {d} {e} {b} {c} {u} {v} x y =
     let t = text-least (y .first) (y .line) (y .rest) in
     let q : length (textAll ls) ≡ length (textAll (y .first ++ (y .line ∷ y .rest))) = ap (λ (z : List (List ℕ)). length (textAll z)) (y .is) in
@@ -117,7 +119,8 @@ whole-broken {ls} {o} {d} {e} {b} {c} {u} {v} x y =
     let h = y .over in
     omega arith
 
-pub lined-one : (ls : List (List ℕ)) (o d e : List ℕ) (b c u v : ℕ) (f g : Bool) → Lined ls o d b u f → Lined ls o e c v g → (b ≡ c) × (u ≡ v) × (f ≡ g) × (d ≡ e)
+pub lined-one : (ls : List (List ℕ)) (o d e : List ℕ) (b c u v : ℕ) (f g : Bool) → Lined ls o d b u f → Lined ls o e c v g → (b ≡ c) × (u ≡ v) × (f ≡ g)
+    × (d ≡ e)
 lined-one ls o d e b c u v false false x y =
     let w = wrote-one (x .wrote) (y .wrote) in (w .1, x .count ∙ sym (y .count), refl, w .0)
 lined-one ls o d e b c u v false true x y = absurd (whole-broken x y)
@@ -126,6 +129,7 @@ lined-one ls o d e b c u v true true x y =
     let p = x .wrote .count in
     let q = y .wrote .count in
     let s : x .first ≡ y .first =
-    same-first (x .first) (y .first) (x .line) (y .line) (x .rest) (y .rest) (length o) (sym (x .is) ∙ y .is) (x .wrote .fits) (let h = x .over in omega arith) (y .wrote .fits) (let h = y .over in omega arith) in
+    same-first (x .first) (y .first) (x .line) (y .line) (x .rest) (y .rest) (length o) (sym (x .is) ∙ y .is) (x .wrote .fits) (let h = x .over in
+    omega arith) (y .wrote .fits) (let h = y .over in omega arith) in
     let w = wrote-one (x .wrote) (rw (← s) at (y .wrote)) in
     (w .1, x .count ∙ ap length s ∙ sym (y .count), refl, w .0)

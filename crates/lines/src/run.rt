@@ -1,5 +1,6 @@
 // A requirement's line (conflict.rs, lines 942 to 1020).
 use super::fits;
+use index::Slots;
 use texts::pieces::length_of;
 use texts::pieces::put_indent;
 use texts::wordings;
@@ -12,7 +13,7 @@ ghost use Rattle.records.specs.Read.{tablesOf};
 ghost use Rattle.records.specs.Views.{requirementText};
 ghost use Rattle.index.specs.Index.{Loaded};
 ghost use Rattle.texts.specs.Wrote.{Wrote};
-ghost use Rattle.texts.specs.Marks.{marksAt};
+ghost use Rattle.texts.specs.MarkBits.{marksAt};
 ghost use Rattle.texts.specs.Indent.{indent};
 ghost use Rattle.lines.specs.Said.{runLead, runTail, runSaid, wordsSize};
 ghost use Rattle.lines.specs.Tried.{Tried};
@@ -86,8 +87,10 @@ fn put_run(
     text: &[u8],
 ) -> usize
     requires { ⌜ count ≤ 4160 ⌝ }
-    requires { ⌜ length (indent top (marksAt (now levels) count)) + (length (runLead first w) + length (runTail first w)) + length (now text) ≤ length (now out) ⌝ }
-    ensures { λ r. ⌜ Wrote (indent top (marksAt (now (levels .entry)) count) ++ runLead first w ++ now (text .entry) ++ runTail first w) (now (out .entry)) (now (out .exit)) r ⌝ }
+    requires { ⌜ length (indent top (marksAt (now levels) count)) + (length (runLead first w) + length (runTail first w)) + length (now text)
+        ≤ length (now out) ⌝ }
+    ensures { λ r. ⌜ Wrote (indent top (marksAt (now (levels .entry)) count) ++ runLead first w ++ now (text .entry)
+        ++ runTail first w) (now (out .entry)) (now (out .exit)) r ⌝ }
 {
     let a = put_indent(out, levels, count, top);
     let b = a + put_lead(&mut out[a..], first, w);
@@ -98,7 +101,7 @@ fn put_run(
 // The line of a run with this wording and this requirement, under these levels: its length, or 0 where it does not fit.
 pub fn run_line(
     file: &[u8],
-    ix: &[u16; 10432],
+    ix: &Slots,
     out: &mut [u8],
     levels: &[u64; 65],
     count: usize,

@@ -1,5 +1,7 @@
 // The lines of a package (conflict.rs, lines 1109 to 1153): one, or several where it "would constrain".
 use super::package::package_line;
+use index::Slots;
+use store::Scratch;
 use texts::Indenter;
 use texts::wordings;
 use texts::writers::put;
@@ -12,7 +14,7 @@ ghost use lib.Dec.{leb};
 ghost use Rattle.records.specs.Read.{tablesOf};
 ghost use Rattle.index.specs.Index.{Loaded};
 ghost use Rattle.texts.specs.Wrote.{Wrote};
-ghost use Rattle.texts.specs.Marks.{marksAt, marksOf};
+ghost use Rattle.texts.specs.MarkBits.{marksAt, marksIn};
 ghost use Rattle.texts.specs.Indent.{indent};
 ghost use Rattle.plan.specs.Fields.{textLength, setAt, setsFrom, setsIn};
 ghost use Rattle.plan.specs.Texts.{packageIn};
@@ -29,7 +31,7 @@ pub struct Part {
 
 fn put_set(out: &mut [u8], g: Indenter, name: &[u8], set: &[u8]) -> usize
     requires { ⌜ g .count ≤ 4160 ⌝ }
-    requires { ⌜ length (indent (g .top) (marksOf g)) + 69 + length (now name) + length (now set) ≤ length (now out) ⌝ }
+    requires { ⌜ length (indent (g .top) (marksIn g)) + 69 + length (now name) + length (now set) ≤ length (now out) ⌝ }
     ensures { λ r. ⌜ Wrote (setPieces g (now (name .entry)) (now (set .entry))) (now (out .entry)) (now (out .exit)) r ⌝ }
 {
     let a = g.get_indent(out);
@@ -60,10 +62,10 @@ fn try_set(out: &mut [u8], g: Indenter, name: &[u8], set: &[u8]) -> usize
 }
 
 // The line of version set v: its length, or 0 where it does not fit.
-fn set_line(file: &[u8], ix: &[u16; 10432], out: &mut [u8], g: Indenter, v: u16) -> usize
+fn set_line(file: &[u8], ix: &Slots, out: &mut [u8], g: Indenter, v: u16) -> usize
     requires { ⌜ Loaded (now file) (now ix) ⌝ }
     requires { ⌜ g .count ≤ 4160 ⌝ }
-    ensures { λ r. ⌜ Tried (setSaid (tablesOf (now (file .entry))) (g .top) (marksOf g) v) (now (out .entry)) (now (out .exit)) r ⌝ }
+    ensures { λ r. ⌜ Tried (setSaid (tablesOf (now (file .entry))) (g .top) (marksIn g) v) (now (out .entry)) (now (out .exit)) r ⌝ }
 {
     let name = views::name_text(file, ix, views::set_name(file, ix, v));
     let set = views::set_text(file, ix, v);
@@ -73,7 +75,7 @@ fn set_line(file: &[u8], ix: &[u16; 10432], out: &mut [u8], g: Indenter, v: u16)
 // The line of version set i under "would constrain"; that of the first place comes last, and has the last mark.
 fn set_turn(
     file: &[u8],
-    ix: &[u16; 10432],
+    ix: &Slots,
     k: &[u16; 1024],
     out: &mut [u8],
     g: Indenter,
@@ -81,8 +83,9 @@ fn set_turn(
     i: usize,
 ) -> usize
     requires { ⌜ Loaded (now file) (now ix) ⌝ }
-    requires { ⌜ (g .count ≤ 4160) × (marksOf g ≡ false ∷ parents (marksOf g)) ⌝ }
-    ensures { λ r. ⌜ Tried (setSaid (tablesOf (now (file .entry))) (g .top) (leb i first ∷ parents (marksOf g)) (setAt (now (k .entry)) i)) (now (out .entry)) (now (out .exit)) r ⌝ }
+    requires { ⌜ (g .count ≤ 4160) × (marksIn g ≡ false ∷ parents (marksIn g)) ⌝ }
+    ensures { λ r. ⌜ Tried (setSaid (tablesOf (now (file .entry))) (g .top) (leb i first ∷ parents (marksIn g)) (setAt (now (k .entry)) i)) (now (out .entry))
+        (now (out .exit)) r ⌝ }
 {
     let v = plan::set_at(k, i);
     if i <= first {
@@ -95,7 +98,7 @@ fn set_turn(
 // The lines of the version sets from the end down to the first; their level is pushed.
 fn set_lines(
     file: &[u8],
-    ix: &[u16; 10432],
+    ix: &Slots,
     k: &[u16; 1024],
     out: &mut [u8],
     g: Indenter,
@@ -103,8 +106,9 @@ fn set_lines(
     end: usize,
 ) -> Part
     requires { ⌜ Loaded (now file) (now ix) ⌝ }
-    requires { ⌜ (g .count ≤ 4160) × (marksOf g ≡ false ∷ parents (marksOf g)) ⌝ }
-    ensures { λ r. ⌜ Lined (setsSaid (tablesOf (now (file .entry))) (g .top) (parents (marksOf g)) (setsFrom (now (k .entry)) first end)) (now (out .entry)) (now (out .exit)) (r .bytes) (r .units) (r .full) ⌝ }
+    requires { ⌜ (g .count ≤ 4160) × (marksIn g ≡ false ∷ parents (marksIn g)) ⌝ }
+    ensures { λ r. ⌜ Lined (setsSaid (tablesOf (now (file .entry))) (g .top) (parents (marksIn g)) (setsFrom (now (k .entry)) first end)) (now (out .entry))
+        (now (out .exit)) (r .bytes) (r .units) (r .full) ⌝ }
     ensures { λ r. do ⌜ (r .bytes ≤ (← ⟦out.len()⟧ .entry)) × (r .units ≤ r .bytes) ⌝ }
 {
     let mut e = end;
@@ -134,8 +138,8 @@ fn set_lines(
 // The lines under package n, which "would constrain": one level is pushed for all of them (lines 1130 to 1144).
 fn sets_of(
     file: &[u8],
-    ix: &[u16; 10432],
-    p: &[u64; 1280],
+    ix: &Slots,
+    p: &Scratch,
     k: &[u16; 1024],
     out: &mut [u8],
     g: Indenter,
@@ -143,7 +147,8 @@ fn sets_of(
 ) -> Part
     requires { ⌜ Loaded (now file) (now ix) ⌝ }
     requires { ⌜ g .count < 4160 ⌝ }
-    ensures { λ r. ⌜ Lined (setsSaid (tablesOf (now (file .entry))) (g .top) (marksOf g) (setsIn (now (p .entry)) (now (k .entry)) n)) (now (out .entry)) (now (out .exit)) (r .bytes) (r .units) (r .full) ⌝ }
+    ensures { λ r. ⌜ Lined (setsSaid (tablesOf (now (file .entry))) (g .top) (marksIn g) (setsIn (now (p .entry)) (now (k .entry)) n)) (now (out .entry))
+        (now (out .exit)) (r .bytes) (r .units) (r .full) ⌝ }
     ensures { λ r. do ⌜ (r .bytes ≤ (← ⟦out.len()⟧ .entry)) × (r .units ≤ r .bytes) ⌝ }
 {
     let first = plan::sets_first(p, n);
@@ -168,8 +173,8 @@ fn behind_line(b: usize, s: Part) -> Part
 // All lines of package n, under these levels.
 pub fn package_lines(
     file: &[u8],
-    ix: &[u16; 10432],
-    p: &[u64; 1280],
+    ix: &Slots,
+    p: &Scratch,
     k: &[u16; 1024],
     out: &mut [u8],
     levels: &[u64; 65],
@@ -180,7 +185,8 @@ pub fn package_lines(
     requires { ⌜ Loaded (now file) (now ix) ⌝ }
     requires { ⌜ count < 4160 ⌝ }
     requires { ⌜ textLength (now p) n ≡ length (packageIn (tablesOf (now file)) (now p) n) ⌝ }
-    ensures { λ r. ⌜ Lined (packageAll (tablesOf (now (file .entry))) (now (p .entry)) (now (k .entry)) top (marksAt (now (levels .entry)) count) n) (now (out .entry)) (now (out .exit)) (r .bytes) (r .units) (r .full) ⌝ }
+    ensures { λ r. ⌜ Lined (packageAll (tablesOf (now (file .entry))) (now (p .entry)) (now (k .entry)) top (marksAt (now (levels .entry)) count) n)
+        (now (out .entry)) (now (out .exit)) (r .bytes) (r .units) (r .full) ⌝ }
     ensures { λ r. do ⌜ (r .bytes ≤ (← ⟦out.len()⟧ .entry)) × (r .units ≤ r .bytes) ⌝ }
 {
     let b = package_line(file, ix, p, out, levels, count, top, n);

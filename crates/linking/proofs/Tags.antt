@@ -15,7 +15,7 @@ use Rattle.records.proofs.Origin as Origins
 use Rattle.records.proofs.Clause as Clauses
 use Rattle.linking.specs.declared.Party.{Party}
 use Rattle.linking.specs.declared.Party.the-variants.{Neither}
-use Rattle.linking.specs.Links.{solvableIn, nameIn, anyOfIn, parentIn, excludedIn}
+use Rattle.linking.specs.Links.{solvableIn, nameForbidden, anyOfIn, parentIn, excludedIn}
 
 -- a number is none of those that it should be one of
 five : {X : Type 0} (n a b c d e : ℕ) → ((n ≡ a) → ⊥) → ((n ≡ b) → ⊥) → ((n ≡ c) → ⊥) → ((n ≡ d) → ⊥) → ((n ≡ e) → ⊥) → OneOf (a ∷ b ∷ c ∷ d ∷ e ∷ []) n → X
@@ -33,7 +33,7 @@ not-solvable O.RequiresGate h = refl
 not-solvable O.ConstrainsAuxiliary h = refl
 not-solvable O.Other h = refl
 
-pub not-forbid : (o : Origin) → OneOf (0 ∷ 1 ∷ 3 ∷ 4 ∷ 5 ∷ []) (tagOf Origins.the-type o) → nameIn o ≡ []
+pub not-forbid : (o : Origin) → OneOf (0 ∷ 1 ∷ 3 ∷ 4 ∷ 5 ∷ []) (tagOf Origins.the-type o) → nameForbidden o ≡ []
 not-forbid O.Root h = refl
 not-forbid (O.Solvable s) h = refl
 not-forbid (O.ForbidMultiple n) h = five 2 0 1 3 4 5 (λ z. omega arith) (λ z. omega arith) (λ z. omega arith) (λ z. omega arith) (λ z. omega arith) h
@@ -41,7 +41,8 @@ not-forbid O.RequiresGate h = refl
 not-forbid O.ConstrainsAuxiliary h = refl
 not-forbid O.Other h = refl
 
-nine : {X : Type 0} (n a b c d e f g h i : ℕ) → OneOf (a ∷ b ∷ c ∷ d ∷ e ∷ f ∷ g ∷ h ∷ i ∷ []) n → ((n ≡ a) → ⊥) → ((n ≡ b) → ⊥) → ((n ≡ c) → ⊥) → ((n ≡ d) → ⊥) → ((n ≡ e) → ⊥) → ((n ≡ f) → ⊥) → ((n ≡ g) → ⊥) → ((n ≡ h) → ⊥) → ((n ≡ i) → ⊥) → X
+nine : {X : Type 0} (n a b c d e f g h i : ℕ) → OneOf (a ∷ b ∷ c ∷ d ∷ e ∷ f ∷ g ∷ h ∷ i ∷ []) n → ((n ≡ a) → ⊥) → ((n ≡ b) → ⊥) → ((n ≡ c) → ⊥) → ((n ≡ d) → ⊥)
+    → ((n ≡ e) → ⊥) → ((n ≡ f) → ⊥) → ((n ≡ g) → ⊥) → ((n ≡ h) → ⊥) → ((n ≡ i) → ⊥) → X
 nine n a b c d e f g h i (inl z) p0 p1 p2 p3 p4 p5 p6 p7 p8 = absurd (p0 z)
 nine n a b c d e f g h i (inr (inl z)) p0 p1 p2 p3 p4 p5 p6 p7 p8 = absurd (p1 z)
 nine n a b c d e f g h i (inr (inr (inl z))) p0 p1 p2 p3 p4 p5 p6 p7 p8 = absurd (p2 z)
@@ -62,7 +63,9 @@ not-any-of T (C.ForbidMultipleInstances a b) h = refl
 not-any-of T (C.Constrains a b v) h = refl
 not-any-of T (C.ConstrainsParent a b v) h = refl
 not-any-of T (C.ConstrainsExcluded a b v) h = refl
-not-any-of T (C.AnyOf a b) h = nine 9 0 1 2 3 4 5 6 7 8 h (λ z. omega arith) (λ z. omega arith) (λ z. omega arith) (λ z. omega arith) (λ z. omega arith) (λ z. omega arith) (λ z. omega arith) (λ z. omega arith) (λ z. omega arith)
+not-any-of T (C.AnyOf a b) h =
+    nine 9 0 1 2 3 4 5 6 7 8 h (λ z. omega arith) (λ z. omega arith) (λ z. omega arith) (λ z. omega arith) (λ z. omega arith) (λ z. omega arith) (λ z.
+    omega arith) (λ z. omega arith) (λ z. omega arith)
 
 pub not-parent : (T : Tables) (c : Clause) → OneOf (0 ∷ 1 ∷ 2 ∷ 3 ∷ 4 ∷ 5 ∷ 6 ∷ 8 ∷ 9 ∷ []) (tagOf Clauses.the-type c) → parentIn T c ≡ Neither
 not-parent T C.InstallRoot h = refl
@@ -72,7 +75,9 @@ not-parent T (C.Requires a b) h = refl
 not-parent T (C.Lock a b) h = refl
 not-parent T (C.ForbidMultipleInstances a b) h = refl
 not-parent T (C.Constrains a b v) h = refl
-not-parent T (C.ConstrainsParent a b v) h = nine 7 0 1 2 3 4 5 6 8 9 h (λ z. omega arith) (λ z. omega arith) (λ z. omega arith) (λ z. omega arith) (λ z. omega arith) (λ z. omega arith) (λ z. omega arith) (λ z. omega arith) (λ z. omega arith)
+not-parent T (C.ConstrainsParent a b v) h =
+    nine 7 0 1 2 3 4 5 6 8 9 h (λ z. omega arith) (λ z. omega arith) (λ z. omega arith) (λ z. omega arith) (λ z. omega arith) (λ z. omega arith) (λ z.
+    omega arith) (λ z. omega arith) (λ z. omega arith)
 not-parent T (C.ConstrainsExcluded a b v) h = refl
 not-parent T (C.AnyOf a b) h = refl
 
@@ -85,5 +90,7 @@ not-excluded T (C.Lock a b) h = refl
 not-excluded T (C.ForbidMultipleInstances a b) h = refl
 not-excluded T (C.Constrains a b v) h = refl
 not-excluded T (C.ConstrainsParent a b v) h = refl
-not-excluded T (C.ConstrainsExcluded a b v) h = nine 8 0 1 2 3 4 5 6 7 9 h (λ z. omega arith) (λ z. omega arith) (λ z. omega arith) (λ z. omega arith) (λ z. omega arith) (λ z. omega arith) (λ z. omega arith) (λ z. omega arith) (λ z. omega arith)
+not-excluded T (C.ConstrainsExcluded a b v) h =
+    nine 8 0 1 2 3 4 5 6 7 9 h (λ z. omega arith) (λ z. omega arith) (λ z. omega arith) (λ z. omega arith) (λ z. omega arith) (λ z. omega arith) (λ z.
+    omega arith) (λ z. omega arith) (λ z. omega arith)
 not-excluded T (C.AnyOf a b) h = refl

@@ -32,7 +32,8 @@ fanAll q i (c ∷ cs) g = elim (addTarget g i (N.Solvable c) (E.Requires q)) [ f
 
 -- ---- links from a node that is there are these edges
 
-after : (b : AddedSoFar) (xs : Graph → LinkedSoFar) (ys : Graph → LinkedSoFar) (a : AddedSoFar) → a ≡ b → ((m : ℕ) (h : Graph) → b ≡ addedTo m h → xs h ≡ ys h) → _≡_ {A = LinkedSoFar} (elim a [ fullAt h ↦ shortAt h | addedTo m h ↦ xs h ]) (elim a [ fullAt h ↦ shortAt h | addedTo m h ↦ ys h ])
+after : (b : AddedSoFar) (xs : Graph → LinkedSoFar) (ys : Graph → LinkedSoFar) (a : AddedSoFar) → a ≡ b → ((m : ℕ) (h : Graph) → b ≡ addedTo m h → xs h ≡ ys h)
+    → _≡_ {A = LinkedSoFar} (elim a [ fullAt h ↦ shortAt h | addedTo m h ↦ xs h ]) (elim a [ fullAt h ↦ shortAt h | addedTo m h ↦ ys h ])
 after b xs ys (fullAt h) e f = refl
 after b xs ys (addedTo m h) e f = f m h (sym e)
 
@@ -41,37 +42,46 @@ unfolding linkAllIn fanAll
 fan-known q i p [] g k = refl
 fan-known q i p (c ∷ cs) g k =
     rw (known-link g g p (N.Solvable c) (E.Requires q) i k, linkAllIn)
-    (after (addTarget g i (N.Solvable c) (E.Requires q)) (linkAllIn (map (requireLink q p) cs)) (fanAll q i cs) (addTarget g i (N.Solvable c) (E.Requires q)) refl
+    (after (addTarget g i (N.Solvable c) (E.Requires q)) (linkAllIn (map (requireLink q p) cs)) (fanAll q i cs) (addTarget g i (N.Solvable c) (E.Requires q))
+    refl
     (λ m h e. fan-known q i p cs h (known-keeps g h p (N.Solvable c) (E.Requires q) i m k e)))
 
 -- and so from one that the first of them would add
-fan-first : (q i : ℕ) (p : ConflictNode) (c : ℕ) (cs : List ℕ) (g h : Graph) → addNodeIn g p ≡ addedTo i h → linkAllIn (map (requireLink q p) (c ∷ cs)) g ≡ fanAll q i (c ∷ cs) h
+fan-first : (q i : ℕ) (p : ConflictNode) (c : ℕ) (cs : List ℕ) (g h : Graph) → addNodeIn g p ≡ addedTo i h
+    → linkAllIn (map (requireLink q p) (c ∷ cs)) g ≡ fanAll q i (c ∷ cs) h
 unfolding linkAllIn
 fan-first q i p c cs g h k =
     let a : addNodeIn h p ≡ addedTo i h = known-self g h p i k in
-    let b : addLinkIn g p (N.Solvable c) (E.Requires q) ≡ addLinkIn h p (N.Solvable c) (E.Requires q) = known-link g h p (N.Solvable c) (E.Requires q) i k ∙ sym (known-link h h p (N.Solvable c) (E.Requires q) i a) in
+    let b : addLinkIn g p (N.Solvable c) (E.Requires q) ≡ addLinkIn h p (N.Solvable c) (E.Requires q) = known-link g h p (N.Solvable c) (E.Requires q) i k
+    ∙ sym (known-link h h p (N.Solvable c) (E.Requires q) i a) in
     rw (b, linkAllIn) (fan-known q i p (c ∷ cs) h a)
 
 module _ (T : Tables) (q : ℕ) (p : ConflictNode) (g h : List ℕ) (s t : Size) (a : Put) (x : ℕ) where
-  pub fan-full : addedIn h a ≡ addNodeIn (graphIn g s) p → a ≡ Full t → Growing h (sizeOf a) → 0 < x → Grew (linkAllIn (candidateLinks T q p x) (graphIn g s)) h (G.Full t)
+  pub fan-full : addedIn h a ≡ addNodeIn (graphIn g s) p → a ≡ Full t → Growing h (sizeOf a) → 0 < x
+      → Grew (linkAllIn (candidateLinks T q p x) (graphIn g s)) h (G.Full t)
   unfolding candidateLinks linkAllIn addLinkIn
   fan-full e f P l =
       let z : addNodeIn (graphIn g s) p ≡ fullAt (graphIn h t) = sym e ∙ ap (addedIn h) f in
-      let y : candidatesFrom T x ≡ candidateAt T (x - 1) ∷ candidatesFrom T (nextCandidate T (x - 1)) = candidates-step T x (candidateAt T (x - 1)) (nextCandidate T (x - 1)) l refl refl in
+      let y : candidatesFrom T x ≡ candidateAt T (x - 1) ∷ candidatesFrom T (nextCandidate T (x - 1)) =
+      candidates-step T x (candidateAt T (x - 1)) (nextCandidate T (x - 1)) l refl refl in
       record { is = rw (y, linkAllIn, z, addLinkIn); growing = rw f at P }
 
   -- j is the number as a byte
-  pub fan-on : (i j : ℕ) (m : List ℕ) (r : Grown) → addedIn h a ≡ addNodeIn (graphIn g s) p → a ≡ At i t → j ≡ i → Grew (fanAll q j (candidatesFrom T x) (graphIn h t)) m r → 0 < x → Grew (linkAllIn (candidateLinks T q p x) (graphIn g s)) m r
+  pub fan-on : (i j : ℕ) (m : List ℕ) (r : Grown) → addedIn h a ≡ addNodeIn (graphIn g s) p → a ≡ At i t → j ≡ i
+      → Grew (fanAll q j (candidatesFrom T x) (graphIn h t)) m r → 0 < x → Grew (linkAllIn (candidateLinks T q p x) (graphIn g s)) m r
   unfolding candidateLinks
   fan-on i j m r e f b R l =
       let z : addNodeIn (graphIn g s) p ≡ addedTo i (graphIn h t) = sym e ∙ ap (addedIn h) f in
-      let y : candidatesFrom T x ≡ candidateAt T (x - 1) ∷ candidatesFrom T (nextCandidate T (x - 1)) = candidates-step T x (candidateAt T (x - 1)) (nextCandidate T (x - 1)) l refl refl in
-      let u : linkAllIn (map (requireLink q p) (candidatesFrom T x)) (graphIn g s) ≡ fanAll q i (candidatesFrom T x) (graphIn h t) = rw y (fan-first q i p (candidateAt T (x - 1)) (candidatesFrom T (nextCandidate T (x - 1))) (graphIn g s) (graphIn h t) z) in
+      let y : candidatesFrom T x ≡ candidateAt T (x - 1) ∷ candidatesFrom T (nextCandidate T (x - 1)) =
+      candidates-step T x (candidateAt T (x - 1)) (nextCandidate T (x - 1)) l refl refl in
+      let u : linkAllIn (map (requireLink q p) (candidatesFrom T x)) (graphIn g s) ≡ fanAll q i (candidatesFrom T x) (graphIn h t) =
+      rw y (fan-first q i p (candidateAt T (x - 1)) (candidatesFrom T (nextCandidate T (x - 1))) (graphIn g s) (graphIn h t) z) in
       rw u (rw b at R)
 
 pub ruleset fans = (fan-full, fan-on)
 
-pub fan-none : (T : Tables) (q : ℕ) (p : ConflictNode) (x : ℕ) (g : List ℕ) (s : Size) → x ≡ 0 → Growing g s → Grew (linkAllIn (candidateLinks T q p x) (graphIn g s)) g (G.On s)
+pub fan-none : (T : Tables) (q : ℕ) (p : ConflictNode) (x : ℕ) (g : List ℕ) (s : Size) → x ≡ 0 → Growing g s
+    → Grew (linkAllIn (candidateLinks T q p x) (graphIn g s)) g (G.On s)
 unfolding candidateLinks
 fan-none T q p x g s e P = grew-none (candidateLinks T q p x) g s (ap (map (requireLink q p)) (candidates-end T x (omega arith))) P
 
@@ -95,14 +105,18 @@ fan-start q i cs g s P = record { left = refl; growing = P }
 
 -- n is what the link answered, u the size after it
 module _ (T : Tables) (W : LinkedSoFar) (q i x c n : ℕ) (g h : List ℕ) (s u : Size) where
-  pub fan-next : (y : ℕ) → Fanning W q i (candidatesFrom T x) g s → 0 < x → c ≡ candidateAt T (x - 1) → addedIn h (linkedBy s n) ≡ addTarget (graphIn g s) i (N.Solvable c) (E.Requires q) → Growing h (sizeOf (linkedBy s n)) → u ≡ sizeOf (linkedBy s n) → n < 2 → y ≡ nextCandidate T (x - 1) → Fanning W q i (candidatesFrom T y) h u
+  pub fan-next : (y : ℕ) → Fanning W q i (candidatesFrom T x) g s → 0 < x → c ≡ candidateAt T (x - 1)
+      → addedIn h (linkedBy s n) ≡ addTarget (graphIn g s) i (N.Solvable c) (E.Requires q) → Growing h (sizeOf (linkedBy s n)) → u ≡ sizeOf (linkedBy s n)
+      → n < 2 → y ≡ nextCandidate T (x - 1) → Fanning W q i (candidatesFrom T y) h u
   unfolding fanAll
   fan-next y F l e o P z b d =
       let k : addTarget (graphIn g s) i (N.Solvable c) (E.Requires q) ≡ addedTo (s .edges) (graphIn h u) = sym o ∙ ap (addedIn h) (linked-goes s u n b z) in
       let v : candidatesFrom T x ≡ c ∷ candidatesFrom T y = candidates-step T x c y l e d in
       record { left = rw (v, fanAll, k) at (F .left); growing = rw (← z) at P }
 
-  pub fan-stop : Fanning W q i (candidatesFrom T x) g s → 0 < x → c ≡ candidateAt T (x - 1) → addedIn h (linkedBy s n) ≡ addTarget (graphIn g s) i (N.Solvable c) (E.Requires q) → Growing h (sizeOf (linkedBy s n)) → u ≡ sizeOf (linkedBy s n) → 2 ≤ n → Grew W h (G.Full u)
+  pub fan-stop : Fanning W q i (candidatesFrom T x) g s → 0 < x → c ≡ candidateAt T (x - 1)
+      → addedIn h (linkedBy s n) ≡ addTarget (graphIn g s) i (N.Solvable c) (E.Requires q) → Growing h (sizeOf (linkedBy s n)) → u ≡ sizeOf (linkedBy s n)
+      → 2 ≤ n → Grew W h (G.Full u)
   unfolding fanAll
   fan-stop F l e o P z b =
       let k : addTarget (graphIn g s) i (N.Solvable c) (E.Requires q) ≡ fullAt (graphIn h u) = sym o ∙ ap (addedIn h) (linked-stops s u n b z) in

@@ -44,7 +44,7 @@ pub record Grew (W : LinkedSoFar) (h : List ℕ) (r : Grown) : Type 0 where
   pub growing : Growing h (grownSize r)
 
 -- adding the links ls to what table g holds gives W
-pub record Left (W : LinkedSoFar) (ls : List Link) (g : List ℕ) (s : Size) : Type 0 where
+pub record LinksLeft (W : LinkedSoFar) (ls : List Link) (g : List ℕ) (s : Size) : Type 0 where
   pub left : linkAllIn ls (graphIn g s) ≡ W
   pub growing : Growing g s
 
@@ -54,7 +54,8 @@ abbrev pub andThen : LinkedSoFar → List Link → LinkedSoFar
 andThen (moreTo g) ls = linkAllIn ls g
 andThen (shortAt g) ls = shortAt g
 
-after : (a : AddedSoFar) (xs ys : List Link) → ((g : Graph) → linkAllIn (xs ++ ys) g ≡ andThen (linkAllIn xs g) ys) → elim a [ fullAt h ↦ shortAt h | addedTo i h ↦ linkAllIn (xs ++ ys) h ] ≡ andThen (elim a [ fullAt h ↦ shortAt h | addedTo i h ↦ linkAllIn xs h ]) ys
+after : (a : AddedSoFar) (xs ys : List Link) → ((g : Graph) → linkAllIn (xs ++ ys) g ≡ andThen (linkAllIn xs g) ys)
+    → elim a [ fullAt h ↦ shortAt h | addedTo i h ↦ linkAllIn (xs ++ ys) h ] ≡ andThen (elim a [ fullAt h ↦ shortAt h | addedTo i h ↦ linkAllIn xs h ]) ys
 after (addedTo i h) xs ys f = f h
 after (fullAt h) xs ys f = refl
 
@@ -66,26 +67,30 @@ link-append (x ∷ xs) ys g = after (addLinkIn g (x .source) (x .target) (x .wei
 -- ---- the ways of a loop: r is what adding the first part xs gave
 
 module _ (W : LinkedSoFar) (ls xs ys : List Link) (g h : List ℕ) (s t : Size) (r : Grown) where
-  pub left-next : Left W ls g s → Grew (linkAllIn xs (graphIn g s)) h r → r ≡ G.On t → ls ≡ xs ++ ys → Left W ys h t
+  pub left-next : LinksLeft W ls g s → Grew (linkAllIn xs (graphIn g s)) h r → r ≡ G.On t → ls ≡ xs ++ ys → LinksLeft W ys h t
   left-next L R q e =
       let z : linkAllIn xs (graphIn g s) ≡ moreTo (graphIn h t) = sym (R .is) ∙ ap (grownIn h) q in
       record {
-        left = sym (ap (λ (l : LinkedSoFar). andThen l ys) z) ∙ sym (link-append xs ys (graphIn g s)) ∙ ap (λ (l : List Link). linkAllIn l (graphIn g s)) (sym e) ∙ L .left;
+        left =
+            sym (ap (λ (l : LinkedSoFar). andThen l ys) z) ∙ sym (link-append xs ys (graphIn g s)) ∙ ap (λ (l : List Link). linkAllIn l (graphIn g s)) (sym e)
+            ∙ L .left;
         growing = rw q at (R .growing);
       }
 
-  pub left-stop : Left W ls g s → Grew (linkAllIn xs (graphIn g s)) h r → r ≡ G.Full t → ls ≡ xs ++ ys → Grew W h (G.Full t)
+  pub left-stop : LinksLeft W ls g s → Grew (linkAllIn xs (graphIn g s)) h r → r ≡ G.Full t → ls ≡ xs ++ ys → Grew W h (G.Full t)
   left-stop L R q e =
       let z : linkAllIn xs (graphIn g s) ≡ shortAt (graphIn h t) = sym (R .is) ∙ ap (grownIn h) q in
       record {
-        is = sym (ap (λ (l : LinkedSoFar). andThen l ys) z) ∙ sym (link-append xs ys (graphIn g s)) ∙ ap (λ (l : List Link). linkAllIn l (graphIn g s)) (sym e) ∙ L .left;
+        is =
+            sym (ap (λ (l : LinkedSoFar). andThen l ys) z) ∙ sym (link-append xs ys (graphIn g s)) ∙ ap (λ (l : List Link). linkAllIn l (graphIn g s)) (sym e)
+            ∙ L .left;
         growing = rw q at (R .growing);
       }
 
-pub left-start : (ls : List Link) (g : List ℕ) (s : Size) → Growing g s → Left (linkAllIn ls (graphIn g s)) ls g s
+pub left-start : (ls : List Link) (g : List ℕ) (s : Size) → Growing g s → LinksLeft (linkAllIn ls (graphIn g s)) ls g s
 left-start ls g s P = record { left = refl; growing = P }
 
-pub left-end : (W : LinkedSoFar) (ls : List Link) (g : List ℕ) (s : Size) → Left W ls g s → ls ≡ [] → Grew W g (G.On s)
+pub left-end : (W : LinkedSoFar) (ls : List Link) (g : List ℕ) (s : Size) → LinksLeft W ls g s → ls ≡ [] → Grew W g (G.On s)
 unfolding linkAllIn
 left-end W ls g s L e = record { is = ap (λ (l : List Link). linkAllIn l (graphIn g s)) (sym e) ∙ L .left; growing = L .growing }
 
@@ -94,13 +99,15 @@ pub grew-none : (ls : List Link) (g : List ℕ) (s : Size) → ls ≡ [] → Gro
 grew-none ls g s e P = left-end (linkAllIn ls (graphIn g s)) ls g s (left-start ls g s P) e
 
 -- the same links, told another way
-pub grew-as : (ls ms : List Link) (g h : List ℕ) (s : Size) (r : Grown) → Grew (linkAllIn ms (graphIn g s)) h r → ls ≡ ms → Grew (linkAllIn ls (graphIn g s)) h r
+pub grew-as : (ls ms : List Link) (g h : List ℕ) (s : Size) (r : Grown) → Grew (linkAllIn ms (graphIn g s)) h r → ls ≡ ms
+    → Grew (linkAllIn ls (graphIn g s)) h r
 grew-as ls ms g h s r R e = rw e R
 
 -- ---- one link, by `store::link`
 
 module _ (g h : List ℕ) (s t : Size) (x y : ConflictNode) (w : ConflictEdge) (a : Put) where
-  pub one-on : (i : ℕ) → addedIn h a ≡ addLinkIn (graphIn g s) x y w → a ≡ At i t → Growing h (sizeOf a) → Grew (linkAllIn (link x y w ∷ []) (graphIn g s)) h (G.On t)
+  pub one-on : (i : ℕ) → addedIn h a ≡ addLinkIn (graphIn g s) x y w → a ≡ At i t → Growing h (sizeOf a)
+      → Grew (linkAllIn (link x y w ∷ []) (graphIn g s)) h (G.On t)
   unfolding linkAllIn
   one-on i p q P =
       let z : addLinkIn (graphIn g s) x y w ≡ addedTo i (graphIn h t) = sym p ∙ ap (addedIn h) q in
@@ -154,7 +161,8 @@ edges-link g h x y w i e = first (addNodeIn g x) refl
     first (addedTo j k) p = second j k p (addNodeIn k y) refl
     first (fullAt k) p = let z : fullAt k ≡ addedTo i h = rw (p, addLinkIn) at e in clash (cc)
 
-edges-one : (l : Link) (ls : List Link) (g h : Graph) → ((k : Graph) → linkAllIn ls k ≡ moreTo h → length (k .edges) ≤ length (h .edges)) → (a : AddedSoFar) → addLinkIn g (l .source) (l .target) (l .weight) ≡ a → linkAllIn (l ∷ ls) g ≡ moreTo h → length (g .edges) ≤ length (h .edges)
+edges-one : (l : Link) (ls : List Link) (g h : Graph) → ((k : Graph) → linkAllIn ls k ≡ moreTo h → length (k .edges) ≤ length (h .edges)) → (a : AddedSoFar)
+    → addLinkIn g (l .source) (l .target) (l .weight) ≡ a → linkAllIn (l ∷ ls) g ≡ moreTo h → length (g .edges) ≤ length (h .edges)
 unfolding linkAllIn
 edges-one l ls g h f (addedTo i k) q e =
     let z : linkAllIn ls k ≡ moreTo h = rw (q, linkAllIn) at e in
@@ -169,25 +177,30 @@ edges-all (l ∷ ls) g h e = edges-one l ls g h (λ k z. edges-all ls k h z) (ad
 -- ---- a node of its own, then the link from the previous one: p is that one as the table holds it
 
 module _ (g h : List ℕ) (s t : Size) (p n : ℕ) (a : Put) where
-  pub forbid-full : addedIn h a ≡ addNodeIn (graphIn g s) (N.Solvable n) → a ≡ Full t → Growing h (sizeOf a) → Grew (forbidAllIn (graphIn g s) (lastBy p) n) h (G.Full t)
+  pub forbid-full : addedIn h a ≡ addNodeIn (graphIn g s) (N.Solvable n) → a ≡ Full t → Growing h (sizeOf a)
+      → Grew (forbidAllIn (graphIn g s) (lastBy p) n) h (G.Full t)
   unfolding forbidAllIn
   forbid-full q e P =
       let z : addNodeIn (graphIn g s) (N.Solvable n) ≡ fullAt (graphIn h t) = sym q ∙ ap (addedIn h) e in
       record { is = rw (z, forbidAllIn); growing = rw e at P }
 
-  pub forbid-first : (i : ℕ) → addedIn h a ≡ addNodeIn (graphIn g s) (N.Solvable n) → a ≡ At i t → Growing h (sizeOf a) → p ≡ 0 → Grew (forbidAllIn (graphIn g s) (lastBy p) n) h (G.On t)
+  pub forbid-first : (i : ℕ) → addedIn h a ≡ addNodeIn (graphIn g s) (N.Solvable n) → a ≡ At i t → Growing h (sizeOf a) → p ≡ 0
+      → Grew (forbidAllIn (graphIn g s) (lastBy p) n) h (G.On t)
   unfolding forbidAllIn linkAllIn
   forbid-first i q e P f =
       let z : addNodeIn (graphIn g s) (N.Solvable n) ≡ addedTo i (graphIn h t) = sym q ∙ ap (addedIn h) e in
       let u : previousLinks (lastBy p) n ≡ [] = ap (λ (k : ℕ). previousLinks (lastBy k) n) f in
       record { is = ap (λ (l : List Link). linkAllIn l (graphIn h t)) (sym u) ∙ rw (z, forbidAllIn); growing = rw e at P }
 
-  pub forbid-next : (m : List ℕ) (r : Grown) (i : ℕ) → addedIn h a ≡ addNodeIn (graphIn g s) (N.Solvable n) → a ≡ At i t → (p ≡ 0 → ⊥) → Grew (linkAllIn (link (N.Solvable (p - 1)) (N.Solvable n) (W.Conflict K.ForbidMultipleInstances) ∷ []) (graphIn h t)) m r → Grew (forbidAllIn (graphIn g s) (lastBy p) n) m r
+  pub forbid-next : (m : List ℕ) (r : Grown) (i : ℕ) → addedIn h a ≡ addNodeIn (graphIn g s) (N.Solvable n) → a ≡ At i t → (p ≡ 0 → ⊥)
+      → Grew (linkAllIn (link (N.Solvable (p - 1)) (N.Solvable n) (W.Conflict K.ForbidMultipleInstances) ∷ []) (graphIn h t)) m r
+      → Grew (forbidAllIn (graphIn g s) (lastBy p) n) m r
   unfolding forbidAllIn
   forbid-next m r i q e f R =
       let z : addNodeIn (graphIn g s) (N.Solvable n) ≡ addedTo i (graphIn h t) = sym q ∙ ap (addedIn h) e in
       let y : p ≡ suc (p - 1) = omega (arith, f) in
-      let u : previousLinks (lastBy p) n ≡ link (N.Solvable (p - 1)) (N.Solvable n) (W.Conflict K.ForbidMultipleInstances) ∷ [] = ap (λ (k : ℕ). previousLinks (lastBy k) n) y in
+      let u : previousLinks (lastBy p) n ≡ link (N.Solvable (p - 1)) (N.Solvable n) (W.Conflict K.ForbidMultipleInstances) ∷ [] =
+      ap (λ (k : ℕ). previousLinks (lastBy k) n) y in
       record { is = R .is ∙ ap (λ (l : List Link). linkAllIn l (graphIn h t)) (sym u) ∙ rw (z, forbidAllIn); growing = R .growing }
 
 pub edges-forbid : (g h : Graph) (p : Option ℕ) (n : ℕ) → forbidAllIn g p n ≡ moreTo h → length (g .edges) ≤ length (h .edges)

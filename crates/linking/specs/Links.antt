@@ -41,8 +41,8 @@ asList (Node n) = n ∷ []
 asList Neither = []
 
 -- a variable's node, or none: "Partners neither root nor solvable are skipped."
-abbrev pub nodesOf : Tables → ℕ → List ConflictNode
-nodesOf T v = asList (partyOf T v)
+abbrev pub nodesNamed : Tables → ℕ → List ConflictNode
+nodesNamed T v = asList (partyOf T v)
 
 -- conflict.rs, `as_solvable`: the solvable that a variable stands for; the other origins skip the clause
 abbrev pub solvableIn : Origin → List ℕ
@@ -54,13 +54,13 @@ solvableIn O.ConstrainsAuxiliary = []
 solvableIn O.Other = []
 
 -- the name that a forbid-multiple variable forbids twice (conflict.rs, lines 249 to 253)
-abbrev pub nameIn : Origin → List ℕ
-nameIn O.Root = []
-nameIn (O.Solvable s) = []
-nameIn (O.ForbidMultiple n) = n ∷ []
-nameIn O.RequiresGate = []
-nameIn O.ConstrainsAuxiliary = []
-nameIn O.Other = []
+abbrev pub nameForbidden : Origin → List ℕ
+nameForbidden O.Root = []
+nameForbidden (O.Solvable s) = []
+nameForbidden (O.ForbidMultiple n) = n ∷ []
+nameForbidden O.RequiresGate = []
+nameForbidden O.ConstrainsAuxiliary = []
+nameForbidden O.Other = []
 
 -- ---- recovery: the clause that assigned a variable (conflict.rs: `reason_clause`), by its kind, "whatever its own auxiliary"
 
@@ -121,7 +121,7 @@ excludedReason T v = elim (assignedBy T v) [ none ↦ Neither | some i ↦ exclu
 -- the nodes of the partners in the core; "If none is left", the recovered one
 unfoldable pub partnersOr : Tables → List ℕ → Party → List ConflictNode
 unfolding partyOf
-partnersOr T vs p = orElse (concatMap (nodesOf T) vs) (asList p)
+partnersOr T vs p = orElse (concatMap (nodesNamed T) vs) (asList p)
 
 -- "Requires: for each requirer": the variable itself, or the gate's requirers; another origin adds nothing
 abbrev pub requirersBy : Tables → ℕ → Origin → List ConflictNode
@@ -188,7 +188,7 @@ lockLinks T a b =
 -- Constrains: from a's node to b's, with the version set (conflict.rs, lines 264 to 280)
 unfoldable pub constrainsLinks : Tables → ℕ → ℕ → ℕ → List Link
 unfolding partyOf
-constrainsLinks T a b v = concatMap (λ n. map (λ m. link n m (W.Conflict (K.Constrains v))) (nodesOf T b)) (nodesOf T a)
+constrainsLinks T a b v = concatMap (λ n. map (λ m. link n m (W.Conflict (K.Constrains v))) (nodesNamed T b)) (nodesNamed T a)
 
 -- "links the previous solvable under that forbidden name to this one", if there is one
 abbrev pub previousLinks : Option ℕ → ℕ → List Link

@@ -19,7 +19,7 @@ use Rattle.store.specs.declared.ConflictNode.{ConflictNode}
 use Rattle.store.specs.declared.ConflictNode.the-variants as N
 use Rattle.linking.specs.declared.Party.{Party}
 use Rattle.linking.specs.declared.Party.the-variants.{Node, Neither}
-use Rattle.linking.specs.Links.{partyBy, partyOf, asList, nodesOf, anyOfIn, parentIn, excludedIn}
+use Rattle.linking.specs.Links.{partyBy, partyOf, asList, nodesNamed, anyOfIn, parentIn, excludedIn}
 use Rattle.linking.specs.Links.{gateReason, parentReason, excludedReason, partnersOr}
 
 -- ---- what variable v names, by its origin o
@@ -91,12 +91,12 @@ is-node (Node n) l m e = refl
 is-node Neither l m e = clash (cc)
 
 -- where some partner is kept the partners count, else the recovered party p
-pub or-kept : (T : Tables) (vs : List ℕ) (p : Party) → anyNode T vs ≡ true → partnersOr T vs p ≡ concatMap (nodesOf T) vs
+pub or-kept : (T : Tables) (vs : List ℕ) (p : Party) → anyNode T vs ≡ true → partnersOr T vs p ≡ concatMap (nodesNamed T) vs
 unfolding anyNode partnersOr
 or-kept T [] p e = clash (cc)
 or-kept T (v ∷ vs) p e =
     split (isNode (partyOf T v))
-    (λ h. is-node (partyOf T v) (concatMap (nodesOf T) vs) (asList p) h)
+    (λ h. is-node (partyOf T v) (concatMap (nodesNamed T) vs) (asList p) h)
     (λ h. let z : asList (partyOf T v) ≡ [] = not-node (partyOf T v) h in rw (z, _++_) (or-kept T vs p (rw (h, any) at e)))
 
 pub or-none : (T : Tables) (vs : List ℕ) (p : Party) → anyNode T vs ≡ false → partnersOr T vs p ≡ asList p

@@ -24,10 +24,10 @@ use Rattle.linking.specs.declared.Party.{Party}
 use Rattle.linking.specs.declared.Party.the-variants.{Node, Neither}
 use Rattle.linking.specs.declared.Grown.{Grown}
 use Rattle.linking.specs.declared.Grown.the-variants as G
-use Rattle.linking.specs.Links.{partyOf, asList, nodesOf, gateReason, partnersOr, requirers, requirersBy}
+use Rattle.linking.specs.Links.{partyOf, asList, nodesNamed, gateReason, partnersOr, requirers, requirersBy}
 use Rattle.linking.specs.Links.{Link, link, requireLink, requireLinks, requiresOf}
 use Rattle.linking.specs.Working.{LinkedSoFar, linkAllIn}
-use Rattle.linking.specs.Growth.{Grew, Left, left-next, left-stop, left-start, left-end, grew-none, grew-as}
+use Rattle.linking.specs.Growth.{Grew, LinksLeft, left-next, left-stop, left-start, left-end, grew-none, grew-as}
 use Rattle.linking.specs.Parties.{isNode, anyNode, any-hit, any-miss, any-none, or-kept, or-none}
 
 -- ---- the links that are spoken of
@@ -46,7 +46,7 @@ requireOf T q p = requireLinks q (candidatesOf T q) p
 
 -- of a gate's partners from the stored value x on
 unfoldable pub gateLinks : Tables → ℕ → ℕ → List Link
-gateLinks T q x = requiresOf T q (concatMap (nodesOf T) (gatesFrom T x))
+gateLinks T q x = requiresOf T q (concatMap (nodesNamed T) (gatesFrom T x))
 
 -- the requirers of gate v: its partners, or the one that is recovered
 unfoldable pub gateOf : Tables → ℕ → List ConflictNode
@@ -121,8 +121,8 @@ module _ (T : Tables) (q : ℕ) where
       → gateLinks T q x ≡ requiresOf T q (asList (partyOf T v)) ++ gateLinks T q y
   unfolding gateLinks requiresOf
   gate-step x v y h e z =
-      ap (λ (l : List ℕ). concatMap (requireLinks q (candidatesOf T q)) (concatMap (nodesOf T) l)) (gates-step T x v y h e z)
-      ∙ concat-append (requireLinks q (candidatesOf T q)) (asList (partyOf T v)) (concatMap (nodesOf T) (gatesFrom T y))
+      ap (λ (l : List ℕ). concatMap (requireLinks q (candidatesOf T q)) (concatMap (nodesNamed T) l)) (gates-step T x v y h e z)
+      ∙ concat-append (requireLinks q (candidatesOf T q)) (asList (partyOf T v)) (concatMap (nodesNamed T) (gatesFrom T y))
     where
       concat-append : {A B : Type 0} (f : A → List B) (xs ys : List A) → concatMap f (xs ++ ys) ≡ concatMap f xs ++ concatMap f ys
       concat-append f [] ys = refl
@@ -130,15 +130,15 @@ module _ (T : Tables) (q : ℕ) where
           ap (λ (l : List _). f x ++ l) (concat-append f xs ys) ∙ sym (append-assoc (f x) (concatMap f xs) (concatMap f ys))
 
   -- there was room: what is left is the rest
-  pub gate-next : (W : LinkedSoFar) (g k : List ℕ) (s t : Size) (r : Party) (d : Grown) (x v y : ℕ) → Left W (gateLinks T q x) g s → 0 < x
+  pub gate-next : (W : LinkedSoFar) (g k : List ℕ) (s t : Size) (r : Party) (d : Grown) (x v y : ℕ) → LinksLeft W (gateLinks T q x) g s → 0 < x
       → v ≡ gateAt T (x - 1) → r ≡ partyOf T v → GrewBy (requiresOf T q (asList r)) g s k d → d ≡ G.On t → y ≡ nextPartner T (x - 1)
-      → Left W (gateLinks T q y) k t
+      → LinksLeft W (gateLinks T q y) k t
   gate-next W g k s t r d x v y L h e p R o z =
       left-next W (gateLinks T q x) (requiresOf T q (asList r)) (gateLinks T q y) g k s t d L R o
       (gate-step x v y h e z ∙ ap (λ (u : Party). requiresOf T q (asList u) ++ gateLinks T q y) (sym p))
 
   -- there was none: that is the answer
-  pub gate-stop : (W : LinkedSoFar) (g k : List ℕ) (s t : Size) (r : Party) (d : Grown) (x v : ℕ) → Left W (gateLinks T q x) g s → 0 < x
+  pub gate-stop : (W : LinkedSoFar) (g k : List ℕ) (s t : Size) (r : Party) (d : Grown) (x v : ℕ) → LinksLeft W (gateLinks T q x) g s → 0 < x
       → v ≡ gateAt T (x - 1) → r ≡ partyOf T v → GrewBy (requiresOf T q (asList r)) g s k d → d ≡ G.Full t → Grew W k (G.Full t)
   gate-stop W g k s t r d x v L h e p R o =
       left-stop W (gateLinks T q x) (requiresOf T q (asList r)) (gateLinks T q (nextPartner T (x - 1))) g k s t d L R o
@@ -146,11 +146,11 @@ module _ (T : Tables) (q : ℕ) where
       ∙ ap (λ (u : Party). requiresOf T q (asList u) ++ gateLinks T q (nextPartner T (x - 1))) (sym p))
 
   -- no partner is left
-  pub gate-end : (W : LinkedSoFar) (g : List ℕ) (s : Size) (x : ℕ) → Left W (gateLinks T q x) g s → x ≤ 0 → Grew W g (G.On s)
+  pub gate-end : (W : LinkedSoFar) (g : List ℕ) (s : Size) (x : ℕ) → LinksLeft W (gateLinks T q x) g s → x ≤ 0 → Grew W g (G.On s)
   unfolding gateLinks requiresOf
   gate-end W g s x L h =
       left-end W (gateLinks T q x) g s L
-      (ap (λ (l : List ℕ). concatMap (requireLinks q (candidatesOf T q)) (concatMap (nodesOf T) l)) (gates-end T x h))
+      (ap (λ (l : List ℕ). concatMap (requireLinks q (candidatesOf T q)) (concatMap (nodesNamed T) l)) (gates-end T x h))
 
 pub ruleset gates = (left-start, gate-next, gate-stop, gate-end)
 

@@ -12,11 +12,13 @@ ghost use Rattle.linking.specs.Growth.{Grew};
 ghost use Rattle.linking.specs.Fan.{fanAll};
 ghost use Rattle.linking.specs.Parties.{isNode, anyNode};
 ghost use Rattle.linking.specs.Requiring.{candidateLinks, requireOf, gateLinks, gateOf};
+use index::Slots;
 use records::Clause;
 use records::Origin;
 use store::ConflictCause;
 use store::ConflictEdge;
 use store::ConflictNode;
+use store::GraphWords;
 use store::Put;
 use store::Size;
 
@@ -32,13 +34,7 @@ pub enum Grown {
     Full(Size),
 }
 
-fn link_one(
-    g: &mut [u64; 1152],
-    s: Size,
-    x: ConflictNode,
-    y: ConflictNode,
-    w: ConflictEdge,
-) -> Grown
+fn link_one(g: &mut GraphWords, s: Size, x: ConflictNode, y: ConflictNode, w: ConflictEdge) -> Grown
     requires { ⌜ Growing (now g) s ⌝ }
     ensures { λ r. ⌜ Grew (linkAllIn (link x y w ∷ []) (graphIn (now (g .entry)) s)) (now (g .exit)) r ⌝ }
 {
@@ -50,7 +46,7 @@ fn link_one(
 }
 
 // The node of solvable n, and the link from the one before it under its name: p is one more than that, or 0.
-pub fn add_forbidden(g: &mut [u64; 1152], s: Size, p: u16, n: u16) -> Grown
+pub fn add_forbidden(g: &mut GraphWords, s: Size, p: u16, n: u16) -> Grown
     requires { ⌜ Growing (now g) s ⌝ }
     ensures { λ r. ⌜ Grew (forbidAllIn (graphIn (now (g .entry)) s) (lastBy p) n) (now (g .exit)) r ⌝ }
 {
@@ -69,7 +65,7 @@ pub fn add_forbidden(g: &mut [u64; 1152], s: Size, p: u16, n: u16) -> Grown
 }
 
 // What variable v names.
-pub fn named(file: &[u8], ix: &[u16; 10432], v: u16) -> Party
+pub fn named(file: &[u8], ix: &Slots, v: u16) -> Party
     requires { ⌜ Loaded (now file) (now ix) ⌝ }
     ensures { λ r. ⌜ r ≡ partyOf (tablesOf (now (file .entry))) v ⌝ }
 {
@@ -84,7 +80,7 @@ pub fn named(file: &[u8], ix: &[u16; 10432], v: u16) -> Party
     }
 }
 
-pub fn is_party(file: &[u8], ix: &[u16; 10432], v: u16) -> bool
+pub fn is_party(file: &[u8], ix: &Slots, v: u16) -> bool
     requires { ⌜ Loaded (now file) (now ix) ⌝ }
     ensures { λ r. ⌜ r ≡ isNode (partyOf (tablesOf (now (file .entry))) v) ⌝ }
 {
@@ -98,8 +94,8 @@ pub fn is_party(file: &[u8], ix: &[u16; 10432], v: u16) -> bool
 // An edge per candidate from the stored value x on, from node `source`.
 fn link_each(
     file: &[u8],
-    ix: &[u16; 10432],
-    g: &mut [u64; 1152],
+    ix: &Slots,
+    g: &mut GraphWords,
     s: Size,
     source: u8,
     q: u16,
@@ -129,8 +125,8 @@ fn link_each(
 // An edge per candidate from the stored value x on, which is one: the requirer's node is found once.
 fn link_some(
     file: &[u8],
-    ix: &[u16; 10432],
-    g: &mut [u64; 1152],
+    ix: &Slots,
+    g: &mut GraphWords,
     s: Size,
     p: ConflictNode,
     q: u16,
@@ -154,8 +150,8 @@ fn link_some(
 // An edge per candidate from the stored value x on.
 fn link_candidates(
     file: &[u8],
-    ix: &[u16; 10432],
-    g: &mut [u64; 1152],
+    ix: &Slots,
+    g: &mut GraphWords,
     s: Size,
     p: ConflictNode,
     q: u16,
@@ -172,14 +168,7 @@ fn link_candidates(
 }
 
 // All edges of one requirer.
-fn require(
-    file: &[u8],
-    ix: &[u16; 10432],
-    g: &mut [u64; 1152],
-    s: Size,
-    p: ConflictNode,
-    q: u16,
-) -> Grown
+fn require(file: &[u8], ix: &Slots, g: &mut GraphWords, s: Size, p: ConflictNode, q: u16) -> Grown
     requires { ⌜ Loaded (now file) (now ix) ⌝ }
     requires { ⌜ Growing (now g) s ⌝ }
     ensures { λ r. ⌜ Grew (linkAllIn (requireOf (tablesOf (now (file .entry))) q p) (graphIn (now (g .entry)) s)) (now (g .exit)) r ⌝ }
@@ -198,14 +187,7 @@ fn require(
 }
 
 // All edges of a party, none where it names neither.
-fn require_party(
-    file: &[u8],
-    ix: &[u16; 10432],
-    g: &mut [u64; 1152],
-    s: Size,
-    r: Party,
-    q: u16,
-) -> Grown
+fn require_party(file: &[u8], ix: &Slots, g: &mut GraphWords, s: Size, r: Party, q: u16) -> Grown
     requires { ⌜ Loaded (now file) (now ix) ⌝ }
     requires { ⌜ Growing (now g) s ⌝ }
     ensures { λ d. ⌜ Grew (linkAllIn (requiresOf (tablesOf (now (file .entry))) q (asList r)) (graphIn (now (g .entry)) s)) (now (g .exit)) d ⌝ }
@@ -217,7 +199,7 @@ fn require_party(
 }
 
 // Some partner of a gate, from the stored value x on, is the root or a solvable.
-fn gate_kept(file: &[u8], ix: &[u16; 10432], x: usize) -> bool
+fn gate_kept(file: &[u8], ix: &Slots, x: usize) -> bool
     requires { ⌜ Loaded (now file) (now ix) ⌝ }
     ensures { λ r. ⌜ r ≡ anyNode (tablesOf (now (file .entry))) (gatesFrom (tablesOf (now (file .entry))) x) ⌝ }
 {
@@ -234,14 +216,7 @@ fn gate_kept(file: &[u8], ix: &[u16; 10432], x: usize) -> bool
 }
 
 // The edges of a gate's partners from the stored value x on.
-fn link_gate(
-    file: &[u8],
-    ix: &[u16; 10432],
-    g: &mut [u64; 1152],
-    s: Size,
-    q: u16,
-    x: usize,
-) -> Grown
+fn link_gate(file: &[u8], ix: &Slots, g: &mut GraphWords, s: Size, q: u16, x: usize) -> Grown
     requires { ⌜ Loaded (now file) (now ix) ⌝ }
     requires { ⌜ Growing (now g) s ⌝ }
     ensures { λ r. ⌜ Grew (linkAllIn (gateLinks (tablesOf (now (file .entry))) q x) (graphIn (now (g .entry)) s)) (now (g .exit)) r ⌝ }
@@ -265,7 +240,7 @@ fn link_gate(
 }
 
 // The b of the clause that assigned gate v, if that is AnyOf.
-fn recover_gate(file: &[u8], ix: &[u16; 10432], v: u16) -> Party
+fn recover_gate(file: &[u8], ix: &Slots, v: u16) -> Party
     requires { ⌜ Loaded (now file) (now ix) ⌝ }
     ensures { λ r. ⌜ r ≡ gateReason (tablesOf (now (file .entry))) v ⌝ }
 {
@@ -281,17 +256,11 @@ fn recover_gate(file: &[u8], ix: &[u16; 10432], v: u16) -> Party
 }
 
 // The edges of all requirers of gate v.
-fn expand_gate(
-    file: &[u8],
-    ix: &[u16; 10432],
-    g: &mut [u64; 1152],
-    s: Size,
-    v: u16,
-    q: u16,
-) -> Grown
+fn expand_gate(file: &[u8], ix: &Slots, g: &mut GraphWords, s: Size, v: u16, q: u16) -> Grown
     requires { ⌜ Loaded (now file) (now ix) ⌝ }
     requires { ⌜ Growing (now g) s ⌝ }
-    ensures { λ r. ⌜ Grew (linkAllIn (requiresOf (tablesOf (now (file .entry))) q (gateOf (tablesOf (now (file .entry))) v)) (graphIn (now (g .entry)) s)) (now (g .exit)) r ⌝ }
+    ensures { λ r. ⌜ Grew (linkAllIn (requiresOf (tablesOf (now (file .entry))) q (gateOf (tablesOf (now (file .entry))) v)) (graphIn (now (g .entry)) s))
+        (now (g .exit)) r ⌝ }
 {
     let x = views::first_gate(file, ix, v);
     if gate_kept(file, ix, x) {
@@ -303,15 +272,16 @@ fn expand_gate(
 
 pub fn expand_requires(
     file: &[u8],
-    ix: &[u16; 10432],
-    g: &mut [u64; 1152],
+    ix: &Slots,
+    g: &mut GraphWords,
     s: Size,
     a: u16,
     q: u16,
 ) -> Grown
     requires { ⌜ Loaded (now file) (now ix) ⌝ }
     requires { ⌜ Growing (now g) s ⌝ }
-    ensures { λ r. ⌜ Grew (linkAllIn (requiresOf (tablesOf (now (file .entry))) q (requirers (tablesOf (now (file .entry))) a)) (graphIn (now (g .entry)) s)) (now (g .exit)) r ⌝ }
+    ensures { λ r. ⌜ Grew (linkAllIn (requiresOf (tablesOf (now (file .entry))) q (requirers (tablesOf (now (file .entry))) a)) (graphIn (now (g .entry)) s))
+        (now (g .exit)) r ⌝ }
 {
     let o = views::origin(file, ix, a);
     match o {
@@ -326,8 +296,8 @@ pub fn expand_requires(
 
 pub fn expand_excluded(
     file: &[u8],
-    ix: &[u16; 10432],
-    g: &mut [u64; 1152],
+    ix: &Slots,
+    g: &mut GraphWords,
     s: Size,
     a: u16,
     r: u16,
@@ -350,14 +320,7 @@ pub fn expand_excluded(
     )
 }
 
-pub fn expand_lock(
-    file: &[u8],
-    ix: &[u16; 10432],
-    g: &mut [u64; 1152],
-    s: Size,
-    a: u16,
-    b: u16,
-) -> Grown
+pub fn expand_lock(file: &[u8], ix: &Slots, g: &mut GraphWords, s: Size, a: u16, b: u16) -> Grown
     requires { ⌜ Loaded (now file) (now ix) ⌝ }
     requires { ⌜ Growing (now g) s ⌝ }
     ensures { λ d. ⌜ Grew (linkAllIn (lockLinks (tablesOf (now (file .entry))) a b) (graphIn (now (g .entry)) s)) (now (g .exit)) d ⌝ }
@@ -383,8 +346,8 @@ pub fn expand_lock(
 // A direct Constrains neither looks at the triples nor adds to them.
 pub fn expand_constrains(
     file: &[u8],
-    ix: &[u16; 10432],
-    g: &mut [u64; 1152],
+    ix: &Slots,
+    g: &mut GraphWords,
     s: Size,
     a: u16,
     b: u16,

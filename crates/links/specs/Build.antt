@@ -5,7 +5,8 @@ use Prim.Native.Nat.{ℕ, zero, suc, _+_, _-_, _<_, _≤_}
 use native.Mathlib.Numerals.{add-one}
 use native.Mathlib.Omega.{arith}
 use lib.ListN.{length, set}
-use Rattle.basis.specs.Chains.{Layout, Fits, fits-before, slot, Chained, Risen, linked, Beside, beside-high, Only, only-none, only-twice, only-head, only-next, only-prev, Cleared, clear-none, clear-next, chain-clear, rise-clear, chain-next, rise-next, chain-only, chain-only-two}
+use Rattle.basis.specs.Chains.{Layout, Fits, fits-before, slot, Chained, Risen, linked, Beside, beside-high, Only, only-none, only-twice, only-head, only-next}
+use Rattle.basis.specs.Chains.{only-prev, Cleared, clear-none, clear-next, chain-clear, rise-clear, chain-next, rise-next, chain-only, chain-only-two}
 use Rattle.store.specs.declared.Size.{Size}
 use Rattle.store.specs.Table.{edgeIn, Stored, source-below, target-below}
 
@@ -75,7 +76,8 @@ pub fill-none : (L : Layout) (key : ℕ → ℕ) (ls : List ℕ) → ls ≡ link
 unfolding linkedUp
 fill-none L key ls = refl
 
-pub fill-next : (L : Layout) (key : ℕ → ℕ) (ls l k : List ℕ) (i n : ℕ) → l ≡ linkedUp L key ls i → k ≡ linked L l i n → n ≡ key i → k ≡ linkedUp L key ls (i + 1)
+pub fill-next : (L : Layout) (key : ℕ → ℕ) (ls l k : List ℕ) (i n : ℕ) → l ≡ linkedUp L key ls i → k ≡ linked L l i n → n ≡ key i
+    → k ≡ linkedUp L key ls (i + 1)
 unfolding linkedUp
 fill-next L key ls l k i n q r e = rw (add-one i, ← q, ← e) r
 
@@ -86,7 +88,8 @@ pub fall-none : (L : Layout) (key : ℕ → ℕ) (ls : List ℕ) (m : ℕ) → l
 unfolding linkedDown
 fall-none L key ls m = let z : m - m ≡ 0 = omega arith in rw z
 
-pub fall-next : (L : Layout) (key : ℕ → ℕ) (ls l k : List ℕ) (m j n : ℕ) → l ≡ linkedDown L key ls m (m - j) → k ≡ linked L l (j - 1) n → n ≡ key (j - 1) → 0 < j → j ≤ m → k ≡ linkedDown L key ls m (m - (j - 1))
+pub fall-next : (L : Layout) (key : ℕ → ℕ) (ls l k : List ℕ) (m j n : ℕ) → l ≡ linkedDown L key ls m (m - j) → k ≡ linked L l (j - 1) n → n ≡ key (j - 1)
+    → 0 < j → j ≤ m → k ≡ linkedDown L key ls m (m - (j - 1))
 unfolding linkedDown
 fall-next L key ls l k m j n q r e h jm =
     let z : m - (j - 1) ≡ suc (m - j) = omega arith in
@@ -128,7 +131,8 @@ module _ (L : Layout) (ls : List ℕ) (F : Fits L) where
   unfolding wiped
   wiped-cleared zero w h = clear-none L ls F w
   wiped-cleared (suc k) w h =
-      let z : set (wiped ls (L .heads) k) (L .heads + k) 0 ≡ set (wiped ls (L .heads) k) (slot (L .heads) k) 0 = ap (λ (a : ℕ). set (wiped ls (L .heads) k) a 0) (sym (slot-sum (L .heads) k)) in
+      let z : set (wiped ls (L .heads) k) (L .heads + k) 0 ≡ set (wiped ls (L .heads) k) (slot (L .heads) k) 0 =
+      ap (λ (a : ℕ). set (wiped ls (L .heads) k) a 0) (sym (slot-sum (L .heads) k)) in
       rw (← add-one k) (clear-next L (wiped ls (L .heads) k) (set (wiped ls (L .heads) k) (L .heads + k) 0) k (wiped-cleared k w (omega arith)) z (omega arith))
     where
       slot-sum : (b i : ℕ) → slot b i ≡ b + i
@@ -152,7 +156,8 @@ module _ (L : Layout) (key : ℕ → ℕ) (ls : List ℕ) (m : ℕ) (fits : m �
   up-chained zero h C = C
   up-chained (suc i) h C =
       rw (← add-one i)
-      (chain-next L key (linkedUp L key ls i) (linked L (linkedUp L key ls i) i (key i)) i (key i) m (up-chained i (omega arith) C) refl refl (known i h) h fits)
+      (chain-next L key (linkedUp L key ls i) (linked L (linkedUp L key ls i) i (key i)) i (key i) m (up-chained i (omega arith) C) refl refl (known i h) h
+      fits)
 
   up-only : (i : ℕ) → i ≤ m → Only L ls (linkedUp L key ls i)
   unfolding linkedUp
@@ -166,7 +171,8 @@ module _ (L : Layout) (key : ℕ → ℕ) (ls : List ℕ) (m : ℕ) (fits : m �
   down-risen (suc k) h R =
       let z : m - suc k ≡ m - k - 1 = omega arith in
       rw z
-      (rise-next L key (linkedDown L key ls m k) (linked L (linkedDown L key ls m k) (m - k - 1) (key (m - k - 1))) m (m - k) (key (m - k - 1)) (down-risen k (omega arith) R) refl refl (known (m - k - 1) (omega arith)) (omega arith) (omega arith))
+      (rise-next L key (linkedDown L key ls m k) (linked L (linkedDown L key ls m k) (m - k - 1) (key (m - k - 1))) m (m - k) (key (m - k - 1))
+      (down-risen k (omega arith) R) refl refl (known (m - k - 1) (omega arith)) (omega arith) (omega arith))
 
   down-only : (k : ℕ) → k ≤ m → Only L ls (linkedDown L key ls m k)
   unfolding linkedDown
@@ -174,7 +180,8 @@ module _ (L : Layout) (key : ℕ → ℕ) (ls : List ℕ) (m : ℕ) (fits : m �
   down-only (suc k) h =
       let z : m - suc k ≡ m - k - 1 = omega arith in
       rw z
-      (only-prev L ls (linkedDown L key ls m k) (linked L (linkedDown L key ls m k) (m - k - 1) (key (m - k - 1))) (m - k) (key (m - k - 1)) m (down-only k (omega arith)) refl (known (m - k - 1) (omega arith)) (omega arith) (omega arith) fits)
+      (only-prev L ls (linkedDown L key ls m k) (linked L (linkedDown L key ls m k) (m - k - 1) (key (m - k - 1))) (m - k) (key (m - k - 1)) m
+      (down-only k (omega arith)) refl (known (m - k - 1) (omega arith)) (omega arith) (omega arith) fits)
 
 -- ---- the promise: the graph is stored, and its edges hang in the three chains
 
@@ -262,7 +269,12 @@ module _ (g ls : List ℕ) (s : Size) (S : Stored g s) (wide : length ls ≡ 345
   chains-built : Chains g s (chainsOf g s ls)
   unfolding chainsOf outsOf intosOf oldsOf
   chains-built =
-      record { stored = S; out = chain-only-two outLay inLay oldLay (sourceOf g) o₁ i₁ d₁ (s .edges) only-old out-old only-in out-in built-out; into = chain-only inLay oldLay (targetOf g) i₁ d₁ (s .edges) only-old in-old built-in; old = built-old }
+      record {
+        stored = S;
+        out = chain-only-two outLay inLay oldLay (sourceOf g) o₁ i₁ d₁ (s .edges) only-old out-old only-in out-in built-out;
+        into = chain-only inLay oldLay (targetOf g) i₁ d₁ (s .edges) only-old in-old built-in;
+        old = built-old;
+      }
 
 -- the calls, one behind the other
 module _ (g ls l k : List ℕ) (s : Size) where

@@ -1,2 +1,4 @@
 pub mod Build
 pub mod Walk
+pub mod Paths
+pub mod Queue

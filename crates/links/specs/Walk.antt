@@ -143,14 +143,16 @@ module _ (g : List ℕ) (s : Size) (S : Stored g s) (n : ℕ) where
   unfolding out sourceOf
   out-edges =
       map-on (edgeIn g) (λ e. getD edgesIn e noEdge) (downs (sourceOf g) (s .edges) n) (λ i j. edge-in g s S i (K.downs-in (sourceOf g) i (s .edges) n j .0))
-      ∙ K.downs-take (λ (x : Edge). x .source) edgesIn noEdge (sourceOf g) n (s .edges) enough (record { agree = λ e h. ap (λ (x : Edge). x .source) (edge-in g s S e h) })
+      ∙ K.downs-take (λ (x : Edge). x .source) edgesIn noEdge (sourceOf g) n (s .edges) enough
+      (record { agree = λ e h. ap (λ (x : Edge). x .source) (edge-in g s S e h) })
       ∙ ap (λ (l : List Edge). filter (λ (x : Edge). eqb (x .source) n) (reverse l)) whole
 
   into-edges : map (edgeIn g) (downs (targetOf g) (s .edges) n) ≡ into (graphIn g s) n
   unfolding into targetOf
   into-edges =
       map-on (edgeIn g) (λ e. getD edgesIn e noEdge) (downs (targetOf g) (s .edges) n) (λ i j. edge-in g s S i (K.downs-in (targetOf g) i (s .edges) n j .0))
-      ∙ K.downs-take (λ (x : Edge). x .target) edgesIn noEdge (targetOf g) n (s .edges) enough (record { agree = λ e h. ap (λ (x : Edge). x .target) (edge-in g s S e h) })
+      ∙ K.downs-take (λ (x : Edge). x .target) edgesIn noEdge (targetOf g) n (s .edges) enough
+      (record { agree = λ e h. ap (λ (x : Edge). x .target) (edge-in g s S e h) })
       ∙ ap (λ (l : List Edge). filter (λ (x : Edge). eqb (x .target) n) (reverse l)) whole
 
   old-targets : map (λ (x : Edge). x .target) (map (edgeIn g) (ups (sourceOf g) 0 (s .edges) n)) ≡ map (λ (x : Edge). x .target) (reverse (out (graphIn g s) n))
@@ -158,7 +160,8 @@ module _ (g : List ℕ) (s : Size) (S : Stored g s) (n : ℕ) where
   old-targets =
       ap (map (λ (x : Edge). x .target))
       (map-on (edgeIn g) (λ e. getD edgesIn e noEdge) (ups (sourceOf g) 0 (s .edges) n) (λ i j. edge-in g s S i (K.ups-in (sourceOf g) i 0 (s .edges) n j .1))
-      ∙ K.ups-take (λ (x : Edge). x .source) edgesIn noEdge (sourceOf g) n (s .edges) enough (record { agree = λ e h. ap (λ (x : Edge). x .source) (edge-in g s S e h) })
+      ∙ K.ups-take (λ (x : Edge). x .source) edgesIn noEdge (sourceOf g) n (s .edges) enough
+      (record { agree = λ e h. ap (λ (x : Edge). x .source) (edge-in g s S e h) })
       ∙ ap (filter (λ (x : Edge). eqb (x .source) n)) whole
       ∙ sym (ap reverse (filter-reverse (λ (x : Edge). eqb (x .source) n) edgesIn) ∙ reverse-reverse (filter (λ (x : Edge). eqb (x .source) n) edgesIn)))
 
@@ -266,7 +269,8 @@ module _ (g : List ℕ) (s : Size) (ls : List ℕ) (n : ℕ) where
   pub old-all : (r : ℕ) → Chains g s ls → n < s .nodes → r ≡ firstOld ls n → targetsLeft g s n r ≡ map (λ (x : Edge). x .target) (reverse (out (graphIn g s) n))
   unfolding targetsLeft
   old-all r C h q =
-      ap (λ (l : List ℕ). map (λ (x : Edge). x .target) (map (edgeIn g) l)) (K.up-all oldLay (sourceOf g) ls (s .edges) n r (C .old) (omega (arith, C .stored .nodes-most)) (old-head r C h q))
+      ap (λ (l : List ℕ). map (λ (x : Edge). x .target) (map (edgeIn g) l))
+      (K.up-all oldLay (sourceOf g) ls (s .edges) n r (C .old) (omega (arith, C .stored .nodes-most)) (old-head r C h q))
       ∙ old-targets g s (C .stored) n
 
   pub old-next : (e r : ℕ) → Old g s ls n e → 0 < e → r ≡ nextOld ls (e - 1) → Old g s ls n r

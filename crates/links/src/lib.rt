@@ -1,5 +1,7 @@
 // Chains of outgoing and incoming edges, built once over a settled graph, so that no later pass looks at all edges for the
 // sake of one node. Three chains in one table: outgoing and incoming newest first, as petgraph reads edges, and outgoing oldest first.
+pub mod reach;
+
 ghost use mathlib.Core.Path.{_≡_};
 ghost use Prim.Native.Nat.{_+_, _<_, _≤_};
 ghost use lib.ListN.{length};
@@ -7,9 +9,11 @@ ghost use Rattle.basis.specs.Chains.{linked};
 ghost use Rattle.store.specs.Table.{Stored};
 ghost use Rattle.links.specs.Build.{outLay, inLay, oldLay, sourceOf, targetOf, wiped, linkedUp, linkedDown, outsOf, intosOf, oldsOf, chainsOf, Chains};
 ghost use Rattle.links.specs.Walk.{firstOut, nextOut, firstIn, nextIn, firstOld, nextOld};
+use store::ChainWords;
+use store::GraphWords;
 
 // The 128 places from `at` on become 0.
-fn clear(ls: &mut [u16; 3456], at: usize)
+fn clear(ls: &mut ChainWords, at: usize)
     requires { ⌜ at ≤ 3328 ⌝ }
     ensures { λ _. ⌜ now (ls .exit) ≡ wiped (now (ls .entry)) at 128 ⌝ }
 {
@@ -21,7 +25,7 @@ fn clear(ls: &mut [u16; 3456], at: usize)
 }
 
 // Edge i becomes the first of node n's chain.
-fn link_out(ls: &mut [u16; 3456], i: usize, n: usize)
+fn link_out(ls: &mut ChainWords, i: usize, n: usize)
     requires { ⌜ (i < 1024) × (n < 128) ⌝ }
     ensures { λ _. ⌜ now (ls .exit) ≡ linked outLay (now (ls .entry)) i n ⌝ }
 {
@@ -31,7 +35,7 @@ fn link_out(ls: &mut [u16; 3456], i: usize, n: usize)
     ls[at] = (i + 1) as u16;
 }
 
-fn link_in(ls: &mut [u16; 3456], i: usize, n: usize)
+fn link_in(ls: &mut ChainWords, i: usize, n: usize)
     requires { ⌜ (i < 1024) × (n < 128) ⌝ }
     ensures { λ _. ⌜ now (ls .exit) ≡ linked inLay (now (ls .entry)) i n ⌝ }
 {
@@ -41,7 +45,7 @@ fn link_in(ls: &mut [u16; 3456], i: usize, n: usize)
     ls[at] = (i + 1) as u16;
 }
 
-fn link_old(ls: &mut [u16; 3456], i: usize, n: usize)
+fn link_old(ls: &mut ChainWords, i: usize, n: usize)
     requires { ⌜ (i < 1024) × (n < 128) ⌝ }
     ensures { λ _. ⌜ now (ls .exit) ≡ linked oldLay (now (ls .entry)) i n ⌝ }
 {
@@ -52,7 +56,7 @@ fn link_old(ls: &mut [u16; 3456], i: usize, n: usize)
 }
 
 // Outgoing, newest first.
-fn fill_out(g: &[u64; 1152], s: store::Size, ls: &mut [u16; 3456])
+fn fill_out(g: &GraphWords, s: store::Size, ls: &mut ChainWords)
     requires { ⌜ Stored (now g) s ⌝ }
     ensures { λ _. ⌜ now (ls .exit) ≡ linkedUp outLay (sourceOf (now (g .entry))) (now (ls .entry)) (s .edges) ⌝ }
 {
@@ -66,7 +70,7 @@ fn fill_out(g: &[u64; 1152], s: store::Size, ls: &mut [u16; 3456])
 }
 
 // Incoming, newest first.
-fn fill_in(g: &[u64; 1152], s: store::Size, ls: &mut [u16; 3456])
+fn fill_in(g: &GraphWords, s: store::Size, ls: &mut ChainWords)
     requires { ⌜ Stored (now g) s ⌝ }
     ensures { λ _. ⌜ now (ls .exit) ≡ linkedUp inLay (targetOf (now (g .entry))) (now (ls .entry)) (s .edges) ⌝ }
 {
@@ -80,7 +84,7 @@ fn fill_in(g: &[u64; 1152], s: store::Size, ls: &mut [u16; 3456])
 }
 
 // Outgoing, oldest first: put in from the last edge down.
-fn fill_old(g: &[u64; 1152], s: store::Size, ls: &mut [u16; 3456])
+fn fill_old(g: &GraphWords, s: store::Size, ls: &mut ChainWords)
     requires { ⌜ Stored (now g) s ⌝ }
     ensures { λ _. ⌜ now (ls .exit) ≡ linkedDown oldLay (sourceOf (now (g .entry))) (now (ls .entry)) (s .edges) (s .edges) ⌝ }
 {
@@ -94,7 +98,7 @@ fn fill_old(g: &[u64; 1152], s: store::Size, ls: &mut [u16; 3456])
     }
 }
 
-fn chain_out(g: &[u64; 1152], s: store::Size, ls: &mut [u16; 3456])
+fn chain_out(g: &GraphWords, s: store::Size, ls: &mut ChainWords)
     requires { ⌜ Stored (now g) s ⌝ }
     ensures { λ _. ⌜ now (ls .exit) ≡ outsOf (now (g .entry)) s (now (ls .entry)) ⌝ }
 {
@@ -102,7 +106,7 @@ fn chain_out(g: &[u64; 1152], s: store::Size, ls: &mut [u16; 3456])
     fill_out(g, s, ls);
 }
 
-fn chain_in(g: &[u64; 1152], s: store::Size, ls: &mut [u16; 3456])
+fn chain_in(g: &GraphWords, s: store::Size, ls: &mut ChainWords)
     requires { ⌜ Stored (now g) s ⌝ }
     ensures { λ _. ⌜ now (ls .exit) ≡ intosOf (now (g .entry)) s (now (ls .entry)) ⌝ }
 {
@@ -110,7 +114,7 @@ fn chain_in(g: &[u64; 1152], s: store::Size, ls: &mut [u16; 3456])
     fill_in(g, s, ls);
 }
 
-fn chain_old(g: &[u64; 1152], s: store::Size, ls: &mut [u16; 3456])
+fn chain_old(g: &GraphWords, s: store::Size, ls: &mut ChainWords)
     requires { ⌜ Stored (now g) s ⌝ }
     ensures { λ _. ⌜ now (ls .exit) ≡ oldsOf (now (g .entry)) s (now (ls .entry)) ⌝ }
 {
@@ -119,7 +123,7 @@ fn chain_old(g: &[u64; 1152], s: store::Size, ls: &mut [u16; 3456])
 }
 
 // All three chains, whatever the table held.
-pub fn chain(g: &[u64; 1152], s: store::Size, ls: &mut [u16; 3456])
+pub fn chain(g: &GraphWords, s: store::Size, ls: &mut ChainWords)
     requires { ⌜ Stored (now g) s ⌝ }
     requires { ⌜ length (now ls) ≡ 3456 ⌝ }
     ensures { λ _. ⌜ now (ls .exit) ≡ chainsOf (now (g .entry)) s (now (ls .entry)) ⌝ }
@@ -131,7 +135,7 @@ pub fn chain(g: &[u64; 1152], s: store::Size, ls: &mut [u16; 3456])
 }
 
 // One more than node n's newest outgoing edge, or 0.
-pub fn first_out(ls: &[u16; 3456], n: usize) -> usize
+pub fn first_out(ls: &ChainWords, n: usize) -> usize
     ensures { λ r. ⌜ (r ≡ firstOut (now (ls .entry)) n) × (r < 65536) ⌝ }
 {
     if n < 128 {
@@ -141,7 +145,7 @@ pub fn first_out(ls: &[u16; 3456], n: usize) -> usize
 }
 
 // One more than the edge of the same source before edge e, or 0.
-pub fn next_out(ls: &[u16; 3456], e: usize) -> usize
+pub fn next_out(ls: &ChainWords, e: usize) -> usize
     ensures { λ r. ⌜ (r ≡ nextOut (now (ls .entry)) e) × (r < 65536) ⌝ }
 {
     if e < 1024 {
@@ -150,7 +154,7 @@ pub fn next_out(ls: &[u16; 3456], e: usize) -> usize
     0
 }
 
-pub fn first_in(ls: &[u16; 3456], n: usize) -> usize
+pub fn first_in(ls: &ChainWords, n: usize) -> usize
     ensures { λ r. ⌜ (r ≡ firstIn (now (ls .entry)) n) × (r < 65536) ⌝ }
 {
     if n < 128 {
@@ -159,7 +163,7 @@ pub fn first_in(ls: &[u16; 3456], n: usize) -> usize
     0
 }
 
-pub fn next_in(ls: &[u16; 3456], e: usize) -> usize
+pub fn next_in(ls: &ChainWords, e: usize) -> usize
     ensures { λ r. ⌜ (r ≡ nextIn (now (ls .entry)) e) × (r < 65536) ⌝ }
 {
     if e < 1024 {
@@ -169,7 +173,7 @@ pub fn next_in(ls: &[u16; 3456], e: usize) -> usize
 }
 
 // One more than node n's oldest outgoing edge, or 0.
-pub fn first_old(ls: &[u16; 3456], n: usize) -> usize
+pub fn first_old(ls: &ChainWords, n: usize) -> usize
     ensures { λ r. ⌜ (r ≡ firstOld (now (ls .entry)) n) × (r < 65536) ⌝ }
 {
     if n < 128 {
@@ -178,7 +182,7 @@ pub fn first_old(ls: &[u16; 3456], n: usize) -> usize
     0
 }
 
-pub fn next_old(ls: &[u16; 3456], e: usize) -> usize
+pub fn next_old(ls: &ChainWords, e: usize) -> usize
     ensures { λ r. ⌜ (r ≡ nextOld (now (ls .entry)) e) × (r < 65536) ⌝ }
 {
     if e < 1024 {

@@ -22,7 +22,7 @@ use Rattle.machine.specs.Fit.{concat-append, depth-append, depth-within,
 -- ---- what any result leaves: "exactly the first units of the text that the Rust's rules give"
 
 -- after `turns` turns of the Rust's rules, or any number more, their text begins with the units written, of which depth is the deepest
-pub record Leaves {R : Type 0} (P : Plan R) (linesOf : Entry R → List (List ℕ)) (s : State R) (room : ℕ) (r : Result) : Type 0 where
+pub record LeavesUnits {R : Type 0} (P : Plan R) (linesOf : Entry R → List (List ℕ)) (s : State R) (room : ℕ) (r : Result) : Type 0 where
   pub turns : ℕ
   pub first : List TextUnit
   pub begins : (j : ℕ) → (rest : List TextUnit) × (unitsFor P linesOf (shows P (turns + j) s) ≡ first ++ rest)
@@ -33,7 +33,8 @@ pub record Leaves {R : Type 0} (P : Plan R) (linesOf : Entry R → List (List �
   pub within : r .bytes ≤ room
 
 -- 10: "the next unit doesn't fit the room", place "units written"
-pub record Full {R : Type 0} (P : Plan R) (linesOf : Entry R → List (List ℕ)) (s : State R) (room : ℕ) (r : Result) (l : Leaves P linesOf s room r) : Type 0 where
+pub record Full {R : Type 0} (P : Plan R) (linesOf : Entry R → List (List ℕ)) (s : State R) (room : ℕ) (r : Result) (l : LeavesUnits P linesOf s room r) : Type
+    0 where
   pub place : r .place ≡ r .units
   pub unit : TextUnit
   pub rest : List TextUnit
@@ -90,7 +91,7 @@ module _ {R : Type 0} (P : Plan R) (linesOf : Entry R → List (List ℕ)) (plac
         )
 
     leaves-first : (num place : ℕ) (first rest : List TextUnit) → units (x .turns) ≡ first ++ rest → length (textOf first) ≤ room → r ≡ written num place first
-        → Leaves P linesOf s room r
+        → LeavesUnits P linesOf s room r
     leaves-first num place first rest e h q =
         let f = first-lines P (x .turns) s in
         record {
@@ -104,7 +105,7 @@ module _ {R : Type 0} (P : Plan R) (linesOf : Entry R → List (List ℕ)) (plac
           within = rw q h;
         }
 
-    leaves-by : Whole ⊎ Less → Leaves P linesOf s room r
+    leaves-by : Whole ⊎ Less → LeavesUnits P linesOf s room r
     leaves-by (inl w) = leaves-first (w .1 .0) (w .1 .1) (units (x .turns)) [] (sym (append-nil (units (x .turns)))) (w .0) (w .1 .3)
     leaves-by (inr l) =
         let us : List TextUnit = units (x .turns) in
@@ -127,7 +128,7 @@ module _ {R : Type 0} (P : Plan R) (linesOf : Entry R → List (List ℕ)) (plac
           over = rw (l .1) (n .over);
         }
 
-    pub leaves : Leaves P linesOf s room r
+    pub leaves : LeavesUnits P linesOf s room r
     leaves = leaves-by either-way
 
     pub full : r .number ≡ 10 → Full P linesOf s room r leaves
@@ -156,7 +157,8 @@ module _ {R : Type 0} (P : Plan R) (linesOf : Entry R → List (List ℕ)) where
   all-within : (D : ℕ) (es : List (Entry R)) → All (λ e. openings P e ≤ D) es → All (λ (u : TextUnit). u .openings ≤ D) (unitsFor P linesOf es)
   all-within D [] a = tt
   all-within D (e ∷ es) a =
-      all-append (λ (u : TextUnit). u .openings ≤ D) (unitsOf P linesOf e) (unitsFor P linesOf es) (units-within D (linesOf e) (openings P e) (a .0)) (all-within D es (a .1))
+      all-append (λ (u : TextUnit). u .openings ≤ D) (unitsOf P linesOf e) (unitsFor P linesOf es) (units-within D (linesOf e) (openings P e) (a .0))
+      (all-within D es (a .1))
 
 module _ {R : Type 0} (P : Plan R) (linesOf : Entry R → List (List ℕ)) (placeOf : ℕ → ℕ) (rs : List R) where
   module _ (room : ℕ) (r : Result) (x : Explained P linesOf placeOf (start rs) room r) where
@@ -221,7 +223,8 @@ module _ {R : Type 0} (P : Plan R) (linesOf : Entry R → List (List ℕ)) (plac
         → size P linesOf placeOf (start rs) (x .turns) ≡ size P linesOf placeOf (start rs) (halts P G U counted rs .0)
     same-size room r x =
         let h = halts P G U counted rs in
-        ap (λ (t : Told R). length (textOf (unitsFor P linesOf (t .shown)))) (same P (x .turns) (h .0) (start rs) (explained-halted P linesOf placeOf (start rs) room r x) (h .1))
+        ap (λ (t : Told R). length (textOf (unitsFor P linesOf (t .shown))))
+        (same P (x .turns) (h .0) (start rs) (explained-halted P linesOf placeOf (start rs) room r x) (h .1))
 
     pub demand : Demand P linesOf placeOf rs (most P G U)
     demand =

@@ -7,7 +7,8 @@ use lib.ListN.{length}
 use native.Mathlib.Nat.{add-zero}
 use native.Mathlib.Omega.{arith}
 use Rattle.basis.specs.Lists.{isNil}
-use Rattle.machine.specs.Machine.{Plan, requirement, candidate, Entry, entry, state, start, level, repeats, skipped, under, report, going, loops, stopOf, says, openings}
+use Rattle.machine.specs.Machine.{Plan, requirement, candidate, Entry, entry, state, start, level, repeats, skipped, under, report, going, loops, stopOf}
+use Rattle.machine.specs.Machine.{says, openings}
 use Rattle.machine.specs.Bound.{most}
 use Rattle.machine.specs.Keeps.{AllFit}
 use Rattle.machine.specs.Halts.{stop-on, stop-loop}
@@ -141,7 +142,8 @@ module _ {R : Type 0} (P : Plan R) where
       turn-shut re sk o = rw (under-shut rs fs n ks o) at (turn-kid re sk)
 
       -- B1: there is a frame left for a package that is opened
-      pub frame-left : (G U : List ℕ) → AllFit P G U rep (stackAt rs (n ∷ ks) fs) → repeats P (branchOf fs) n ≡ false → skipped P rep n ≡ false → P .opens n ≡ true
+      pub frame-left : (G U : List ℕ) → AllFit P G U rep (stackAt rs (n ∷ ks) fs) → repeats P (branchOf fs) n ≡ false → skipped P rep n ≡ false
+          → P .opens n ≡ true
           → length fs < most P G U
       frame-left G U f re sk o =
           let h = open-within P G U n (kidMarks rs ks fs) (branchOf fs) rep (f .0) sk re in

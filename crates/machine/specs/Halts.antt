@@ -6,7 +6,8 @@ use Prim.Native.Nat.{ℕ, zero, suc, _+_, _*_, _-_, _≤_}
 use lib.ListN.{length}
 use native.Mathlib.Omega.{arith}
 use Rattle.basis.specs.Members.{In, All, split}
-use Rattle.machine.specs.Machine.{Plan, Op, requirement, candidate, Entry, entry, state, level, start, repeats, skipped, under, report, Stop, going, done, loops, stopOf, next, tell}
+use Rattle.machine.specs.Machine.{Plan, Op, requirement, candidate, Entry, entry, state, level, start, repeats, skipped, under, report, Stop, going, done}
+use Rattle.machine.specs.Machine.{loops, stopOf, next, tell}
 use Rattle.machine.specs.Bound.{Good, Counted, bound, most}
 use Rattle.machine.specs.Keeps.{Sub, all-level, more, Fits, AllFit, fits-more, fits-start, fits-under, fits-kids, good-open}
 

@@ -62,7 +62,12 @@ module _ {R : Type 0} (P : Plan R) where
     fits-under rep n ms b f sk re =
         split (P .opens n)
         (λ q. rw q (all-level (Fits P G U (report P n rep)) requirement ms (n ∷ b) (P .runs n)
-        (λ r ns i. record { good = good-open rep b n (f .known) sk q re (f .good); count = (f .own, f .count); known = known-open rep b n (f .known); own = tt })))
+        (λ r ns i. record {
+          good = good-open rep b n (f .known) sk q re (f .good);
+          count = (f .own, f .count);
+          known = known-open rep b n (f .known);
+          own = tt;
+        })))
         (λ q. rw q tt)
 
     -- what a requirement pushes, if the plan's kids are counted

@@ -7,7 +7,8 @@ use mathlib.Core.Option.{Option, none, some}
 use Prim.Native.Nat.{ℕ, zero, suc}
 use Rattle.basis.specs.Lists.{isNil, takeWhile}
 use Rattle.basis.specs.Members.{In, All, Any, all-append, any-left, any-right, split, either, clash, has-in}
-use Rattle.machine.specs.Machine.{Plan, Op, requirement, candidate, Entry, entry, State, state, level, start, repeats, skipped, under, Stop, going, done, loops, stopOf, loopOf, next, after, tell}
+use Rattle.machine.specs.Machine.{Plan, Op, requirement, candidate, Entry, entry, State, state, level, start, repeats, skipped, under, Stop, going, done}
+use Rattle.machine.specs.Machine.{loops, stopOf, loopOf, next, after, tell}
 use Rattle.machine.specs.Bound.{segment}
 use Rattle.machine.specs.Keeps.{all-level}
 use Rattle.machine.specs.Halts.{stop-on}

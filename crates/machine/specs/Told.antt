@@ -6,7 +6,8 @@ use Prim.Native.Nat.{ℕ, zero, suc, _+_, _≤_}
 use native.Mathlib.Nat.{zero-add, suc-add}
 use native.Mathlib.Omega.{arith}
 use Rattle.basis.specs.Members.{In, All, all-append, split, clash}
-use Rattle.machine.specs.Machine.{Plan, Op, requirement, candidate, Entry, entry, State, state, level, start, repeats, skipped, under, report, Stop, going, done, loops, stopOf, next, says, after, shows, Told, tell, openings}
+use Rattle.machine.specs.Machine.{Plan, Op, requirement, candidate, Entry, entry, State, state, level, start, repeats, skipped, under, report, Stop}
+use Rattle.machine.specs.Machine.{going, done, loops, stopOf, next, says, after, shows, Told, tell, openings}
 use Rattle.machine.specs.Bound.{Counted, bound, most}
 use Rattle.machine.specs.Keeps.{more, Fits, AllFit, fits-more, fits-start, fits-under, fits-kids, good-open}
 use Rattle.machine.specs.Halts.{Halted, stop-loop}
@@ -21,7 +22,8 @@ module _ {R : Type 0} (P : Plan R) where
   same (suc n) zero s h k = by-stop (stopOf P (s .stack)) (λ q. absurd (rw q at k)) (λ q. rw (q, tell)) (λ j q. rw (q, tell))
   same (suc n) (suc m) s h k =
       by-stop (stopOf P (s .stack))
-      (λ q. rw (q, tell) (ap (λ (t : Told R). record { shown = says P s ++ t .shown; stop = t .stop }) (same n m (next P s) (rw (q, tell) at h) (rw (q, tell) at k))))
+      (λ q. rw (q, tell) (ap (λ (t : Told R). record { shown = says P s ++ t .shown; stop = t .stop })
+      (same n m (next P s) (rw (q, tell) at h) (rw (q, tell) at k))))
       (λ q. rw (q, tell))
       (λ j q. rw (q, tell))
 
@@ -110,7 +112,8 @@ module _ {R : Type 0} (P : Plan R) where
           (λ q. split (skipped P rep n)
           (λ s. rw s (f .1, tt))
           (λ s. rw s (
-            all-append (Fits P G U (report P n rep)) (under P ms b n) es (fits-under P G U rep n ms b (f .0) s q) (fits-more P G U rep (report P n rep) (more P n rep) es (f .1)),
+            all-append (Fits P G U (report P n rep)) (under P ms b n) es (fits-under P G U rep n ms b (f .0) s q)
+                (fits-more P G U rep (report P n rep) (more P n rep) es (f .1)),
             (open-within n ms b rep (f .0) s q, tt),
           )))
 

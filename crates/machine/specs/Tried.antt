@@ -42,7 +42,14 @@ abbrev deck : Plan ℕ
 deck = planOf ([] ∷ (1 ∷ []) ∷ (2 ∷ []) ∷ []) ((1 ∷ []) ∷ (2 ∷ []) ∷ (1 ∷ []) ∷ []) []
 
 deck-loops : try deck 9 100 (0 ∷ [])
-    ≡ some (record { number = 11; place = 1001; bytes = 15; units = 5; depth = 2; text = 100 ∷ 1 ∷ 10 ∷ 1 ∷ 2 ∷ 10 ∷ 101 ∷ 3 ∷ 10 ∷ 2 ∷ 4 ∷ 10 ∷ 102 ∷ 5 ∷ 10 ∷ [] })
+    ≡ some (record {
+      number = 11;
+      place = 1001;
+      bytes = 15;
+      units = 5;
+      depth = 2;
+      text = 100 ∷ 1 ∷ 10 ∷ 1 ∷ 2 ∷ 10 ∷ 101 ∷ 3 ∷ 10 ∷ 2 ∷ 4 ∷ 10 ∷ 102 ∷ 5 ∷ 10 ∷ [];
+    })
 deck-loops = refl
 
 -- the Rust's rules go on where the port stops
@@ -54,7 +61,14 @@ deck-never : Finishes deck (start (0 ∷ [])) → ⊥
 deck-never = loops-never deck 9 (start (0 ∷ [])) (came-start deck (0 ∷ [])) 1 refl
 
 -- the line that opens panel does not fit, and gives no depth
-deck-short : try deck 9 11 (0 ∷ []) ≡ some (record { number = 10; place = 3; bytes = 9; units = 3; depth = 1; text = 100 ∷ 1 ∷ 10 ∷ 1 ∷ 2 ∷ 10 ∷ 101 ∷ 3 ∷ 10 ∷ [] })
+deck-short : try deck 9 11 (0 ∷ []) ≡ some (record {
+  number = 10;
+  place = 3;
+  bytes = 9;
+  units = 3;
+  depth = 1;
+  text = 100 ∷ 1 ∷ 10 ∷ 1 ∷ 2 ∷ 10 ∷ 101 ∷ 3 ∷ 10 ∷ [];
+})
 deck-short = refl
 
 -- P10: the root needs x (1), x needs a merged pair (2 and 3), each of the pair needs x
@@ -77,11 +91,25 @@ pair-eighth : after pair 8 (start (0 ∷ [])) .stack ≡ []
 pair-eighth = refl
 
 -- P11: the root needs x, which has no edges of its own
-leaf-ends : try (planOf [] ((1 ∷ []) ∷ []) []) 9 100 (0 ∷ []) ≡ some (record { number = 0; place = 0; bytes = 6; units = 2; depth = 0; text = 100 ∷ 1 ∷ 10 ∷ 1 ∷ 2 ∷ 10 ∷ [] })
+leaf-ends : try (planOf [] ((1 ∷ []) ∷ []) []) 9 100 (0 ∷ []) ≡ some (record {
+  number = 0;
+  place = 0;
+  bytes = 6;
+  units = 2;
+  depth = 0;
+  text = 100 ∷ 1 ∷ 10 ∷ 1 ∷ 2 ∷ 10 ∷ [];
+})
 leaf-ends = refl
 
 -- 10 between two lines of one entry
-three-lines : try (planOf [] ((9 ∷ []) ∷ []) []) 9 9 (0 ∷ []) ≡ some (record { number = 10; place = 3; bytes = 8; units = 3; depth = 0; text = 100 ∷ 1 ∷ 10 ∷ 9 ∷ 2 ∷ 10 ∷ 3 ∷ 10 ∷ [] })
+three-lines : try (planOf [] ((9 ∷ []) ∷ []) []) 9 9 (0 ∷ []) ≡ some (record {
+  number = 10;
+  place = 3;
+  bytes = 8;
+  units = 3;
+  depth = 0;
+  text = 100 ∷ 1 ∷ 10 ∷ 9 ∷ 2 ∷ 10 ∷ 3 ∷ 10 ∷ [];
+})
 three-lines = refl
 
 -- no turns are left

@@ -33,7 +33,8 @@ module _ {R : Type 0} (P : Plan R) (linesOf : Entry R → List (List ℕ)) where
   units-entry es e = rw (units-append es (e ∷ []), append-nil)
 
   -- the same of the text
-  pub text-next : (es : List (Entry R)) (e : Entry R) (ls : List (List ℕ)) (line : List ℕ) → textOf (soFar es e (ls ++ (line ∷ []))) ≡ textOf (soFar es e ls) ++ line
+  pub text-next : (es : List (Entry R)) (e : Entry R) (ls : List (List ℕ)) (line : List ℕ)
+      → textOf (soFar es e (ls ++ (line ∷ []))) ≡ textOf (soFar es e ls) ++ line
   text-next es e ls line =
       rw (lines-append P e ls (line ∷ []), ← append-assoc, text-append (soFar es e ls) (record { bytes = line; openings = openings P e } ∷ []), append-nil)
 
@@ -48,7 +49,11 @@ module _ {R : Type 0} (P : Plan R) (linesOf : Entry R → List (List ℕ)) where
         → Explained P linesOf placeOf s room (record { number = num; place = place; bytes = at; units = units; depth = depth; text = text })
     stops x num place f q t e h =
         let w = turns-stop P s s′ es x r q in
-        record { turns = w .0; so = rw (w .1) (f (unitsFor P linesOf es) ∙ ap some (tally-whole num place room (unitsFor P linesOf es) at units depth text t e h)) }
+        record {
+          turns = w .0;
+          so = rw (w .1) (f (unitsFor P linesOf es)
+              ∙ ap some (tally-whole num place room (unitsFor P linesOf es) at units depth text t e h));
+        }
 
     -- the stack is empty: 0
     pub end-done : s′ .stack ≡ [] → Tally (unitsFor P linesOf es) at units depth → text ≡ textOf (unitsFor P linesOf es) → at ≤ room
@@ -74,8 +79,16 @@ module _ {R : Type 0} (P : Plan R) (linesOf : Entry R → List (List ℕ)) where
       told-units =
           rw (told .1, units-append (es ++ (e ∷ [])) (told .0 .shown), units-entry es e, is, lines-append P e ls (line ∷ ls′)) (simp append-assoc)
 
-      over : (x : Stop) → Halted x → (vs : List TextUnit) → Tally (soFar es e ls) at units depth → text ≡ textOf (soFar es e ls) → at ≤ room → room < at + length line
-          → finish placeOf room (soFar es e ls ++ (here ∷ vs)) x ≡ some (record { number = 10; place = units; bytes = at; units = units; depth = depth; text = text })
+      over : (x : Stop) → Halted x → (vs : List TextUnit) → Tally (soFar es e ls) at units depth → text ≡ textOf (soFar es e ls) → at ≤ room
+          → room < at + length line
+          → finish placeOf room (soFar es e ls ++ (here ∷ vs)) x ≡ some (record {
+            number = 10;
+            place = units;
+            bytes = at;
+            units = units;
+            depth = depth;
+            text = text;
+          })
       over going h vs t q a b = absurd h
       over done h vs t q a b = ap some (tally-full 0 0 room (soFar es e ls) at units depth text t q a here vs b)
       over (loops p) h vs t q a b = ap some (tally-full 11 (placeOf p) room (soFar es e ls) at units depth text t q a here vs b)

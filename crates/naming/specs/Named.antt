@@ -19,7 +19,7 @@ use Rattle.records.specs.Views.{nameText}
 use Rattle.groups.specs.Groups.{titleOf, leadOf}
 use Rattle.groups.specs.Leads.{titleIn, leadsTo, leads-at, Numbered, leads-named}
 use Rattle.naming.specs.Firsts.{firstLike, firsts-at, firsts-past, first-alike}
-use Rattle.naming.specs.Naming.{nameOf, nameIn, textAt, idsTo}
+use Rattle.naming.specs.Naming.{nameOf, nameOfNode, textAt, idsTo}
 
 -- ---- the table, entry by entry
 
@@ -38,7 +38,7 @@ solvable-below G n s e =
 
 text-is : (T : Tables) (G : Graph) (n s : ℕ) → nodeAt G n ≡ N.Solvable s → textAt T G n ≡ nameOf T s
 unfolding textAt
-text-is T G n s e = ap (λ (x : ConflictNode). nameText T (nameIn T x)) e
+text-is T G n s e = ap (λ (x : ConflictNode). nameText T (nameOfNode T x)) e
 
 -- two solvable nodes have equal numbers exactly where the texts of their names are equal
 pub ids-numbered : (T : Tables) (G : Graph) (k : ℕ) (l : List ℕ) → length (G .nodes) ≤ k → k ≤ length l → Numbered (nameOf T) G (idsTo T G k l)
@@ -47,7 +47,8 @@ ids-numbered T G k l h b = record { alike-named = each }
     at : (n s : ℕ) → nodeAt G n ≡ N.Solvable s → getD (idsTo T G k l) n 0 ≡ firstLike (textAt T G) n
     at n s e = ids-at T G k l b n (omega (arith, solvable-below G n s e))
 
-    each : (m n s t : ℕ) → nodeAt G m ≡ N.Solvable s → nodeAt G n ≡ N.Solvable t → eqb (getD (idsTo T G k l) m 0) (getD (idsTo T G k l) n 0) ≡ eqList (nameOf T s) (nameOf T t)
+    each : (m n s t : ℕ) → nodeAt G m ≡ N.Solvable s → nodeAt G n ≡ N.Solvable t
+        → eqb (getD (idsTo T G k l) m 0) (getD (idsTo T G k l) n 0) ≡ eqList (nameOf T s) (nameOf T t)
     each m n s t p q =
         ap (λ (x : ℕ). eqb x (getD (idsTo T G k l) n 0)) (at m s p)
         ∙ ap (λ (x : ℕ). eqb (firstLike (textAt T G) m) x) (at n t q)
@@ -75,5 +76,6 @@ module _ (T : Tables) (g : List ℕ) (s : Size) (ids i : List ℕ) (S : Stored g
         ∙ leads-at (titleOf (nameOf T) (graphIn g s)) (graphIn g s) (s .nodes) l (omega (arith, S .nodes-most)) n h
 
 -- as the code comes to it
-pub group-via : (T : Tables) (g : List ℕ) (s : Size) (ls ids i leads l : List ℕ) → leads ≡ leadsTo (titleIn ids) (graphIn g s) (s .nodes) l → ids ≡ idsTo T (graphIn g s) (s .nodes) i → Chains g s ls → length i ≡ 128 → leads ≡ leadsTo (titleOf (nameOf T) (graphIn g s)) (graphIn g s) (s .nodes) l
+pub group-via : (T : Tables) (g : List ℕ) (s : Size) (ls ids i leads l : List ℕ) → leads ≡ leadsTo (titleIn ids) (graphIn g s) (s .nodes) l
+    → ids ≡ idsTo T (graphIn g s) (s .nodes) i → Chains g s ls → length i ≡ 128 → leads ≡ leadsTo (titleOf (nameOf T) (graphIn g s)) (graphIn g s) (s .nodes) l
 group-via T g s ls ids i leads l e q c long = named-leads T g s ids i (c .stored) long q leads l e

@@ -16,15 +16,15 @@ abbrev pub nameOf : Tables → ℕ → List ℕ
 nameOf T s = nameText T (solvableName T s)
 
 -- a node's name; for a node that is no solvable 128, which no record has: "name, a own number, text (128)"
-abbrev pub nameIn : Tables → ConflictNode → ℕ
-nameIn T N.Root = 128
-nameIn T (N.Solvable s) = solvableName T s
-nameIn T N.UnresolvedDependency = 128
-nameIn T (N.Excluded r) = 128
+abbrev pub nameOfNode : Tables → ConflictNode → ℕ
+nameOfNode T N.Root = 128
+nameOfNode T (N.Solvable s) = solvableName T s
+nameOfNode T N.UnresolvedDependency = 128
+nameOfNode T (N.Excluded r) = 128
 
 -- the text of a node's name
 unfoldable pub textAt : Tables → Graph → ℕ → List ℕ
-textAt T G n = nameText T (nameIn T (nodeAt G n))
+textAt T G n = nameText T (nameOfNode T (nodeAt G n))
 
 -- the table of the first k nodes' numbers: a node's is the first node whose name has the same text. Entries behind stay.
 unfoldable pub idsTo : Tables → Graph → ℕ → List ℕ → List ℕ

@@ -12,9 +12,13 @@ ghost use Rattle.links.specs.Build.{Chains};
 ghost use Rattle.groups.specs.Groups.{titleOf};
 ghost use Rattle.groups.specs.Leads.{leadsTo};
 ghost use Rattle.naming.specs.Firsts.{firstLike};
-ghost use Rattle.naming.specs.Naming.{nameOf, nameIn, idsTo, packed, keyOf};
+ghost use Rattle.naming.specs.Naming.{nameOf, nameOfNode, idsTo, packed, keyOf};
 ghost use Rattle.naming.specs.Noted.{textIn, Noted, Ready};
+use index::Slots;
+use store::ChainWords;
 use store::ConflictNode;
+use store::GraphWords;
+use store::PerNode;
 use store::Size;
 
 fn pack(a: u8, b: u8, c: u8, d: u8) -> u32
@@ -40,7 +44,7 @@ fn key_of(t: &[u8]) -> u32
     pack(a, b, c, d)
 }
 
-fn key_at(file: &[u8], ix: &[u16; 10432], n: u16) -> u32
+fn key_at(file: &[u8], ix: &Slots, n: u16) -> u32
     requires { ⌜ Loaded (now file) (now ix) ⌝ }
     ensures { λ r. ⌜ r ≡ keyOf (nameText (tablesOf (now (file .entry))) n) ⌝ }
 {
@@ -49,9 +53,9 @@ fn key_at(file: &[u8], ix: &[u16; 10432], n: u16) -> u32
 }
 
 // The name of node n, or 128 if it is no solvable.
-fn name_at(file: &[u8], ix: &[u16; 10432], g: &[u64; 1152], n: usize) -> u16
+fn name_at(file: &[u8], ix: &Slots, g: &GraphWords, n: usize) -> u16
     requires { ⌜ Loaded (now file) (now ix) ⌝ }
-    ensures { λ r. ⌜ r ≡ nameIn (tablesOf (now (file .entry))) (nodeIn (now (g .entry)) n) ⌝ }
+    ensures { λ r. ⌜ r ≡ nameOfNode (tablesOf (now (file .entry))) (nodeIn (now (g .entry)) n) ⌝ }
 {
     let x = store::node_at(g, n);
     match x {
@@ -64,10 +68,10 @@ fn name_at(file: &[u8], ix: &[u16; 10432], g: &[u64; 1152], n: usize) -> u16
 
 fn note_all(
     file: &[u8],
-    ix: &[u16; 10432],
-    g: &[u64; 1152],
+    ix: &Slots,
+    g: &GraphWords,
     s: Size,
-    names: &mut [u16; 128],
+    names: &mut PerNode,
     keys: &mut [u32; 128],
 )
     requires { ⌜ Loaded (now file) (now ix) ⌝ }
@@ -86,7 +90,7 @@ fn note_all(
 }
 
 // Names a and b have the same text.
-fn same_name(file: &[u8], ix: &[u16; 10432], a: u16, b: u16) -> bool
+fn same_name(file: &[u8], ix: &Slots, a: u16, b: u16) -> bool
     requires { ⌜ Loaded (now file) (now ix) ⌝ }
     ensures { λ r. ⌜ r ≡ eqList (nameText (tablesOf (now (file .entry))) a) (nameText (tablesOf (now (file .entry))) b) ⌝ }
 {
@@ -99,18 +103,12 @@ fn same_name(file: &[u8], ix: &[u16; 10432], a: u16, b: u16) -> bool
 }
 
 // The names of nodes m and n have the same text.
-fn alike(
-    file: &[u8],
-    ix: &[u16; 10432],
-    names: &[u16; 128],
-    keys: &[u32; 128],
-    m: usize,
-    n: usize,
-) -> bool
+fn alike(file: &[u8], ix: &Slots, names: &PerNode, keys: &[u32; 128], m: usize, n: usize) -> bool
     requires { ⌜ Loaded (now file) (now ix) ⌝ }
     requires { ⌜ Ready (tablesOf (now file)) (now names) (now keys) n ⌝ }
     requires { ⌜ m < n ⌝ }
-    ensures { λ r. ⌜ r ≡ eqList (textIn (tablesOf (now (file .entry))) (now (names .entry)) m) (textIn (tablesOf (now (file .entry))) (now (names .entry)) n) ⌝ }
+    ensures { λ r. ⌜ r ≡ eqList (textIn (tablesOf (now (file .entry))) (now (names .entry)) m)
+        (textIn (tablesOf (now (file .entry))) (now (names .entry)) n) ⌝ }
 {
     if keys[m] != keys[n] {
         return false;
@@ -121,13 +119,7 @@ fn alike(
 }
 
 // The first node whose name has the text of node n's.
-fn first_named(
-    file: &[u8],
-    ix: &[u16; 10432],
-    names: &[u16; 128],
-    keys: &[u32; 128],
-    n: usize,
-) -> usize
+fn first_named(file: &[u8], ix: &Slots, names: &PerNode, keys: &[u32; 128], n: usize) -> usize
     requires { ⌜ Loaded (now file) (now ix) ⌝ }
     requires { ⌜ Ready (tablesOf (now file)) (now names) (now keys) n ⌝ }
     ensures { λ r. ⌜ (r ≡ firstLike (textIn (tablesOf (now (file .entry))) (now (names .entry))) n) × (r ≤ n) ⌝ }
@@ -145,12 +137,12 @@ fn first_named(
 
 fn number_all(
     file: &[u8],
-    ix: &[u16; 10432],
-    g: &[u64; 1152],
+    ix: &Slots,
+    g: &GraphWords,
     s: Size,
-    names: &[u16; 128],
+    names: &PerNode,
     keys: &[u32; 128],
-    ids: &mut [u16; 128],
+    ids: &mut PerNode,
 )
     requires { ⌜ Loaded (now file) (now ix) ⌝ }
     requires { ⌜ Stored (now g) s ⌝ }
@@ -167,11 +159,11 @@ fn number_all(
 
 fn ids_in(
     file: &[u8],
-    ix: &[u16; 10432],
-    g: &[u64; 1152],
+    ix: &Slots,
+    g: &GraphWords,
     s: Size,
-    ids: &mut [u16; 128],
-    names: &mut [u16; 128],
+    ids: &mut PerNode,
+    names: &mut PerNode,
     keys: &mut [u32; 128],
 )
     requires { ⌜ Loaded (now file) (now ix) ⌝ }
@@ -184,7 +176,7 @@ fn ids_in(
 }
 
 // Each node's number: the first node whose name has the same text. Entries past the last node stay.
-pub fn name_ids(file: &[u8], ix: &[u16; 10432], g: &[u64; 1152], s: Size, ids: &mut [u16; 128])
+pub fn name_ids(file: &[u8], ix: &Slots, g: &GraphWords, s: Size, ids: &mut PerNode)
     requires { ⌜ Loaded (now file) (now ix) ⌝ }
     requires { ⌜ Stored (now g) s ⌝ }
     ensures { λ _. ⌜ now (ids .exit) ≡ idsTo (tablesOf (now (file .entry))) (graphIn (now (g .entry)) s) (s .nodes) (now (ids .entry)) ⌝ }
@@ -196,17 +188,18 @@ pub fn name_ids(file: &[u8], ix: &[u16; 10432], g: &[u64; 1152], s: Size, ids: &
 
 fn group_in(
     file: &[u8],
-    ix: &[u16; 10432],
-    g: &[u64; 1152],
+    ix: &Slots,
+    g: &GraphWords,
     s: Size,
-    ls: &[u16; 3456],
-    leads: &mut [u16; 128],
-    ids: &mut [u16; 128],
+    ls: &ChainWords,
+    leads: &mut PerNode,
+    ids: &mut PerNode,
 )
     requires { ⌜ Loaded (now file) (now ix) ⌝ }
     requires { ⌜ Chains (now g) s (now ls) ⌝ }
     requires { ⌜ (length (now leads) ≡ 128) × (length (now ids) ≡ 128) ⌝ }
-    ensures { λ _. ⌜ now (leads .exit) ≡ leadsTo (titleOf (nameOf (tablesOf (now (file .entry)))) (graphIn (now (g .entry)) s)) (graphIn (now (g .entry)) s) (s .nodes) (now (leads .entry)) ⌝ }
+    ensures { λ _. ⌜ now (leads .exit) ≡ leadsTo (titleOf (nameOf (tablesOf (now (file .entry)))) (graphIn (now (g .entry)) s)) (graphIn (now (g .entry)) s)
+        (s .nodes) (now (leads .entry)) ⌝ }
 {
     name_ids(file, ix, g, s, ids);
     groups::group(g, s, ls, ids, leads);
@@ -215,16 +208,17 @@ fn group_in(
 // Each node's first member, names merged by text, its own number where it is unmerged. Entries past the last node stay.
 pub fn group_named(
     file: &[u8],
-    ix: &[u16; 10432],
-    g: &[u64; 1152],
+    ix: &Slots,
+    g: &GraphWords,
     s: Size,
-    ls: &[u16; 3456],
-    leads: &mut [u16; 128],
+    ls: &ChainWords,
+    leads: &mut PerNode,
 )
     requires { ⌜ Loaded (now file) (now ix) ⌝ }
     requires { ⌜ Chains (now g) s (now ls) ⌝ }
     requires { ⌜ length (now leads) ≡ 128 ⌝ }
-    ensures { λ _. ⌜ now (leads .exit) ≡ leadsTo (titleOf (nameOf (tablesOf (now (file .entry)))) (graphIn (now (g .entry)) s)) (graphIn (now (g .entry)) s) (s .nodes) (now (leads .entry)) ⌝ }
+    ensures { λ _. ⌜ now (leads .exit) ≡ leadsTo (titleOf (nameOf (tablesOf (now (file .entry)))) (graphIn (now (g .entry)) s)) (graphIn (now (g .entry)) s)
+        (s .nodes) (now (leads .entry)) ⌝ }
 {
     let mut ids = [0u16; 128];
     group_in(file, ix, g, s, ls, leads, &mut ids);

@@ -13,7 +13,7 @@ use Rattle.machine.specs.Explained.{Explained}
 use Rattle.plan.specs.Plan.{Shown, popped, isRequiring, planOf, startOf}
 use Rattle.plan.specs.Fields.{runsIn, kidsIn, planIn, startIn, opens-kind}
 use Rattle.plan.specs.Planned.{RunIs, NodeIs, Planned}
-use Rattle.plan.specs.Like.{Alike, Same, same-run, same-kid, explained-same}
+use Rattle.plan.specs.Like.{PlansAlike, SameEntry, same-run, same-kid, explained-same}
 
 all-of : {A : Type 0} (N : A → Type 0) (xs : List A) → ((x : A) → In x xs → N x) → All N xs
 all-of N [] f = tt
@@ -24,7 +24,7 @@ module _ (S : Shown) (p k : List ℕ) (z : Planned S p k) where
   abbrev Node : ℕ → Type 0
   Node n = n < length (S .graph .nodes)
 
-  pub plans-alike : Alike (planIn p k) (planOf S) Node (RunIs S p k)
+  pub plans-alike : PlansAlike (planIn p k) (planOf S) Node (RunIs S p k)
   unfolding planIn
   plans-alike =
       record {

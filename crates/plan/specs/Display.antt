@@ -10,7 +10,7 @@ use Rattle.records.specs.Views.{nameText, solvableName, versionText}
 use Rattle.store.specs.declared.ConflictNode.{ConflictNode}
 use Rattle.store.specs.declared.ConflictNode.the-variants as N
 use Rattle.store.specs.Graph.{nodeAt}
-use Rattle.plan.specs.Plan.{Shown, groupOf, isMerged}
+use Rattle.plan.specs.Plan.{Shown, groupOf, mergedShown}
 
 -- conflict.rs, `solvable`: the number of a node's solvable
 abbrev pub solvableBy : ConflictNode → ℕ
@@ -20,18 +20,18 @@ solvableBy N.UnresolvedDependency = 0
 solvableBy (N.Excluded r) = 0
 
 -- the last of these texts, x where there are none: "then its last"
-abbrev pub lastOf : List ℕ → List (List ℕ) → List ℕ
-lastOf x [] = x
-lastOf x (y ∷ ys) = lastOf y ys
+abbrev pub lastText : List ℕ → List (List ℕ) → List ℕ
+lastText x [] = x
+lastText x (y ∷ ys) = lastText y ys
 
 -- order 6: "A group of more than six shows its first three versions, then ' | ... | ', then its last." These are then joined.
 abbrev pub displayed : List (List ℕ) → List (List ℕ)
-displayed vs = cond (ltb 6 (length vs)) (take 3 vs ++ (utf8 "..." ∷ lastOf [] vs ∷ [])) vs
+displayed vs = cond (ltb 6 (length vs)) (take 3 vs ++ (utf8 "..." ∷ lastText [] vs ∷ [])) vs
 
 -- "versions joined by ' | '"
-abbrev pub joined : List (List ℕ) → List ℕ
-joined [] = []
-joined (v ∷ vs) = v ++ concatMap (λ w. utf8 " | " ++ w) vs
+abbrev pub joinedBy : List (List ℕ) → List ℕ
+joinedBy [] = []
+joinedBy (v ∷ vs) = v ++ concatMap (λ w. utf8 " | " ++ w) vs
 
 module _ (S : Shown) where
   -- of node n (`solvableBy`)
@@ -44,8 +44,8 @@ module _ (S : Shown) where
 
   -- the packages that a line names: a group in node order, or the one (conflict.rs, lines 1070 to 1081)
   abbrev pub membersOf : ℕ → List ℕ
-  membersOf n = cond (isMerged S n) (groupOf S n) (n ∷ [])
+  membersOf n = cond (mergedShown S n) (groupOf S n) (n ∷ [])
 
   -- "Solvable text: name, space, version; a group: name, space, versions joined"
   abbrev pub packageText : ℕ → List ℕ
-  packageText n = nameText (S .tables) (solvableName (S .tables) (solvableOf n)) ++ utf8 " " ++ joined (displayed (map versionOf (membersOf n)))
+  packageText n = nameText (S .tables) (solvableName (S .tables) (solvableOf n)) ++ utf8 " " ++ joinedBy (displayed (map versionOf (membersOf n)))

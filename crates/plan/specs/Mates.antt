@@ -10,14 +10,14 @@ use lib.ListN.{length, getD}
 use lib.Dec.{eqb, ltb}
 use borrow.Author.Tests.{eqb-true, eqb-false, eq-eqb, ne-eqb, lt-ltb}
 use Rattle.basis.specs.Lists.{filter, has, upto}
-use Rattle.basis.specs.Members.{In, Distinct, split, either, in-filter, filter-in, in-has, has-in}
+use Rattle.basis.specs.Members.{In, Distinct, split, either, in-filter, filter-in, in-has, has-in, and-true}
 use Rattle.records.specs.Tables.{Tables}
 use Rattle.records.specs.Views.{nameText, solvableName}
 use Rattle.store.specs.Graph.{Graph, nodeAt, isSolvable}
 use Rattle.groups.specs.Groups.{sort, outKeys, inKeys, mergesBy, titleOf, matesBy, mates}
-use Rattle.groups.specs.Small.{both, eq-refl, keys-refl}
+use Rattle.groups.specs.Small.{eq-refl, keys-refl}
 use Rattle.groups.specs.Counts.{same-mates}
-use Rattle.plan.specs.Plan.{Shown, shownOf, groupOf, isMerged, leadOf}
+use Rattle.plan.specs.Plan.{Shown, shownOf, groupOf, mergedShown, leadShown}
 use Rattle.plan.specs.Display.{membersOf}
 
 -- ---- small laws
@@ -27,21 +27,21 @@ map-upto f zero a i d h = absurd (not-suc-le-zero h)
 map-upto f (suc c) a zero d h = let z : a + 0 ≡ a = omega arith in rw z
 map-upto f (suc c) a (suc i) d h = let z : a + suc i ≡ suc a + i = omega arith in rw z (map-upto f c (suc a) i d (omega arith))
 
-pub in-upto : (c a x : ℕ) → In x (upto c a) → (a ≤ x) × (x < a + c)
-in-upto zero a x i = absurd i
-in-upto (suc c) a x (inl e) = (omega arith, omega arith)
-in-upto (suc c) a x (inr i) = let r = in-upto c (suc a) x i in (omega (arith, r .0), omega (arith, r .1))
+pub upto-in : (c a x : ℕ) → In x (upto c a) → (a ≤ x) × (x < a + c)
+upto-in zero a x i = absurd i
+upto-in (suc c) a x (inl e) = (omega arith, omega arith)
+upto-in (suc c) a x (inr i) = let r = upto-in c (suc a) x i in (omega (arith, r .0), omega (arith, r .1))
 
-pub upto-in : (c a x : ℕ) → a ≤ x → x < a + c → In x (upto c a)
-upto-in zero a x h l = absurd (never l)
+pub in-upto : (c a x : ℕ) → a ≤ x → x < a + c → In x (upto c a)
+in-upto zero a x h l = absurd (never l)
   where
     never : x < a + 0 → ⊥
     never l = omega arith
-upto-in (suc c) a x h l = split (eqb x a) (λ t. inl (eqb-true x a t)) (λ t. inr (upto-in c (suc a) x (omega (arith, eqb-false x a t)) (omega arith)))
+in-upto (suc c) a x h l = split (eqb x a) (λ t. inl (eqb-true x a t)) (λ t. inr (in-upto c (suc a) x (omega (arith, eqb-false x a t)) (omega arith)))
 
 pub upto-distinct : (c a : ℕ) → Distinct (upto c a)
 upto-distinct zero a = tt
-upto-distinct (suc c) a = ((λ i. late (in-upto c (suc a) a i .0)), upto-distinct c (suc a))
+upto-distinct (suc c) a = ((λ i. late (upto-in c (suc a) a i .0)), upto-distinct c (suc a))
   where
     late : suc a ≤ a → ⊥
     late h = omega arith
@@ -109,9 +109,9 @@ module _ (T : Tables) (G : Graph) where
   unfolding mates matesBy mergesBy
   mate m n i =
       let f = in-filter (λ k. mergesBy (titleOf name G) G k n) m (upto (length (G .nodes)) 0) i in
-      let x = both (isSolvable (nodeAt G m)) _ (f .0) in
-      let y = both (isSolvable (nodeAt G n)) _ (x .1) in
-      let l = in-upto (length (G .nodes)) 0 m (f .1) in
+      let x = and-true (isSolvable (nodeAt G m)) _ (f .0) in
+      let y = and-true (isSolvable (nodeAt G n)) _ (x .1) in
+      let l = upto-in (length (G .nodes)) 0 m (f .1) in
       record { node = omega (arith, l .1); left = x .0; right = y .0; same = same-mates (titleOf name G) G m n (f .0) }
 
   self : (n : ℕ) → Node n → isSolvable (nodeAt G n) ≡ true → In n (mates name G n)
@@ -119,7 +119,7 @@ module _ (T : Tables) (G : Graph) where
   self n h s =
       filter-in (λ k. mergesBy (titleOf name G) G k n) n (upto (length (G .nodes)) 0)
       (rw (s, eq-refl (titleOf name G n), keys-refl (sort (inKeys G n)), keys-refl (sort (outKeys G n))))
-      (upto-in (length (G .nodes)) 0 n (omega arith) (omega arith))
+      (in-upto (length (G .nodes)) 0 n (omega arith) (omega arith))
 
   mates-distinct : (n : ℕ) → Distinct (mates name G n)
   unfolding mates matesBy
@@ -133,7 +133,7 @@ module _ (T : Tables) (G : Graph) where
       empty (x ∷ l) f = absurd (f x (inl refl))
 
   abbrev pub lead : ℕ → ℕ
-  lead n = leadOf (shownOf T G) n
+  lead n = leadShown (shownOf T G) n
 
   lead-is : (n : ℕ) → Node n → lead n ≡ getD (mates name G n) 0 n
   lead-is n h = ap (λ (l : List ℕ). getD l 0 n) (group-at n h)
@@ -152,7 +152,8 @@ module _ (T : Tables) (G : Graph) where
   mates-lead m n g h s q =
       lead-is m g ∙ ap (λ (l : List ℕ). getD l 0 m) q ∙ head-any (mates name G n) m n n (self n h s) ∙ sym (lead-is n h)
 
-  lead-mates : (m n : ℕ) → Node m → Node n → isSolvable (nodeAt G n) ≡ true → lead m ≡ lead n → (isSolvable (nodeAt G m) ≡ true) × (mates name G m ≡ mates name G n)
+  lead-mates : (m n : ℕ) → Node m → Node n → isSolvable (nodeAt G n) ≡ true → lead m ≡ lead n → (isSolvable (nodeAt G m) ≡ true)
+      × (mates name G m ≡ mates name G n)
   lead-mates m n g h s q =
       split (isSolvable (nodeAt G m))
       (λ t. (t, sym (mate (lead m) m (lead-mate m g t) .same) ∙ ap (mates name G) q ∙ mate (lead n) n (lead-mate n h s) .same))
@@ -165,7 +166,7 @@ module _ (T : Tables) (G : Graph) where
   unfolding mates matesBy
   mates-alikes n h s =
       filter-agree (λ k. mergesBy (titleOf name G) G k n) (λ m. eqb (lead m) (lead n)) (upto (length (G .nodes)) 0)
-      (λ k i. let r = in-upto (length (G .nodes)) 0 k i in
+      (λ k i. let r = upto-in (length (G .nodes)) 0 k i in
       let g : Node k = omega (arith, r .1) in
       split (eqb (lead k) (lead n))
       (λ t. let x = lead-mates k n g h s (eqb-true (lead k) (lead n) t) in
@@ -177,9 +178,10 @@ module _ (T : Tables) (G : Graph) where
 
   own-alike : (n : ℕ) → Node n → isSolvable (nodeAt G n) ≡ false → alikes n ≡ n ∷ []
   own-alike n h s =
-      filter-one (λ m. eqb (lead m) (lead n)) (upto (length (G .nodes)) 0) n (upto-distinct (length (G .nodes)) 0) (upto-in (length (G .nodes)) 0 n (omega arith) (omega arith))
+      filter-one (λ m. eqb (lead m) (lead n)) (upto (length (G .nodes)) 0) n (upto-distinct (length (G .nodes)) 0)
+      (in-upto (length (G .nodes)) 0 n (omega arith) (omega arith))
       (eq-eqb (lead n) (lead n) refl)
-      (λ m i t. let r = in-upto (length (G .nodes)) 0 m i in
+      (λ m i t. let r = upto-in (length (G .nodes)) 0 m i in
       let g : Node m = omega (arith, r .1) in
       let q : lead m ≡ n = eqb-true (lead m) (lead n) t ∙ lead-own n h s in
       split (isSolvable (nodeAt G m))
@@ -196,12 +198,12 @@ module _ (T : Tables) (G : Graph) where
   pub members-alike : (n : ℕ) → Node n → membersOf (shownOf T G) n ≡ alikes n
   members-alike n h =
       split (isSolvable (nodeAt G n))
-      (λ s. split (isMerged (shownOf T G) n)
+      (λ s. split (mergedShown (shownOf T G) n)
       (λ m. rw m (group-at n h ∙ mates-alikes n h s))
       (λ m. rw m (sym (one-left (mates name G n) n (self n h s) (rw (group-at n h) at m)) ∙ mates-alikes n h s)))
       (λ s. ap (λ (l : List ℕ). cond (ltb 1 (length l)) l (n ∷ [])) (group-at n h ∙ no-mates n s) ∙ sym (own-alike n h s))
 
-  pub merged-alike : (n : ℕ) → Node n → isMerged (shownOf T G) n ≡ ltb 1 (length (alikes n))
+  pub merged-alike : (n : ℕ) → Node n → mergedShown (shownOf T G) n ≡ ltb 1 (length (alikes n))
   merged-alike n h =
       split (isSolvable (nodeAt G n))
       (λ s. ap (λ (l : List ℕ). ltb 1 (length l)) (group-at n h ∙ mates-alikes n h s))
@@ -210,19 +212,25 @@ module _ (T : Tables) (G : Graph) where
   -- ---- what demand 3 asks of groups
 
   -- a group is named after one of its members
-  pub named-lead : (n : ℕ) → Node n → isSolvable (nodeAt G n) ≡ true → isMerged (shownOf T G) n ≡ true
-      → Node (lead n) × (isSolvable (nodeAt G (lead n)) ≡ true) × (isMerged (shownOf T G) (lead n) ≡ true) × (lead (lead n) ≡ lead n)
+  pub named-lead : (n : ℕ) → Node n → isSolvable (nodeAt G n) ≡ true → mergedShown (shownOf T G) n ≡ true
+      → Node (lead n) × (isSolvable (nodeAt G (lead n)) ≡ true) × (mergedShown (shownOf T G) (lead n) ≡ true) × (lead (lead n) ≡ lead n)
   named-lead n h s m =
       let x = mate (lead n) n (lead-mate n h s) in
       (x .node, x .left, rw (group-at (lead n) (x .node), x .same, ← group-at n h) m, mates-lead (lead n) n (x .node) h s (x .same))
 
   -- and has another
-  pub another-mate : (n : ℕ) → Node n → isSolvable (nodeAt G n) ≡ true → isMerged (shownOf T G) n ≡ true
-      → (m : ℕ) × Node m × (isSolvable (nodeAt G m) ≡ true) × (isMerged (shownOf T G) m ≡ true) × (lead m ≡ lead n) × (lead n ≡ m → ⊥)
+  pub another-mate : (n : ℕ) → Node n → isSolvable (nodeAt G n) ≡ true → mergedShown (shownOf T G) n ≡ true
+      → (m : ℕ) × Node m × (isSolvable (nodeAt G m) ≡ true) × (mergedShown (shownOf T G) m ≡ true) × (lead m ≡ lead n) × (lead n ≡ m → ⊥)
   another-mate n h s t =
       let y = two-in (mates name G n) n (rw (group-at n h) at t) (mates-distinct n) in
-      let x = mate (y .0) n (y .1) in
-      (y .0, x .node, x .left, rw (group-at (y .0) (x .node), x .same, ← group-at n h) t, mates-lead (y .0) n (x .node) h s (x .same), λ q. y .2 (sym (lead-is n h) ∙ q))
+      let x = mate (y .0) n (y .1) in (
+        y .0,
+        x .node,
+        x .left,
+        rw (group-at (y .0) (x .node), x .same, ← group-at n h) t,
+        mates-lead (y .0) n (x .node) h s (x .same),
+        λ q. y .2 (sym (lead-is n h) ∙ q),
+      )
 
   -- ---- for telling whether a package's group was shown
 
@@ -230,11 +238,14 @@ module _ (T : Tables) (G : Graph) where
   group-has t n g h s =
       ap (λ (l : List ℕ). has n l) (group-at t g ∙ mates-alikes t g s)
       ∙ split (eqb (lead n) (lead t))
-      (λ u. rw u (in-has n (alikes t) (filter-in (λ m. eqb (lead m) (lead t)) n (upto (length (G .nodes)) 0) u (upto-in (length (G .nodes)) 0 n (omega arith) (omega arith)))))
-      (λ u. rw u (split (has n (alikes t)) (λ v. absurd (false≢true (sym u ∙ in-filter (λ m. eqb (lead m) (lead t)) n (upto (length (G .nodes)) 0) (has-in n (alikes t) v) .0))) (λ v. v)))
+      (λ u. rw u (in-has n (alikes t) (filter-in (λ m. eqb (lead m) (lead t)) n (upto (length (G .nodes)) 0) u
+      (in-upto (length (G .nodes)) 0 n (omega arith) (omega arith)))))
+      (λ u. rw u (split (has n (alikes t)) (λ v. absurd (false≢true (sym u
+      ∙ in-filter (λ m. eqb (lead m) (lead t)) n (upto (length (G .nodes)) 0) (has-in n (alikes t) v) .0))) (λ v. v)))
 
-  pub merged-same : (t n : ℕ) → Node t → Node n → lead n ≡ lead t → isMerged (shownOf T G) n ≡ isMerged (shownOf T G) t
-  merged-same t n g h q = merged-alike n h ∙ ap (λ (l : ℕ). ltb 1 (length (filter (λ m. eqb (lead m) l) (upto (length (G .nodes)) 0)))) q ∙ sym (merged-alike t g)
+  pub merged-same : (t n : ℕ) → Node t → Node n → lead n ≡ lead t → mergedShown (shownOf T G) n ≡ mergedShown (shownOf T G) t
+  merged-same t n g h q =
+      merged-alike n h ∙ ap (λ (l : ℕ). ltb 1 (length (filter (λ m. eqb (lead m) l) (upto (length (G .nodes)) 0)))) q ∙ sym (merged-alike t g)
 
   -- the lead is the first of them
   pub lead-first : (n : ℕ) → Node n → getD (alikes n) 0 n ≡ lead n

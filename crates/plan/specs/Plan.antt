@@ -115,12 +115,12 @@ module _ (S : Shown) where
   groupOf n = getD (S .groups) n []
 
   -- "A group has two or more"
-  abbrev pub isMerged : ℕ → Bool
-  isMerged n = ltb 1 (length (groupOf n))
+  abbrev pub mergedShown : ℕ → Bool
+  mergedShown n = ltb 1 (length (groupOf n))
 
   -- one number a group, its first member's, as `Plan` asks for
-  abbrev pub leadOf : ℕ → ℕ
-  leadOf n = getD (groupOf n) 0 n
+  abbrev pub leadShown : ℕ → ℕ
+  leadShown n = getD (groupOf n) 0 n
 
   -- `installable_nodes` (934)
   abbrev pub isInstallable : ℕ → Bool
@@ -151,7 +151,7 @@ module _ (S : Shown) where
   abbrev pub dedup : List ℕ → List ℕ → List ℕ
   dedup [] seen = []
   dedup (n ∷ ns) seen =
-      elim (has n seen) [ true ↦ dedup ns seen | false ↦ n ∷ dedup ns (cond (isMerged n) (groupOf n ++ seen) seen) ]
+      elim (has n seen) [ true ↦ dedup ns seen | false ↦ n ∷ dedup ns (cond (mergedShown n) (groupOf n ++ seen) seen) ]
 
   -- "Two parallel edges to unresolved in one run take the 'no viable options' wording with no children"
   abbrev pub kidsOf : Run → List ℕ
@@ -164,12 +164,12 @@ module _ (S : Shown) where
   reasonsOf es = concatMap (λ e. reasonsBy (e .weight) (nodeAt (S .graph) (e .target))) es
 
   -- lines 1109 to 1152, in this order: excluded, leaf, forbid, constrains, require
-  abbrev pub kindOf : ℕ → Kind
-  kindOf n = let es = out (S .graph) n in byReasons es (reasonsOf es)
+  abbrev pub lineKind : ℕ → Kind
+  lineKind n = let es = out (S .graph) n in byReasons es (reasonsOf es)
 
   -- what `fmt_graph` asks of a labelled graph, as a `Plan`
   abbrev pub planOf : Plan Run
-  planOf = record { opens = λ n. isRequiring (kindOf n); runs = popped; kids = kidsOf; merged = isMerged; lead = leadOf }
+  planOf = record { opens = λ n. isRequiring (lineKind n); runs = popped; kids = kidsOf; merged = mergedShown; lead = leadShown }
 
   -- lines 893 to 922: "Top-level edges are the root's Requires edges"
   abbrev pub startOf : State Run

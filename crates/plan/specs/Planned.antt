@@ -7,7 +7,7 @@ use lib.ListN.{length}
 use Rattle.basis.specs.Members.{In}
 use Rattle.store.specs.Graph.{Graph, nodeAt, isSolvable}
 use Rattle.labels.specs.Runs.{Run}
-use Rattle.plan.specs.Plan.{Shown, popped, noCandidates, runInstallable, kidsOf, kindOf, isMerged, leadOf}
+use Rattle.plan.specs.Plan.{Shown, popped, noCandidates, runInstallable, kidsOf, lineKind, mergedShown, leadShown}
 use Rattle.plan.specs.Display.{solvableOf, membersOf, packageText}
 use Rattle.plan.specs.Fields.{runsIn, kidsIn, kindIn, mergedIn, leadIn, membersIn, solvableIn, textLength, requirementIn, wordingIn}
 use Rattle.plan.specs.Like.{Each}
@@ -24,9 +24,9 @@ pub record RunIs (S : Shown) (p k : List ℕ) (r : ℕ) (q : Run) : Type 0 where
 
 pub record NodeIs (S : Shown) (p k : List ℕ) (n : ℕ) : Type 0 where
   pub runs : Each (RunIs S p k) (runsIn p n) (popped S n)
-  pub kind : kindIn p k n ≡ kindOf S n
-  pub merged : mergedIn p n ≡ isMerged S n
-  pub lead : leadIn p n ≡ leadOf S n
+  pub kind : kindIn p k n ≡ lineKind S n
+  pub merged : mergedIn p n ≡ mergedShown S n
+  pub lead : leadIn p n ≡ leadShown S n
   pub members : membersIn p n ≡ membersOf S n
   pub solvable : solvableIn p n ≡ solvableOf S n
   pub size : textLength p n ≡ length (packageText S n)

@@ -8,7 +8,7 @@ use Rattle.basis.specs.Lists.{concatMap}
 use Rattle.basis.specs.Quote.{utf8}
 use Rattle.records.specs.Tables.{Tables}
 use Rattle.records.specs.Views.{nameText, solvableName, versionText}
-use Rattle.plan.specs.Display.{displayed, joined}
+use Rattle.plan.specs.Display.{displayed, joinedBy}
 use Rattle.plan.specs.Fields.{solvableIn, membersIn}
 
 -- the version of solvable s behind another
@@ -45,4 +45,4 @@ module _ (T : Tables) (p : List ℕ) where
 
   -- "name, space, version; a group: name, space, versions joined"
   unfoldable pub packageIn : ℕ → List ℕ
-  packageIn n = nameText T (solvableName T (solvableIn p n)) ++ utf8 " " ++ joined (displayed (map versionIn (membersIn p n)))
+  packageIn n = nameText T (solvableName T (solvableIn p n)) ++ utf8 " " ++ joinedBy (displayed (map versionIn (membersIn p n)))

@@ -1,6 +1,7 @@
 // The packed plan as an edition reads it (order 11).
 ghost use mathlib.Core.Path.{_≡_};
 ghost use Rattle.plan.specs.Marking.{marked, markTo, readAs};
+use store::Scratch;
 
 // A head with its bit "merged" set.
 fn mark(w: u64) -> u64
@@ -14,7 +15,7 @@ fn mark(w: u64) -> u64
 }
 
 // Every package is reported.
-fn report_all(p: &mut [u64; 1280])
+fn report_all(p: &mut Scratch)
     ensures { λ _. ⌜ now (p .exit) ≡ markTo 128 (now (p .entry)) ⌝ }
 {
     let mut n: usize = 0;
@@ -26,7 +27,7 @@ fn report_all(p: &mut [u64; 1280])
 }
 
 // "In edition 2 every package, merged or not, is reported when first shown"; else the plan stays as it is.
-pub fn read_as(p: &mut [u64; 1280], every: bool)
+pub fn read_as(p: &mut Scratch, every: bool)
     ensures { λ _. ⌜ now (p .exit) ≡ readAs every (now (p .entry)) ⌝ }
 {
     if every {

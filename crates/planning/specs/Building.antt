@@ -20,10 +20,10 @@ use Rattle.links.specs.Build.{Chains}
 use Rattle.links.specs.Walk.{outLeft, firstOut}
 use Rattle.plan.specs.Like.{Each}
 use Rattle.plan.specs.Fields.{runIn, runFirst, runEnd, runsIn, runsFrom, kidsIn, kidsFrom, kids-none, kidFirst, kidEnd}
-use Rattle.runs.specs.Kids.{markedIn, takes, kidsBy, kidsFor, loneBy}
-use Rattle.runs.specs.Along.{Way, way-start, Only}
-use Rattle.sorting.specs.Written.{RunFor}
-use Rattle.sorting.specs.Passing.{each-runs}
+use Rattle.planning.specs.Kids.{markedIn, takes, kidsBy, kidsFor, loneBy}
+use Rattle.planning.specs.Along.{Way, way-start, Only}
+use Rattle.planning.specs.Written.{RunFor}
+use Rattle.planning.specs.Passing.{each-runs}
 use Rattle.planning.specs.Node.{NodeReady, NodeFor, Touched, NodeDone, popping}
 use Rattle.planning.specs.Stacked.{Stacked, stacked-keep}
 use Rattle.planning.specs.Nodes.{edgesOf, ahead, ahead-most, target-node, Small, small-runs, small-popping, run-under, node-under}
@@ -78,7 +78,8 @@ pub record NodesDone (g ls ms gr : List ℕ) (count : ℕ) (p₀ k₀ p k : List
   pub p-long : length p ≡ 1280
   pub k-long : length k ≡ 1024
 
-each-at : (Is : ℕ → Run → Type 0) (P : Run → Type 0) (c a : ℕ) (qs : List Run) → Each Is (upto c a) qs → All P qs → (r : ℕ) → a ≤ r → r < a + c → (q : Run) × Is r q × P q
+each-at : (Is : ℕ → Run → Type 0) (P : Run → Type 0) (c a : ℕ) (qs : List Run) → Each Is (upto c a) qs → All P qs → (r : ℕ) → a ≤ r → r < a + c → (q : Run)
+    × Is r q × P q
 each-at Is P zero a [] e p r h l = absurd (never h l)
   where
     never : a ≤ r → r < a + 0 → ⊥
@@ -90,7 +91,8 @@ each-at Is P (suc c) a (q ∷ qs) e p r h l =
     (λ t. (q, rw (eqb-true r a t) (e .0), p .0))
     (λ t. each-at Is P c (suc a) qs (e .1) (p .1) r (omega (arith, eqb-false r a t)) (omega arith))
 
-runs-at : (Is : ℕ → Run → Type 0) (P : Run → Type 0) (a b : ℕ) (qs : List Run) → Each Is (runsFrom a b) qs → All P qs → (r : ℕ) → a ≤ r → r < b → (q : Run) × Is r q × P q
+runs-at : (Is : ℕ → Run → Type 0) (P : Run → Type 0) (a b : ℕ) (qs : List Run) → Each Is (runsFrom a b) qs → All P qs → (r : ℕ) → a ≤ r → r < b → (q : Run)
+    × Is r q × P q
 unfolding runsFrom
 runs-at Is P a b qs e p r h l = each-at Is P (b - a) a qs e p r h (omega arith)
 
@@ -150,7 +152,8 @@ module _ (g ls ms gr : List ℕ) (count : ℕ) (p₀ k₀ p k : List ℕ) (n rc 
     build-step u v rd kd d =
         let es : outLeft g n e ≡ edgesOf g ls n = ap (outLeft g n) is in
         let sm : All (Small count) (popping ms (outLeft g n e)) =
-        small-popping count ms (outLeft g n e) (rw (es, ← z .counts) (small-runs (z .size .nodes) (edgesOf g ls n) (target-node g (z .size) ls (z .chains) n inside))) in
+        small-popping count ms (outLeft g n e) (rw (es, ← z .counts) (small-runs (z .size .nodes) (edgesOf g ls n)
+        (target-node g (z .size) ls (z .chains) n inside))) in
         let rl = d .rc-down in
         let kl = d .kc-down in
         record {
@@ -160,7 +163,8 @@ module _ (g ls ms gr : List ℕ) (count : ℕ) (p₀ k₀ p k : List ℕ) (n rc 
           nodes = λ m l. split (eqb m n)
               (λ t. rw (eqb-true m n t, ← es) (d .node))
               (λ t. let o : m < n = omega (arith, eqb-false m n t) in
-              node-under g ms gr (edgesOf g ls m) p k u v n rd rc kd kc m (z .nodes m o) (d .touched) (omega (arith, build-small)) (eqb-false m n t) rl (d .only-k) kl);
+              node-under g ms gr (edgesOf g ls m) p k u v n rd rc kd kc m (z .nodes m o) (d .touched) (omega (arith, build-small)) (eqb-false m n t) rl
+              (d .only-k) kl);
           filled = λ r a b. split (ltb r rc)
               (λ t. let x = runs-at (RunFor g ms gr u v kd) (Small count) rd rc (popping ms (outLeft g n e)) (d .all-runs) sm r a (ltb-true r rc t) in
               record { run = x .0; stands = x .1; small = x .2 })
@@ -168,7 +172,14 @@ module _ (g ls ms gr : List ℕ) (count : ℕ) (p₀ k₀ p k : List ℕ) (n rc 
               let y = z .filled r o b in
               record { run = y .run; stands = run-under g ms gr p k u v n rd rc kd kc r (y .run) (y .stands) (d .touched) o (d .only-k) kl; small = y .small });
           blank = λ r a. d .touched .below r a ∙ z .blank r (omega arith);
-          stack = rw add-one (rc, kc, (rw es at (d .laid)), stacked-keep g ms gr p k u v n rd rc kd kc (d .touched) (d .only-k) kl ls n rc kc (omega arith) (omega (arith, build-small)) (omega arith) (omega arith) (z .stack));
+          stack =
+              rw add-one (
+                rc,
+                kc,
+                (rw es at (d .laid)),
+                stacked-keep g ms gr p k u v n rd rc kd kc (d .touched) (d .only-k) kl ls n rc kc (omega arith)
+                    (omega (arith, build-small)) (omega arith) (omega arith) (z .stack),
+              );
           rest = λ m a b. let o = d .touched .heads m b (λ q. omega arith) in let y = z .rest m (omega arith) b in (o .0 ∙ y .0, o .1 ∙ y .1);
           under = λ i a. d .only-k .below i a ∙ z .under i (omega arith);
           top = omega arith;
@@ -186,7 +197,8 @@ and-left : (a b : Bool) → a && b ≡ true → a ≡ true
 and-left true b e = refl
 and-left false b e = absurd (false≢true e)
 
-kids-from : (g ms gr : List ℕ) (want : Bool) (acc ts : List ℕ) (t : ℕ) → In t (kidsBy g ms gr want acc ts) → In t acc ⊎ (In t ts × (isSolvable (nodeIn g t) ≡ true))
+kids-from : (g ms gr : List ℕ) (want : Bool) (acc ts : List ℕ) (t : ℕ) → In t (kidsBy g ms gr want acc ts) → In t acc
+    ⊎ (In t ts × (isSolvable (nodeIn g t) ≡ true))
 unfolding kidsBy takes
 kids-from g ms gr want acc [] t i = inl i
 kids-from g ms gr want acc (x ∷ ts) t i =
@@ -223,7 +235,8 @@ node-low g ms gr es p k rc kc n z =
       short = z .short;
     }
 
-built-by : (g ls ms gr : List ℕ) (count : ℕ) (p₀ k₀ p k : List ℕ) (n rc kc : ℕ) → Building g ls ms gr count p₀ k₀ p k n rc kc → count ≤ n → Built g ls ms gr count p k
+built-by : (g ls ms gr : List ℕ) (count : ℕ) (p₀ k₀ p k : List ℕ) (n rc kc : ℕ) → Building g ls ms gr count p₀ k₀ p k n rc kc → count ≤ n
+    → Built g ls ms gr count p k
 unfolding runIn
 built-by g ls ms gr count p₀ k₀ p k n rc kc z h =
     record {
@@ -236,7 +249,8 @@ built-by g ls ms gr count p₀ k₀ p k n rc kc z h =
           (λ q. absurd (rw (no-kids p k r (rw q)) at i));
     }
 
-pub build-end : (g ls ms gr : List ℕ) (count : ℕ) (p₀ k₀ p k : List ℕ) (n rc kc : ℕ) → Building g ls ms gr count p₀ k₀ p k n rc kc → count ≤ n → NodesDone g ls ms gr count p₀ k₀ p k
+pub build-end : (g ls ms gr : List ℕ) (count : ℕ) (p₀ k₀ p k : List ℕ) (n rc kc : ℕ) → Building g ls ms gr count p₀ k₀ p k n rc kc → count ≤ n
+    → NodesDone g ls ms gr count p₀ k₀ p k
 build-end g ls ms gr count p₀ k₀ p k n rc kc z h =
     let q : n ≡ count = omega (arith, z .top) in
     record {

@@ -21,16 +21,17 @@ use Rattle.labels.specs.Runs.{Run, runsOf}
 use Rattle.links.specs.Build.{Chains}
 use Rattle.links.specs.Walk.{firstOut, out-all}
 use Rattle.plan.specs.Like.{Each}
-use Rattle.plan.specs.Plan.{Shown, shownOf, isInstallable, isMerged, leadOf, sorted, popped, reasonsBy, reasonsOf, byReasons, kindOf}
+use Rattle.plan.specs.Plan.{Shown, shownOf, isInstallable, mergedShown, leadShown, sorted, popped, reasonsBy, reasonsOf, byReasons, lineKind}
 use Rattle.plan.specs.Display.{solvableBy, solvableOf, membersOf, packageText}
-use Rattle.plan.specs.Mates.{alikes, members-alike, lead-first, upto-in}
+use Rattle.plan.specs.Mates.{alikes, members-alike, lead-first, in-upto}
 use Rattle.plan.specs.Planned.{RunIs, NodeIs, Planned}
-use Rattle.plan.specs.Fields.{headIn, tailIn, runIn, runFirst, runEnd, tagIn, mergedIn, leadIn, mateField, mateIn, solvableIn, setsFirst, setsEnd, reasonIn, textLength, setsIn, kindIn, runsIn, runsFrom, kidsIn, kidFirst, kidEnd, requirementIn, wordingIn, membersIn, matesFrom}
-use Rattle.runs.specs.Kids.{markedIn, leadAt, mergedAt, nextAt}
-use Rattle.sorting.specs.Passed.{passed, both-passes}
-use Rattle.sorting.specs.Written.{RunFor}
-use Rattle.kinds.specs.Marks.{reasonsAt, reasonsIn}
-use Rattle.kinds.specs.Line.{kindFor}
+use Rattle.plan.specs.Fields.{headIn, tailIn, runIn, runFirst, runEnd, tagIn, mergedIn, leadIn, mateField, mateIn, solvableIn, setsFirst, setsEnd, reasonIn}
+use Rattle.plan.specs.Fields.{textLength, setsIn, kindIn, runsIn, runsFrom, kidsIn, kidFirst, kidEnd, requirementIn, wordingIn, membersIn, matesFrom}
+use Rattle.planning.specs.Kids.{markedIn, leadAt, mergedAt, nextAt}
+use Rattle.planning.specs.Passed.{passed, both-passes}
+use Rattle.planning.specs.Written.{RunFor}
+use Rattle.planning.specs.EdgeMarks.{reasonsAt, reasonsIn}
+use Rattle.planning.specs.Line.{kindFor}
 use Rattle.planning.specs.Words.{tail-first, tail-end, tail-reason, tail-length}
 use Rattle.planning.specs.Truth.{Given, kids-is, wording-is, installable-is}
 use Rattle.planning.specs.Node.{NodeFor, popping}
@@ -47,7 +48,8 @@ pub record Sized (T : Tables) (g : List ℕ) (s : Size) (p u : List ℕ) : Type 
 
 -- ---- small laws
 
-each-small : (Is Js : ℕ → Run → Type 0) (m : ℕ) (xs : List ℕ) (qs : List Run) → ((r : ℕ) (q : Run) → Small m q → Is r q → Js r q) → All (Small m) qs → Each Is xs qs → Each Js xs qs
+each-small : (Is Js : ℕ → Run → Type 0) (m : ℕ) (xs : List ℕ) (qs : List Run) → ((r : ℕ) (q : Run) → Small m q → Is r q → Js r q) → All (Small m) qs
+    → Each Is xs qs → Each Js xs qs
 each-small Is Js m [] [] f a e = tt
 each-small Is Js m [] (q ∷ qs) f a e = absurd e
 each-small Is Js m (x ∷ xs) [] f a e = absurd e
@@ -60,13 +62,14 @@ filter-runs p q m (r ∷ rs) a h =
     let e : p r ≡ q r = h r (a .0) in
     split (q r) (λ t. rw ((e ∙ t), t, filter) (ap (λ (l : List Run). r ∷ l) ih)) (λ t. rw ((e ∙ t), t, filter) ih)
 
-reasons-agree : (f h : ℕ → ConflictNode) (es : List Edge) → ((e : Edge) → In e es → f (e .target) ≡ h (e .target)) → concatMap (λ e. reasonsBy (e .weight) (f (e .target))) es ≡ concatMap (λ e. reasonsBy (e .weight) (h (e .target))) es
+reasons-agree : (f h : ℕ → ConflictNode) (es : List Edge) → ((e : Edge) → In e es → f (e .target) ≡ h (e .target))
+    → concatMap (λ e. reasonsBy (e .weight) (f (e .target))) es ≡ concatMap (λ e. reasonsBy (e .weight) (h (e .target))) es
 reasons-agree f h [] q = refl
 reasons-agree f h (e ∷ es) q = rw (q e (inl refl)) (ap (λ (l : List ℕ). reasonsBy (e .weight) (h (e .target)) ++ l) (reasons-agree f h es (λ d i. q d (inr i))))
 
 -- a table with the same heads has the same members
 module _ (T : Tables) (g : List ℕ) (s : Size) (ls ms gr p k u : List ℕ) (z : Given T g s ms gr) (b : Built g ls ms gr (s .nodes) p k)
-    (nexts : (i : ℕ) → i < s .nodes → nextAt gr i ≡ oldest (leadOf (shownOf T (graphIn g s))) (suc i) (s .nodes) (leadOf (shownOf T (graphIn g s)) i))
+    (nexts : (i : ℕ) → i < s .nodes → nextAt gr i ≡ oldest (leadShown (shownOf T (graphIn g s))) (suc i) (s .nodes) (leadShown (shownOf T (graphIn g s)) i))
     (heads : (n : ℕ) → headIn u n ≡ headIn p n) (n : ℕ) (h : n < s .nodes) where
   abbrev M : Shown
   M = shownOf T (graphIn g s)
@@ -81,19 +84,22 @@ module _ (T : Tables) (g : List ℕ) (s : Size) (ls ms gr p k u : List ℕ) (z :
   pub built-members : membersIn u n ≡ membersOf M n
   unfolding membersIn leadIn
   built-members =
-      let a : ups (leadOf M) 0 (s .nodes) (leadOf M n) ≡ alikes T (graphIn g s) n =
-      ups-all (leadOf M) (s .nodes) (leadOf M n) ∙ ap (λ (m : ℕ). filter (λ i. eqb (leadOf M i) (leadOf M n)) (upto m 0)) (sym (nodes-count g s (z .stored))) in
+      let a : ups (leadShown M) 0 (s .nodes) (leadShown M n) ≡ alikes T (graphIn g s) n =
+      ups-all (leadShown M) (s .nodes) (leadShown M n) ∙ ap (λ (m : ℕ). filter (λ i. eqb (leadShown M i) (leadShown M n)) (upto m 0))
+      (sym (nodes-count g s (z .stored))) in
       ap (λ (l : ℕ). matesFrom u (l + 1)) (rw (heads n) (b .nodes n h .lead ∙ z .lead n h))
-      ∙ members-walk u (leadOf M) (s .nodes) (leadOf M n) (z .stored .nodes-most) (λ i l. mate-kept i ∙ b .nodes i l .mate ∙ nexts i l) (leadOf M n) n
+      ∙ members-walk u (leadShown M) (s .nodes) (leadShown M n) (z .stored .nodes-most) (λ i l. mate-kept i ∙ b .nodes i l .mate ∙ nexts i l) (leadShown M n) n
       (ap (λ (l : List ℕ). getD l 0 n) a ∙ lead-first T (graphIn g s) n inside)
-      (λ q. some (alikes T (graphIn g s) n) (filter-in (λ m. eqb (leadOf M m) (leadOf M n)) n (upto (length (graphIn g s .nodes)) 0) (eq-eqb (leadOf M n) (leadOf M n) refl) (upto-in (length (graphIn g s .nodes)) 0 n (omega arith) (omega (arith, inside)))) (sym a ∙ q))
+      (λ q. some (alikes T (graphIn g s) n) (filter-in (λ m. eqb (leadShown M m) (leadShown M n)) n (upto (length (graphIn g s .nodes)) 0)
+      (eq-eqb (leadShown M n) (leadShown M n) refl) (in-upto (length (graphIn g s .nodes)) 0 n (omega arith) (omega (arith, inside)))) (sym a ∙ q))
       ∙ a ∙ sym (members-alike T (graphIn g s) n inside)
     where
       some : (l : List ℕ) → In n l → l ≡ [] → ⊥
       some l i q = rw q at i
 
 module _ (T : Tables) (g : List ℕ) (s : Size) (ls ms gr p k u : List ℕ) (c : Chains g s ls) (z : Given T g s ms gr) (b : Built g ls ms gr (s .nodes) p k)
-    (nexts : (i : ℕ) → i < s .nodes → nextAt gr i ≡ oldest (leadOf (shownOf T (graphIn g s))) (suc i) (s .nodes) (leadOf (shownOf T (graphIn g s)) i)) (y : Sized T g s p u) where
+    (nexts : (i : ℕ) → i < s .nodes → nextAt gr i ≡ oldest (leadShown (shownOf T (graphIn g s))) (suc i) (s .nodes) (leadShown (shownOf T (graphIn g s)) i))
+    (y : Sized T g s p u) where
   abbrev S : Shown
   S = shownOf T (graphIn g s)
 
@@ -119,12 +125,14 @@ module _ (T : Tables) (g : List ℕ) (s : Size) (ls ms gr p k u : List ℕ) (c :
         both-passes (markedIn ms) (runsOf (edgesOf g ls n))
         ∙ ap reverse
         (ap (λ (l : List Run). l ++ filter (λ r. any (markedIn ms) (r .to)) (runsOf (edgesOf g ls n)))
-        (filter-runs (λ r. not (any (markedIn ms) (r .to))) (λ r. not (any (isInstallable S) (r .to))) (s .nodes) (runsOf (edgesOf g ls n)) small (λ r a. ap not (installable-is T g s ms gr z (r .to) a)))
+        (filter-runs (λ r. not (any (markedIn ms) (r .to))) (λ r. not (any (isInstallable S) (r .to))) (s .nodes) (runsOf (edgesOf g ls n)) small (λ r a.
+        ap not (installable-is T g s ms gr z (r .to) a)))
         ∙ ap (λ (l : List Run). filter (λ r. not (any (isInstallable S) (r .to))) (runsOf (edgesOf g ls n)) ++ l)
-        (filter-runs (λ r. any (markedIn ms) (r .to)) (λ r. any (isInstallable S) (r .to)) (s .nodes) (runsOf (edgesOf g ls n)) small (λ r a. installable-is T g s ms gr z (r .to) a)))
+        (filter-runs (λ r. any (markedIn ms) (r .to)) (λ r. any (isInstallable S) (r .to)) (s .nodes) (runsOf (edgesOf g ls n)) small (λ r a.
+        installable-is T g s ms gr z (r .to) a)))
         ∙ ap (λ (es : List Edge). reverse (sorted S (runsOf es))) edges
 
-    kind-is : kindFor g (edgesOf g ls n) ≡ kindOf S n
+    kind-is : kindFor g (edgesOf g ls n) ≡ lineKind S n
     unfolding kindFor reasonsIn reasonsAt shownOf
     kind-is =
         ap (byReasons (edgesOf g ls n))
@@ -143,7 +151,9 @@ module _ (T : Tables) (g : List ℕ) (s : Size) (ls ms gr p k u : List ℕ) (c :
         let d : tailIn u n / 2048 % 2048 ≡ tailIn p n / 2048 % 2048 = tail-end (tailIn u n) (tailIn p n) m t in
         let e : tailIn u n / 4194304 % 65536 ≡ tailIn p n / 4194304 % 65536 = tail-reason (tailIn u n) (tailIn p n) m t in
         record {
-          runs = rw (y .heads n, ← popping-is) (each-small (RunFor g ms gr p k 0) (RunIs S u k) (s .nodes) (runsIn p n) (popping ms (edgesOf g ls n)) run-is (small-popping (s .nodes) ms (edgesOf g ls n) small) (f .runs));
+          runs =
+              rw (y .heads n, ← popping-is) (each-small (RunFor g ms gr p k 0) (RunIs S u k) (s .nodes) (runsIn p n) (popping ms (edgesOf g ls n)) run-is
+              (small-popping (s .nodes) ms (edgesOf g ls n) small) (f .runs));
           kind = rw (y .heads n, a, d, e) (f .kind ∙ kind-is);
           merged = rw (y .heads n) (f .merged ∙ z .merged n h);
           lead = rw (y .heads n) (f .lead ∙ z .lead n h);

@@ -12,9 +12,9 @@ use Rattle.basis.specs.Chains.{oldest, oldest-hit, oldest-miss, oldest-past, up
 use Rattle.records.specs.Tables.{Tables}
 use Rattle.store.specs.declared.Size.{Size}
 use Rattle.store.specs.Table.{graphIn, Stored, nodes-count}
-use Rattle.plan.specs.Plan.{Shown, shownOf, isInstallable, isMerged, leadOf}
+use Rattle.plan.specs.Plan.{Shown, shownOf, isInstallable, mergedShown, leadShown}
 use Rattle.plan.specs.Mates.{alikes, merged-alike, lead-first}
-use Rattle.runs.specs.Kids.{markedIn, nextAt}
+use Rattle.planning.specs.Kids.{markedIn, nextAt}
 use Rattle.planning.specs.Members.{ups-all}
 use Rattle.planning.specs.Grouping.{mergedBy, Grouped, many-members}
 use Rattle.planning.specs.Truth.{Given}
@@ -29,9 +29,9 @@ oldest-agree k h m l f (suc c) e z =
 
 module _ (T : Tables) (g : List ℕ) (s : Size) (ms ld gr : List ℕ) (o : Stored g s)
     (marks : (n : ℕ) → n < s .nodes → markedIn ms n ≡ isInstallable (shownOf T (graphIn g s)) n)
-    (leads : (n : ℕ) → n < s .nodes → getD ld n 0 ≡ leadOf (shownOf T (graphIn g s)) n) (z : Grouped ld gr (s .nodes) 0) where
+    (leads : (n : ℕ) → n < s .nodes → getD ld n 0 ≡ leadShown (shownOf T (graphIn g s)) n) (z : Grouped ld gr (s .nodes) 0) where
   abbrev L : ℕ → ℕ
-  L n = leadOf (shownOf T (graphIn g s)) n
+  L n = leadShown (shownOf T (graphIn g s)) n
 
   next-is : (i : ℕ) → i < s .nodes → oldest (λ j. getD ld j 0) (suc i) (s .nodes) (getD ld i 0) ≡ oldest L (suc i) (s .nodes) (L i)
   next-is i h =
@@ -50,7 +50,8 @@ module _ (T : Tables) (g : List ℕ) (s : Size) (ms ld gr : List ℕ) (o : Store
         merged = λ n h. let b : n < length (graphIn g s .nodes) = rw (nodes-count g s o) h in
             let a : ups L 0 (s .nodes) (L n) ≡ alikes T (graphIn g s) n =
             ups-all L (s .nodes) (L n) ∙ ap (λ (m : ℕ). filter (λ i. eqb (L i) (L n)) (upto m 0)) (sym (nodes-count g s o)) in
-            z .merged n (omega arith) h ∙ ap (λ (l : ℕ). mergedBy l n (oldest (λ j. getD ld j 0) (suc n) (s .nodes) (getD ld n 0))) (leads n h) ∙ ap (mergedBy (L n) n) (next-is n h)
+            z .merged n (omega arith) h ∙ ap (λ (l : ℕ). mergedBy l n (oldest (λ j. getD ld j 0) (suc n) (s .nodes) (getD ld n 0))) (leads n h)
+            ∙ ap (mergedBy (L n) n) (next-is n h)
             ∙ sym (many-members L (s .nodes) n h (ap (λ (l : List ℕ). getD l 0 n) a ∙ lead-first T (graphIn g s) n b))
             ∙ ap (λ (l : List ℕ). ltb 1 (length l)) a ∙ sym (merged-alike T (graphIn g s) n b);
       }

@@ -13,8 +13,8 @@ use borrow.Author.Tests.{eqb-true, eqb-false, eq-eqb, ne-eqb, lt-ltb}
 use Rattle.basis.specs.Members.{In, split, either, clash}
 use Rattle.basis.specs.Chains.{oldest, oldest-hit, oldest-miss, oldest-past, ups, ups-hit, ups-miss, ups-past}
 use Rattle.basis.specs.Walks.{in-ups}
-use Rattle.runs.specs.Kids.{leadAt, mergedAt, nextAt}
-use Rattle.runs.specs.Along.{Only, only-none, only-put, only-then}
+use Rattle.planning.specs.Kids.{leadAt, mergedAt, nextAt}
+use Rattle.planning.specs.Along.{Only, only-none, only-put, only-then}
 
 -- merged: another member follows, or it is not the first
 abbrev pub mergedBy : ℕ → ℕ → ℕ → Bool
@@ -67,7 +67,8 @@ pub record Grouping (ld t gr last : List ℕ) (m n : ℕ) : Type 0 where
   pub gr-long : length gr ≡ 128
   pub last-long : length last ≡ 128
 
-pub group-start : (ld gr last : List ℕ) (m : ℕ) → LeadsOk ld m → length gr ≡ 128 → length last ≡ 128 → ((l : ℕ) → l < 128 → getD last l 0 ≡ 0) → Grouping ld gr gr last m m
+pub group-start : (ld gr last : List ℕ) (m : ℕ) → LeadsOk ld m → length gr ≡ 128 → length last ≡ 128 → ((l : ℕ) → l < 128 → getD last l 0 ≡ 0)
+    → Grouping ld gr gr last m m
 group-start ld gr last m o a b f =
     record {
       given = o;
@@ -112,7 +113,8 @@ module _ (ld t gr last : List ℕ) (m n : ℕ) (z : Grouping ld t gr last m n) (
         let q : x ≡ getD last l 0 = xb ∙ bq in
         let s : suc (n - 1) ≡ n = omega arith in
         let i : n - 1 + 1 ≡ n = omega arith in
-        let xx : x ≡ oldest (λ j. getD ld j 0) (suc (n - 1)) m (getD ld (n - 1) 0) = q ∙ z .lowest l group-lead ∙ ap (λ (a : ℕ). oldest (λ j. getD ld j 0) a m l) (sym s) ∙ ap (oldest (λ j. getD ld j 0) (suc (n - 1)) m) is in
+        let xx : x ≡ oldest (λ j. getD ld j 0) (suc (n - 1)) m (getD ld (n - 1) 0) = q ∙ z .lowest l group-lead
+        ∙ ap (λ (a : ℕ). oldest (λ j. getD ld j 0) a m l) (sym s) ∙ ap (oldest (λ j. getD ld j 0) (suc (n - 1)) m) is in
         let own : getD (set gr (n - 1) w) (n - 1) 0 ≡ w = getD-set-same gr (n - 1) w 0 (omega (arith, z .gr-long, group-index)) in
         record {
           given = z .given;
@@ -125,14 +127,23 @@ module _ (ld t gr last : List ℕ) (m n : ℕ) (z : Grouping ld t gr last m n) (
                     (λ t. rw (eqb-true j (n - 1) t, own) (y .next-is ∙ xx))
                     (λ t. rw (getD-set-other gr (n - 1) j w 0 (eqb-false j (n - 1) t)) (z .done .next j (omega (arith, eqb-false j (n - 1) t)) b));
                 merged = λ j a b. split (eqb j (n - 1))
-                    (λ t. rw (eqb-true j (n - 1) t, own) (y .merged-is ∙ ap (λ (a : ℕ). mergedBy a (n - 1) x) is ∙ ap (mergedBy (getD ld (n - 1) 0) (n - 1)) xx))
+                    (λ t. rw (eqb-true j (n - 1) t, own) (y .merged-is ∙ ap (λ (a : ℕ). mergedBy a (n - 1) x) is
+                    ∙ ap (mergedBy (getD ld (n - 1) 0) (n - 1)) xx))
                     (λ t. rw (getD-set-other gr (n - 1) j w 0 (eqb-false j (n - 1) t)) (z .done .merged j (omega (arith, eqb-false j (n - 1) t)) b));
               };
           only = only-then t gr (set gr (n - 1) w) (n - 1) n m (omega arith) (z .under) (z .only) (rw i at (only-put gr (set gr (n - 1) w) (n - 1) w refl));
           lowest = λ a b. split (eqb (getD ld (n - 1) 0) a)
               (λ t. let e : a ≡ l = sym (is ∙ eqb-true (getD ld (n - 1) 0) a t) in
-              rw (oldest-hit (λ j. getD ld j 0) (n - 1) m a (omega (arith, z .under)) t, e, s) (getD-set-same last l n 0 (omega (arith, z .last-long, group-lead))))
-              (λ t. rw (oldest-miss (λ j. getD ld j 0) (n - 1) m a (omega (arith, z .under)) t, s, getD-set-other last l a n 0 (λ e. eqb-false (getD ld (n - 1) 0) a t (sym is ∙ sym e))) (z .lowest a b));
+              rw (
+                oldest-hit (λ j. getD ld j 0) (n - 1) m a (omega (arith, z .under)) t,
+                e,
+                s,
+              ) (getD-set-same last l n 0 (omega (arith, z .last-long, group-lead))))
+              (λ t. rw (
+                oldest-miss (λ j. getD ld j 0) (n - 1) m a (omega (arith, z .under)) t,
+                s,
+                getD-set-other last l a n 0 (λ e. eqb-false (getD ld (n - 1) 0) a t (sym is ∙ sym e)),
+              ) (z .lowest a b));
           under = omega (arith, z .under);
           gr-long = rw length-set (z .gr-long);
           last-long = rw length-set (z .last-long);
@@ -161,7 +172,8 @@ none-oldest key (suc c) e m l z q =
     (λ t. let y : _≡_ {A = List ℕ} (e ∷ ups key (suc e) m l) [] = sym (ups-hit key e m l (omega arith) t) ∙ q in clash cc)
     (λ t. rw (oldest-miss key e m l (omega arith) t) (none-oldest key c (suc e) m l (omega arith) (sym (ups-miss key e m l (omega arith) t) ∙ q)))
 
-pub many-members : (key : ℕ → ℕ) (m i : ℕ) → i < m → getD (ups key 0 m (key i)) 0 i ≡ key i → ltb 1 (length (ups key 0 m (key i))) ≡ mergedBy (key i) i (oldest key (suc i) m (key i))
+pub many-members : (key : ℕ → ℕ) (m i : ℕ) → i < m → getD (ups key 0 m (key i)) 0 i ≡ key i
+    → ltb 1 (length (ups key 0 m (key i))) ≡ mergedBy (key i) i (oldest key (suc i) m (key i))
 many-members key m i h q =
     let j : In i (ups key 0 m (key i)) = in-ups key i 0 m (key i) (omega arith) h refl in
     let k : In (key i) (ups key 0 m (key i)) = subst (λ (y : ℕ). In y (ups key 0 m (key i))) q (head (ups key 0 m (key i)) j) in
@@ -175,13 +187,15 @@ many-members key m i h q =
     head (x ∷ l) j = inl refl
     head [] j = absurd j
 
-    by : (r : List ℕ) → ups key (suc i) m (key i) ≡ r → ups key 0 m (key i) ≡ key i ∷ ups key (suc i) m (key i) → eqb (key i) i ≡ true → ltb 1 (length (ups key 0 m (key i))) ≡ mergedBy (key i) i (oldest key (suc i) m (key i))
+    by : (r : List ℕ) → ups key (suc i) m (key i) ≡ r → ups key 0 m (key i) ≡ key i ∷ ups key (suc i) m (key i) → eqb (key i) i ≡ true
+        → ltb 1 (length (ups key 0 m (key i))) ≡ mergedBy (key i) i (oldest key (suc i) m (key i))
     by [] e u t = rw (u, e, t, none-oldest key (m - suc i) (suc i) m (key i) refl e)
     by (x ∷ r) e u t =
         let o = some-oldest key (m - suc i) (suc i) m (key i) refl x r e in
         rw (u, e, ne-eqb (oldest key (suc i) m (key i)) 0 (λ y. omega arith)) (lt-ltb 1 (suc (suc (length r))) (omega arith))
 
-    other : (r : List ℕ) → ups key 0 m (key i) ≡ key i ∷ r → In i (key i ∷ r) → eqb (key i) i ≡ false → ltb 1 (length (ups key 0 m (key i))) ≡ mergedBy (key i) i (oldest key (suc i) m (key i))
+    other : (r : List ℕ) → ups key 0 m (key i) ≡ key i ∷ r → In i (key i ∷ r) → eqb (key i) i ≡ false
+        → ltb 1 (length (ups key 0 m (key i))) ≡ mergedBy (key i) i (oldest key (suc i) m (key i))
     other r u (inl e) t = absurd (eqb-false (key i) i t (sym e))
     other [] u (inr j) t = absurd j
     other (x ∷ r) u (inr j) t =

@@ -1,3 +1,10 @@
+pub mod EdgeMarks
+pub mod Sets
+pub mod Line
+pub mod KindsExact
+pub mod Sizes
+pub mod Exact
+pub mod Assembly
 pub mod Truth
 pub mod Words
 pub mod Node
@@ -8,4 +15,13 @@ pub mod Members
 pub mod Final
 pub mod Grouping
 pub mod Giving
-pub mod Exact
+pub mod NodesExact
+pub mod Cut
+pub mod Kids
+pub mod Along
+pub mod RunsExact
+pub mod Passed
+pub mod Written
+pub mod Turned
+pub mod Passing
+pub mod SortExact

@@ -70,7 +70,8 @@ module _ (p : List ℕ) (key : ℕ → ℕ) (m l : ℕ) (few : m ≤ 128) (f : (
       (λ t. let k : key e ≡ l = eqb-true (key e) l t in
       rw (oldest-hit key e m l (omega arith) t, ups-hit key e m l (omega arith) t)
       (mates-more p (suc e) (omega arith) (omega arith)
-      ∙ rw (sub-one (suc e)) (ap (λ (r : List ℕ). e ∷ r) (ap (matesFrom p) (mate-is e (omega arith) ∙ ap (oldest key (suc e) m) k) ∙ walk c (suc e) (omega arith)))))
+      ∙ rw (sub-one (suc e)) (ap (λ (r : List ℕ). e ∷ r) (ap (matesFrom p) (mate-is e (omega arith) ∙ ap (oldest key (suc e) m) k)
+      ∙ walk c (suc e) (omega arith)))))
       (λ t. rw (oldest-miss key e m l (omega arith) t, ups-miss key e m l (omega arith) t) (walk c (suc e) (omega arith)))
 
   -- from the first, whose number is d where there is one

@@ -22,14 +22,15 @@ use Rattle.labels.specs.Runs.{Run, addTo, runsOf}
 use Rattle.links.specs.Build.{Chains}
 use Rattle.links.specs.Walk.{outLeft, firstOut, out-all}
 use Rattle.plan.specs.Like.{Each}
-use Rattle.plan.specs.Fields.{headIn, tailIn, runIn, runFirst, runEnd, tagIn, mergedIn, leadIn, mateField, solvableIn, setsFirst, setsEnd, reasonIn, setsIn, kindIn, runsIn, runsFrom, runs-none, runs-more, kindBy, kidsIn, kidsFrom, kids-none, kidFirst, kidEnd, requirementIn, wordingIn}
-use Rattle.runs.specs.Kids.{markedIn, takes, kidsBy, kidsFor}
-use Rattle.runs.specs.Along.{Way, way-start, Only, kids-keep}
-use Rattle.sorting.specs.Passed.{hits, passed}
-use Rattle.sorting.specs.Written.{RunFor}
-use Rattle.sorting.specs.Passing.{each-runs}
-use Rattle.kinds.specs.Sets.{sets-keep}
-use Rattle.kinds.specs.Line.{kindFor}
+use Rattle.plan.specs.Fields.{headIn, tailIn, runIn, runFirst, runEnd, tagIn, mergedIn, leadIn, mateField, solvableIn, setsFirst, setsEnd, reasonIn, setsIn}
+use Rattle.plan.specs.Fields.{kindIn, runsIn, runsFrom, runs-none, runs-more, kindBy, kidsIn, kidsFrom, kids-none, kidFirst, kidEnd, requirementIn, wordingIn}
+use Rattle.planning.specs.Kids.{markedIn, takes, kidsBy, kidsFor}
+use Rattle.planning.specs.Along.{Way, way-start, Only, kids-keep}
+use Rattle.planning.specs.Passed.{hits, passed}
+use Rattle.planning.specs.Written.{RunFor}
+use Rattle.planning.specs.Passing.{each-runs}
+use Rattle.planning.specs.Sets.{sets-keep}
+use Rattle.planning.specs.Line.{kindFor}
 use Rattle.planning.specs.Node.{NodeReady, NodeFor, Touched, NodeDone, popping}
 
 -- node n's outgoing edges, newest first
@@ -79,7 +80,14 @@ module _ (g : List ℕ) (s : Size) (ls : List ℕ) (c : Chains g s ls) where
 
   pub ahead-most : ahead g ls (s .nodes) 0 ≤ 1024
   ahead-most =
-      omega (arith, ahead-from (s .nodes) 0 (omega arith), from-all (reverse (graphIn g s .edges)), length-reverse (graphIn g s .edges), edges-count g s (c .stored), c .stored .edges-most)
+      omega (
+        arith,
+        ahead-from (s .nodes) 0 (omega arith),
+        from-all (reverse (graphIn g s .edges)),
+        length-reverse (graphIn g s .edges),
+        edges-count g s (c .stored),
+        c .stored .edges-most,
+      )
 
 -- ---- targets are nodes
 
@@ -128,7 +136,8 @@ small-popping m ms es a =
 
 -- ---- what stays while other nodes are written
 
-pub run-under : (g ms gr p k u v : List ℕ) (n rd rc kd kc r : ℕ) (q : Run) → RunFor g ms gr p k kc r q → Touched p u n rd rc → rc ≤ r → Only k v kd kc → kd ≤ kc → RunFor g ms gr u v kd r q
+pub run-under : (g ms gr p k u v : List ℕ) (n rd rc kd kc r : ℕ) (q : Run) → RunFor g ms gr p k kc r q → Touched p u n rd rc → rc ≤ r → Only k v kd kc → kd ≤ kc
+    → RunFor g ms gr u v kd r q
 unfolding kidsIn kidFirst kidEnd requirementIn wordingIn runIn
 run-under g ms gr p k u v n rd rc kd kc r q z o h x y =
     let e = o .above r h in
@@ -140,7 +149,8 @@ run-under g ms gr p k u v n rd rc kd kc r q z o h x y =
       short = rw e (z .short);
     }
 
-pub node-under : (g ms gr : List ℕ) (es : List Edge) (p k u v : List ℕ) (n rd rc kd kc m : ℕ) → NodeFor g ms gr es p k rc kc m → Touched p u n rd rc → m < 128 → (m ≡ n → ⊥) → rd ≤ rc → Only k v kd kc → kd ≤ kc
+pub node-under : (g ms gr : List ℕ) (es : List Edge) (p k u v : List ℕ) (n rd rc kd kc m : ℕ) → NodeFor g ms gr es p k rc kc m → Touched p u n rd rc → m < 128
+    → (m ≡ n → ⊥) → rd ≤ rc → Only k v kd kc → kd ≤ kc
     → NodeFor g ms gr es u v rd kd m
 unfolding headIn tailIn runFirst runEnd tagIn mergedIn leadIn mateField solvableIn setsFirst setsEnd reasonIn runsIn setsIn kindIn
 node-under g ms gr es p k u v n rd rc kd kc m z o h d l x y =

@@ -15,10 +15,10 @@ use Rattle.store.specs.declared.Size.{Size}
 use Rattle.store.specs.Graph.{Graph, nodeAt, isSolvable, isUnresolved}
 use Rattle.store.specs.Table.{graphIn, nodeIn, Stored, node-in, nodes-count}
 use Rattle.labels.specs.Runs.{Run}
-use Rattle.plan.specs.Plan.{Shown, shownOf, isInstallable, isMerged, groupOf, leadOf, runInstallable, noCandidates, offered, dedup, kidsOf}
+use Rattle.plan.specs.Plan.{Shown, shownOf, isInstallable, mergedShown, groupOf, leadShown, runInstallable, noCandidates, offered, dedup, kidsOf}
 use Rattle.plan.specs.Mates.{group-has, merged-same}
 use Rattle.plan.specs.Planned.{wordingOf}
-use Rattle.runs.specs.Kids.{markedIn, leadAt, mergedAt, groupShown, takes, kidsBy, loneBy, kidsFor, wordingFor}
+use Rattle.planning.specs.Kids.{markedIn, leadAt, mergedAt, groupShown, takes, kidsBy, loneBy, kidsFor, wordingFor}
 
 any-agree : (p q : ℕ → Bool) (N : ℕ → Type 0) (l : List ℕ) → All N l → ((x : ℕ) → N x → p x ≡ q x) → any p l ≡ any q l
 any-agree p q N [] a h = refl
@@ -42,7 +42,12 @@ filter-filter : (p q : ℕ → Bool) (l : List ℕ) → filter p (filter q l) �
 filter-filter p q [] = refl
 filter-filter p q (x ∷ l) =
     split (q x)
-    (λ t. split (p x) (λ u. rw (t, filter, u, filter) (ap (λ (m : List ℕ). x ∷ m) (filter-filter p q l))) (λ u. rw (t, filter, u, filter) (filter-filter p q l)))
+    (λ t. split (p x) (λ u. rw (t, filter, u, filter) (ap (λ (m : List ℕ). x ∷ m) (filter-filter p q l))) (λ u. rw (
+      t,
+      filter,
+      u,
+      filter,
+    ) (filter-filter p q l)))
     (λ t. split (p x) (λ u. rw (t, filter, u, filter) (filter-filter p q l)) (λ u. rw (t, filter, u, filter) (filter-filter p q l)))
 
 filter-true : (p : ℕ → Bool) (l : List ℕ) → filter p l ≡ filter (λ x. p x && true) l
@@ -53,8 +58,8 @@ filter-true p (x ∷ l) = split (p x) (λ t. rw (t, filter) (ap (λ (m : List �
 pub record Given (T : Tables) (g : List ℕ) (s : Size) (ms gr : List ℕ) : Type 0 where
   pub stored : Stored g s
   pub marks : (n : ℕ) → n < s .nodes → markedIn ms n ≡ isInstallable (shownOf T (graphIn g s)) n
-  pub lead : (n : ℕ) → n < s .nodes → leadAt gr n ≡ leadOf (shownOf T (graphIn g s)) n
-  pub merged : (n : ℕ) → n < s .nodes → mergedAt gr n ≡ isMerged (shownOf T (graphIn g s)) n
+  pub lead : (n : ℕ) → n < s .nodes → leadAt gr n ≡ leadShown (shownOf T (graphIn g s)) n
+  pub merged : (n : ℕ) → n < s .nodes → mergedAt gr n ≡ mergedShown (shownOf T (graphIn g s)) n
 
 module _ (T : Tables) (g : List ℕ) (s : Size) (ms gr : List ℕ) (z : Given T g s ms gr) where
   abbrev G : Graph
@@ -89,22 +94,23 @@ module _ (T : Tables) (g : List ℕ) (s : Size) (ms gr : List ℕ) (z : Given T 
 
   -- what `merged_and_seen` holds, by the kids so far
   abbrev Seen : List ℕ → List ℕ → Type 0
-  Seen acc seen = (n : ℕ) → Kid n → has n seen ≡ (isMerged S n && any (λ m. eqb (leadOf S m) (leadOf S n)) acc)
+  Seen acc seen = (n : ℕ) → Kid n → has n seen ≡ (mergedShown S n && any (λ m. eqb (leadShown S m) (leadShown S n)) acc)
 
   eqb-turn : (a b : ℕ) → eqb a b ≡ eqb b a
   eqb-turn a b = split (eqb b a) (λ t. rw t (eq-eqb a b (sym (eqb-true b a t)))) (λ t. rw t (ne-eqb a b (λ q. eqb-false b a t (sym q))))
 
-  seen-more : (t : ℕ) (acc seen : List ℕ) → Kid t → Seen acc seen → Seen (t ∷ acc) (cond (isMerged S t) (groupOf S t ++ seen) seen)
+  seen-more : (t : ℕ) (acc seen : List ℕ) → Kid t → Seen acc seen → Seen (t ∷ acc) (cond (mergedShown S t) (groupOf S t ++ seen) seen)
   unfolding shownOf
   seen-more t acc seen k f n h =
-      let gh : has n (groupOf S t) ≡ eqb (leadOf S n) (leadOf S t) = group-has T G t n (in-graph t (k .0)) (in-graph n (h .0)) (k .1) in
-      split (eqb (leadOf S t) (leadOf S n))
-      (λ e. let same : isMerged S n ≡ isMerged S t = merged-same T G t n (in-graph t (k .0)) (in-graph n (h .0)) (sym (eqb-true (leadOf S t) (leadOf S n) e)) in
-      split (isMerged S t)
-      (λ m. rw (m, e, any, (same ∙ m)) (any-append (eqb n) (groupOf S t) seen ∙ rw (gh, eqb-turn (leadOf S n) (leadOf S t), e)))
+      let gh : has n (groupOf S t) ≡ eqb (leadShown S n) (leadShown S t) = group-has T G t n (in-graph t (k .0)) (in-graph n (h .0)) (k .1) in
+      split (eqb (leadShown S t) (leadShown S n))
+      (λ e. let same : mergedShown S n ≡ mergedShown S t = merged-same T G t n (in-graph t (k .0)) (in-graph n (h .0))
+      (sym (eqb-true (leadShown S t) (leadShown S n) e)) in
+      split (mergedShown S t)
+      (λ m. rw (m, e, any, (same ∙ m)) (any-append (eqb n) (groupOf S t) seen ∙ rw (gh, eqb-turn (leadShown S n) (leadShown S t), e)))
       (λ m. rw (m, e, any, (same ∙ m)) (f n h ∙ rw (same ∙ m))))
-      (λ e. split (isMerged S t)
-      (λ m. rw (m, e, any) (any-append (eqb n) (groupOf S t) seen ∙ rw (gh, eqb-turn (leadOf S n) (leadOf S t), e) (f n h)))
+      (λ e. split (mergedShown S t)
+      (λ m. rw (m, e, any) (any-append (eqb n) (groupOf S t) seen ∙ rw (gh, eqb-turn (leadShown S n) (leadShown S t), e) (f n h)))
       (λ m. rw (m, e, any) (f n h)))
 
   module _ (want : Bool) where
@@ -112,26 +118,28 @@ module _ (T : Tables) (g : List ℕ) (s : Size) (ms gr : List ℕ) (z : Given T 
     offers t = solvable t && (not want || isInstallable S t)
 
     takes-is : (acc : List ℕ) (t : ℕ) → Node t → All Kid acc
-        → takes g ms gr want acc t ≡ (solvable t && ((not want || isInstallable S t) && not (isMerged S t && any (λ m. eqb (leadOf S m) (leadOf S t)) acc)))
+        → takes g ms gr want acc t ≡ (solvable t && ((not want || isInstallable S t)
+        && not (mergedShown S t && any (λ m. eqb (leadShown S m) (leadShown S t)) acc)))
     unfolding takes groupShown
     takes-is acc t h a =
         rw (node-in g s (z .stored) t h, z .marks t h, z .merged t h, z .lead t h)
-        (ap (λ (b : Bool). solvable t && ((not want || isInstallable S t) && not (isMerged S t && b)))
-        (any-agree (λ m. eqb (leadAt gr m) (leadOf S t)) (λ m. eqb (leadOf S m) (leadOf S t)) Kid acc a (λ m k. rw (z .lead m (k .0)))))
+        (ap (λ (b : Bool). solvable t && ((not want || isInstallable S t) && not (mergedShown S t && b)))
+        (any-agree (λ m. eqb (leadAt gr m) (leadShown S t)) (λ m. eqb (leadShown S m) (leadShown S t)) Kid acc a (λ m k. rw (z .lead m (k .0)))))
 
-    kids-dedup : (ts acc seen : List ℕ) → All Node ts → All Kid acc → Seen acc seen → kidsBy g ms gr want acc ts ≡ reverseAux (dedup S (filter offers ts) seen) acc
+    kids-dedup : (ts acc seen : List ℕ) → All Node ts → All Kid acc → Seen acc seen
+        → kidsBy g ms gr want acc ts ≡ reverseAux (dedup S (filter offers ts) seen) acc
     unfolding kidsBy
     kids-dedup [] acc seen a k f = refl
     kids-dedup (t ∷ ts) acc seen a k f =
         let e = takes-is acc t (a .0) k in
         split (solvable t)
         (λ v. split (not want || isInstallable S t)
-        (λ w. let c : has t seen ≡ (isMerged S t && any (λ m. eqb (leadOf S m) (leadOf S t)) acc) = f t (a .0, v) in
+        (λ w. let c : has t seen ≡ (mergedShown S t && any (λ m. eqb (leadShown S m) (leadShown S t)) acc) = f t (a .0, v) in
         let d : takes g ms gr want acc t ≡ not (has t seen) = e ∙ rw (v, w, ← c) refl in
         split (has t seen)
         (λ u. rw ((d ∙ ap not u), kidsBy, v, w, filter, u, dedup) (kids-dedup ts acc seen (a .1) k f))
         (λ u. rw ((d ∙ ap not u), kidsBy, v, w, filter, u, dedup)
-        (kids-dedup ts (t ∷ acc) (cond (isMerged S t) (groupOf S t ++ seen) seen) (a .1) ((a .0, v), k) (seen-more t acc seen (a .0, v) f))))
+        (kids-dedup ts (t ∷ acc) (cond (mergedShown S t) (groupOf S t ++ seen) seen) (a .1) ((a .0, v), k) (seen-more t acc seen (a .0, v) f))))
         (λ w. let d : takes g ms gr want acc t ≡ false = e ∙ rw (v, w) refl in rw (d, kidsBy, v, w, filter) (kids-dedup ts acc seen (a .1) k f)))
         (λ v. let d : takes g ms gr want acc t ≡ false = e ∙ rw v refl in rw (d, kidsBy, v, filter) (kids-dedup ts acc seen (a .1) k f))
 
@@ -144,7 +152,7 @@ module _ (T : Tables) (g : List ℕ) (s : Size) (ms gr : List ℕ) (z : Given T 
   kids-is q a =
       rw (lone-is (q .to) a, installable-is (q .to) a)
       (ap (λ (l : List ℕ). cond (noCandidates S q) [] l)
-      (kids-dedup (runInstallable S q) (q .to) [] [] a tt (λ n h. sym (and-no (isMerged S n)))
+      (kids-dedup (runInstallable S q) (q .to) [] [] a tt (λ n h. sym (and-no (mergedShown S n)))
       ∙ ap (λ (l : List ℕ). reverse (dedup S l [])) (sym (offers-filter (runInstallable S q) (q .to)))))
     where
       and-no : (b : Bool) → b && false ≡ false

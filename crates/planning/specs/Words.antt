@@ -32,13 +32,31 @@ record Head (v a b c m l x s : ℕ) : Type 0 where
 
 head : (a b c m l x s : ℕ) → a < 2048 → b < 2048 → c < 8 → m < 2 → l < 128 → x < 256 → s < 65536 → Head (headOf a b c m l x s) a b c m l x s
 head a b c m l x s ha hb hc hm hl hx hs =
-    record { a-is = omega arith; b-is = omega arith; c-is = omega arith; m-is = omega arith; l-is = omega arith; x-is = omega arith; s-is = omega arith; rest-is = omega arith }
+    record {
+      a-is = omega arith;
+      b-is = omega arith;
+      c-is = omega arith;
+      m-is = omega arith;
+      l-is = omega arith;
+      x-is = omega arith;
+      s-is = omega arith;
+      rest-is = omega arith;
+    }
 
 pub head-packed : (a b c m l x s w : ℕ) → m ≡ w / 128 % 2 → l ≡ w % 128 → x ≡ w / 256 → a < 2048 → b < 2048 → c < 8 → w < 65536 → s < 65536
     → HeadWord (a + 2048 * b + 4194304 * c + 33554432 * m + 67108864 * l + 8589934592 * x + 2199023255552 * s) a b c w s
 head-packed a b c m l x s w hm hl hx ha hb hc hw hs =
     let z = head a b c m l x s ha hb hc (omega arith) (omega arith) (omega arith) hs in
-    record { first-is = z .a-is; end-is = z .b-is; kind-is = z .c-is; merged-is = rw (← hm) (z .m-is); lead-is = rw (← hl) (z .l-is); mate-is = rw (← hx) (z .x-is); solvable-is = z .s-is; rest = z .rest-is }
+    record {
+      first-is = z .a-is;
+      end-is = z .b-is;
+      kind-is = z .c-is;
+      merged-is = rw (← hm) (z .m-is);
+      lead-is = rw (← hl) (z .l-is);
+      mate-is = rw (← hx) (z .x-is);
+      solvable-is = z .s-is;
+      rest = z .rest-is;
+    }
 
 pub record TailWord (v first end reason : ℕ) : Type 0 where
   pub first-is : v % 2048 ≡ first

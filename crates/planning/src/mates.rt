@@ -4,6 +4,7 @@ ghost use mathlib.Core.Path.{_≡_};
 ghost use Prim.Native.Nat.{ℕ, _<_, _≤_};
 ghost use lib.ListN.{length, getD};
 ghost use Rattle.planning.specs.Grouping.{GroupWord, LeadsOk, GroupsDone, Grouping};
+use store::PerNode;
 
 fn group_word(l: usize, i: usize, x: usize) -> usize
     requires { ⌜ (l < 128) × (x ≤ 128) ⌝ }
@@ -19,7 +20,7 @@ fn group_word(l: usize, i: usize, x: usize) -> usize
 }
 
 // From the last node down; `last` holds the lowest member so far of each lead.
-fn group_all(leads: &[u16; 128], gr: &mut [u16; 128], last: &mut [u16; 128], count: usize)
+fn group_all(leads: &PerNode, gr: &mut PerNode, last: &mut PerNode, count: usize)
     requires { ⌜ Grouping (now leads) (now gr) (now gr) (now last) count count ⌝ }
     ensures { λ _. ⌜ GroupsDone (now (leads .entry)) (now (gr .entry)) (now (gr .exit)) count ⌝ }
 {
@@ -36,7 +37,7 @@ fn group_all(leads: &[u16; 128], gr: &mut [u16; 128], last: &mut [u16; 128], cou
 }
 
 // Each of the first `count` nodes.
-pub fn group_words(leads: &[u16; 128], gr: &mut [u16; 128], count: usize)
+pub fn group_words(leads: &PerNode, gr: &mut PerNode, count: usize)
     requires { ⌜ LeadsOk (now leads) count ⌝ }
     requires { ⌜ length (now gr) ≡ 128 ⌝ }
     ensures { λ _. ⌜ GroupsDone (now (leads .entry)) (now (gr .entry)) (now (gr .exit)) count ⌝ }

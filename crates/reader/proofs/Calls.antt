@@ -1,4 +1,5 @@
--- The calls that a function with plain parameters makes on a reader: what each is passed, what it asks, and what is known of its result. All that is known of a callee is that it meets its contract.
+-- The calls that a function with plain parameters makes on a reader: what each is passed, what it asks, and what is known of its result. All that is known
+-- of a callee is that it meets its contract.
 -- The token of the file's lifetime goes to each callee and comes back. A reader that a call gave goes on to the next with the machine value that it has.
 -- Assumes nothing.
 use mathlib.Core.Path.{_≡_, refl, ap, _∙_}
@@ -30,7 +31,7 @@ use denote.Triple.Spec.{tripleOf}
 use denote.Triple.Clauses.{ensured, lasts}
 use Rattle.records.specs.Shapes.{recordsOf}
 use Rattle.records.specs.Tables.{at}
-use Rattle.records.specs.Read.{shown}
+use Rattle.records.specs.Read.{recText}
 use Rattle.reader.specs.declared.Reader.{Reader}
 use Rattle.reader.proofs.Reader as T
 use Rattle.reader.proofs.Reader.new as new
@@ -76,10 +77,14 @@ module _ {M : Type 1} (𝓤 : URA M) (H : Heap 𝓤) (A : Atoms 𝓤) (W : Given
   abbrev pub to-new : RefT (List ℕ) → New 𝓤 H A mem run .Ghost
   to-new s = (((κ, tt), (q, tt), tt, (s, tt), (value s ∷ [], tt)), tt)
 
-  pub goes-new : (s : RefT (List ℕ)) → ent 𝓤 (⋆ 𝓤 H A (‵ (Own s) ∷ (‵ (flft κ q) ⊛ ‵ ftrue) ∷ [])) (sep 𝓤 (New 𝓤 H A mem run .pre (to-new s)) (sem 𝓤 H A (Own s)))
+  pub goes-new : (s : RefT (List ℕ)) → ent 𝓤 (⋆ 𝓤 H A (‵ (Own s) ∷ (‵ (flft κ q) ⊛ ‵ ftrue) ∷ []))
+      (sep 𝓤 (New 𝓤 H A mem run .pre (to-new s)) (sem 𝓤 H A (Own s)))
   goes-new s =
-      qed W (‵ (Own s) ∷ (‵ (flft κ q) ⊛ ‵ ftrue) ∷ []) ∵ use1 W (‵ (Own s) ⊛ ‵ (Own s)) (shr-slice-copy 𝓤 H A W (named 0) κ u8 .twice s (value s ∷ [])) $ split ! $ nothing ! $
-      move ! (1 ∷ 0 ∷ []) $ fjoin ! $ move ! (2 ∷ 0 ∷ []) $ use2 W (raw (New 𝓤 H A mem run .pre (to-new s))) (qed W ((‵ (flft κ q) ⊛ ‵ ftrue) ∷ ‵ (owns (ShrSlice (named 0) κ u8 ∷ []) (s, tt) (value s ∷ [], tt)) ∷ []) ∵ join ! $ frame ! $ done !) $ frame ! $ done !
+      qed W (‵ (Own s) ∷ (‵ (flft κ q) ⊛ ‵ ftrue) ∷ []) ∵ use1 W (‵ (Own s) ⊛ ‵ (Own s)) (shr-slice-copy 𝓤 H A W (named 0) κ u8 .twice s (value s ∷ [])) $ split
+      ! $ nothing ! $
+      move ! (1 ∷ 0 ∷ []) $ fjoin ! $ move ! (2 ∷ 0 ∷ []) $ use2 W (raw (New 𝓤 H A mem run .pre (to-new s)))
+      (qed W ((‵ (flft κ q) ⊛ ‵ ftrue) ∷ ‵ (owns (ShrSlice (named 0) κ u8 ∷ []) (s, tt) (value s ∷ [], tt)) ∷ []) ∵ join ! $ frame ! $ done !) $ frame ! $
+      done !
 
   abbrev pub NewSaid : RefT (List ℕ) → Reader → Type 0
   NewSaid s r = (r .file ≡ s) × (r .at ≡ 0)
@@ -91,23 +96,31 @@ module _ {M : Type 1} (𝓤 : URA M) (H : Heap 𝓤) (A : Atoms 𝓤) (W : Given
   abbrev pub to-seek : Reader → Val → ℕ → Seek 𝓤 H A mem run .Ghost
   to-seek r u n = (((κ, tt), (q, tt), tt, (r, (n, tt)), (u ∷ [], (vint w64 n ∷ [], tt))), tt)
 
-  pub goes-seek : (r : Reader) (u : Val) (n : ℕ) → n < 2 ^ 64 → ent 𝓤 (⋆ 𝓤 H A (‵ (B (κ, tt) .own r (u ∷ [])) ∷ (‵ (flft κ q) ⊛ ‵ ftrue) ∷ [])) (Seek 𝓤 H A mem run .pre (to-seek r u n))
+  pub goes-seek : (r : Reader) (u : Val) (n : ℕ) → n < 2 ^ 64 → ent 𝓤 (⋆ 𝓤 H A (‵ (B (κ, tt) .own r (u ∷ [])) ∷ (‵ (flft κ q) ⊛ ‵ ftrue) ∷ []))
+      (Seek 𝓤 H A mem run .pre (to-seek r u n))
   goes-seek r u n ok =
-      qed W (‵ (B (κ, tt) .own r (u ∷ [])) ∷ (‵ (flft κ q) ⊛ ‵ ftrue) ∷ []) ∵ nothing ! $ owned ! usize (Is usize) (uint-makes 𝓤 H A W w64) n _ (refl, ok) $ fjoin ! $
+      qed W (‵ (B (κ, tt) .own r (u ∷ [])) ∷ (‵ (flft κ q) ⊛ ‵ ftrue) ∷ []) ∵ nothing ! $ owned ! usize (Is usize) (uint-makes 𝓤 H A W w64) n _ (
+        refl,
+        ok,
+      ) $ fjoin ! $
       move ! (1 ∷ 0 ∷ []) $ fjoin ! $ move ! (1 ∷ 0 ∷ []) $ join ! $ frame ! $ done !
 
   abbrev pub SeekSaid : Reader → ℕ → Reader → Type 0
   SeekSaid r n r′ = (r′ .file ≡ r .file) × (r′ .at ≡ n)
 
-  pub seek-said : (r : Reader) (n : ℕ) (r′ : Reader) → ent 𝓤 (ensured 𝓤 H A seek.ended (seek.clauses 𝓤 H A mem run) (κ, tt) (r, (n, tt)) tt r′) (fact 𝓤 (SeekSaid r n r′))
+  pub seek-said : (r : Reader) (n : ℕ) (r′ : Reader) → ent 𝓤 (ensured 𝓤 H A seek.ended (seek.clauses 𝓤 H A mem run) (κ, tt) (r, (n, tt)) tt r′)
+      (fact 𝓤 (SeekSaid r n r′))
   seek-said r n r′ = exE 𝓤 _ (λ ws. snd∗ 𝓤 (sem 𝓤 H A (lasts seek.ended (κ, tt) (r, (n, tt)) ws)) (fact 𝓤 (SeekSaid r n r′)))
 
   -- the call of `kind`
   abbrev pub to-kind : Reader → Val → Kind 𝓤 H A mem run .Ghost
   to-kind r u = (((κ, tt), (q, tt), tt, (r, tt), (u ∷ [], tt)), tt)
 
-  pub goes-kind : (r : Reader) (u : Val) → ent 𝓤 (⋆ 𝓤 H A (‵ (B (κ, tt) .own r (u ∷ [])) ∷ (‵ (flft κ q) ⊛ ‵ ftrue) ∷ [])) (Kind 𝓤 H A mem run .pre (to-kind r u))
-  goes-kind r u = qed W (‵ (B (κ, tt) .own r (u ∷ [])) ∷ (‵ (flft κ q) ⊛ ‵ ftrue) ∷ []) ∵ nothing ! $ move ! (1 ∷ 0 ∷ []) $ fjoin ! $ move ! (1 ∷ 0 ∷ []) $ join ! $ frame ! $ done !
+  pub goes-kind : (r : Reader) (u : Val) → ent 𝓤 (⋆ 𝓤 H A (‵ (B (κ, tt) .own r (u ∷ [])) ∷ (‵ (flft κ q) ⊛ ‵ ftrue) ∷ []))
+      (Kind 𝓤 H A mem run .pre (to-kind r u))
+  goes-kind r u =
+      qed W (‵ (B (κ, tt) .own r (u ∷ [])) ∷ (‵ (flft κ q) ⊛ ‵ ftrue) ∷ []) ∵ nothing ! $ move ! (1 ∷ 0 ∷ []) $ fjoin ! $ move ! (1 ∷ 0 ∷ []) $ join ! $ frame !
+      $ done !
 
   abbrev pub KindSaid : Reader → ℕ → Type 0
   KindSaid r k = k ≡ at (recordsOf (now (r .file))) (r .at) .kind
@@ -119,11 +132,14 @@ module _ {M : Type 1} (𝓤 : URA M) (H : Heap 𝓤) (A : Atoms 𝓤) (W : Given
   abbrev pub to-text : Reader → Val → Text 𝓤 H A mem run .Ghost
   to-text r u = (((κ, tt), (q, tt), tt, (r, tt), (u ∷ [], tt)), tt)
 
-  pub goes-text : (r : Reader) (u : Val) → ent 𝓤 (⋆ 𝓤 H A (‵ (B (κ, tt) .own r (u ∷ [])) ∷ (‵ (flft κ q) ⊛ ‵ ftrue) ∷ [])) (Text 𝓤 H A mem run .pre (to-text r u))
-  goes-text r u = qed W (‵ (B (κ, tt) .own r (u ∷ [])) ∷ (‵ (flft κ q) ⊛ ‵ ftrue) ∷ []) ∵ nothing ! $ move ! (1 ∷ 0 ∷ []) $ fjoin ! $ move ! (1 ∷ 0 ∷ []) $ join ! $ frame ! $ done !
+  pub goes-text : (r : Reader) (u : Val) → ent 𝓤 (⋆ 𝓤 H A (‵ (B (κ, tt) .own r (u ∷ [])) ∷ (‵ (flft κ q) ⊛ ‵ ftrue) ∷ []))
+      (Text 𝓤 H A mem run .pre (to-text r u))
+  goes-text r u =
+      qed W (‵ (B (κ, tt) .own r (u ∷ [])) ∷ (‵ (flft κ q) ⊛ ‵ ftrue) ∷ []) ∵ nothing ! $ move ! (1 ∷ 0 ∷ []) $ fjoin ! $ move ! (1 ∷ 0 ∷ []) $ join ! $ frame !
+      $ done !
 
   abbrev pub TextSaid : Reader → RefT (List ℕ) → Type 0
-  TextSaid r t = t .now ≡ shown (at (recordsOf (now (r .file))) (r .at))
+  TextSaid r t = t .now ≡ recText (at (recordsOf (now (r .file))) (r .at))
 
   pub text-said : (r : Reader) (t : RefT (List ℕ)) → ent 𝓤 (ensured 𝓤 H A text.ended (text.clauses 𝓤 H A mem run) (κ, tt) (r, tt) tt t) (fact 𝓤 (TextSaid r t))
   text-said r t = exE 𝓤 _ (λ ws. snd∗ 𝓤 (sem 𝓤 H A (lasts text.ended (κ, tt) (r, tt) ws)) (fact 𝓤 (TextSaid r t)))

@@ -1,11 +1,13 @@
 // The record reader: "a reader holds the file's bytes and its place in them" (document 01, "The record file"). Its place is
 // a record's number. Past the last record it gives what `noRec` holds: kind 0, which no accepted record has, and no text.
+pub mod pieces;
+
 use records::fields::kind_at;
 use records::fields::text_at;
 ghost use mathlib.Core.Path.{_≡_};
 ghost use Rattle.records.specs.Shapes.{recordsOf};
 ghost use Rattle.records.specs.Tables.{at};
-ghost use Rattle.records.specs.Read.{shown};
+ghost use Rattle.records.specs.Read.{recText};
 
 pub struct Reader<'a> {
     pub file: &'a [u8],
@@ -39,7 +41,7 @@ impl<'a> Reader<'a> {
 
     // "The text of a record is handed out as that part of the lent file".
     pub fn text(self) -> &'a [u8]
-        ensures { λ s. ⌜ now s ≡ shown (at (recordsOf (now (self .entry .file))) (self .entry .at)) ⌝ }
+        ensures { λ s. ⌜ now s ≡ recText (at (recordsOf (now (self .entry .file))) (self .entry .at)) ⌝ }
     {
         text_at(self.file, self.at)
     }
@@ -54,7 +56,7 @@ pub fn kind_of(file: &[u8], i: usize) -> u8
 
 // The text of record i.
 pub fn text_of(file: &[u8], i: usize) -> &[u8]
-    ensures { λ s. ⌜ now s ≡ shown (at (recordsOf (now (file .entry))) i) ⌝ }
+    ensures { λ s. ⌜ now s ≡ recText (at (recordsOf (now (file .entry))) i) ⌝ }
 {
     Reader::new(file).seek(i).text()
 }

@@ -12,21 +12,24 @@ use borrow.Author.Tests.{lt-ltb, le-ltb, le-leb, lt-leb, eq-eqb, ne-eqb, ltb-tru
 use Rattle.basis.specs.Lists.{any, snoc}
 use Rattle.basis.specs.Members.{split, All}
 use Rattle.basis.specs.Guard.{guard}
-use Rattle.records.specs.declared.Answer.{Answer}
-use Rattle.records.specs.declared.Answer.the-variants.{Refused}
+use Rattle.records.specs.declared.ReadAnswer.{ReadAnswer}
+use Rattle.records.specs.declared.ReadAnswer.the-variants.{Refused}
 use Rattle.records.specs.declared.Table.{Table}
 use Rattle.records.specs.declared.Table.the-variants.{Names, Solvables, VersionSets, Requirements, Candidates, Reasons, Variables, Assigned, Clauses}
 use Rattle.records.specs.declared.Slot.{Slot}
 use Rattle.records.specs.declared.Slot.the-variants as S
 use Rattle.records.specs.declared.Shape.{Shape}
-use Rattle.records.specs.declared.Step.{Step}
-use Rattle.records.specs.declared.Step.the-variants.{Next, No}
+use Rattle.records.specs.declared.CountStep.{CountStep}
+use Rattle.records.specs.declared.CountStep.the-variants.{Next, No}
 use Rattle.records.specs.Shapes.{Rec, recordsOf, limit, shapeOf, kinds, rowAt}
 use Rattle.records.specs.Tables.{Tables, noTables, tableOf, put, countsOf, noRec, at}
-use Rattle.records.specs.Read.{readFrom, readOf, answerOf, firstGood, fieldGood, shapeGood, numberGood, numbersGood, originGood, originsGood, allows, refusalIn}
+use Rattle.records.specs.Read.{readFrom, readOf, answerOf, firstGood, fieldGood, shapeGood, numberGood, numbersGood, originGood, originsGood, allows}
+use Rattle.records.specs.Read.{refusalIn}
 use Rattle.records.specs.Steps.{both-left, both-right, Passed, passed, read-unknown, read-next, read-stop}
 use Rattle.records.specs.Text.{guard-and, firstPass, first-is-good}
-use Rattle.records.specs.Pass.{foundAt, foundOf, countPass, limitPass, withPass, isNext, isBefore, hasRoom, moreOf, fieldPass, shapePass, namedPass, freePass, numberPass, numbersPass, allowsPass, markOrigin, originPass, originsPass, admitPass, checkAt, checkPass, noted, turnPass, marksPass, passFrom, noCounts}
+use Rattle.records.specs.Pass.{foundAt, foundOf, countPass, limitPass, withPass, isNext, isBefore, hasRoom, moreOf, fieldPass, shapePass, namedPass}
+use Rattle.records.specs.Pass.{freePass, numberPass, numbersPass, allowsPass, markOrigin, originPass, originsPass, admitPass, checkAt, checkPass, noted}
+use Rattle.records.specs.Pass.{turnPass, marksPass, passFrom, noCounts}
 
 -- ---- counts
 
@@ -161,11 +164,11 @@ module _ (T : Tables) (m : List ℕ) (h : Marked T m) where
 
 -- ---- one record
 
-abbrev pub stepOf : ℕ → Table → Step
+abbrev pub stepOf : ℕ → Table → CountStep
 stepOf zero t = Next t
 stepOf (suc n) t = No (suc n)
 
-guard-step : (b d : Bool) (k n : ℕ) (t : Table) (x : Step) → b ≡ d → stepOf k t ≡ No k → x ≡ stepOf n t → guard b (No k) x ≡ stepOf (cond d n k) t
+guard-step : (b d : Bool) (k n : ℕ) (t : Table) (x : CountStep) → b ≡ d → stepOf k t ≡ No k → x ≡ stepOf n t → guard b (No k) x ≡ stepOf (cond d n k) t
 unfolding guard
 guard-step b true k n t x e f q = rw e q
 guard-step b false k n t x e f q = rw e (sym f)
@@ -272,16 +275,19 @@ module _ (T : Tables) (m : List ℕ) (h : Marked T m) (r : Rec) where
       now-taken : (v : ℕ) → taken (put Assigned r T) v ≡ (taken T v || eqb (r .a) v)
       now-taken v = any-snoc (λ g. eqb (g .a) v) (T .assigned) r
 
-      mark-new : (v : ℕ) → eqb (r .a) v ≡ true → getD (set m (r .a) (markOrigin m (r .a) + 8)) v 0 ≡ at (T .variables) v .b + cond (taken (put Assigned r T) v) 8 0
+      mark-new : (v : ℕ) → eqb (r .a) v ≡ true → getD (set m (r .a) (markOrigin m (r .a) + 8)) v 0 ≡ at (T .variables) v .b
+          + cond (taken (put Assigned r T) v) 8 0
       mark-new v q =
           let z : r .a ≡ v = eqb-true _ _ q in
           let s : length m ≡ 1024 = h .size in
           let f : length (T .variables) ≤ 1024 = h .few in
-          let w : getD (set m (r .a) (markOrigin m (r .a) + 8)) (r .a) 0 ≡ markOrigin m (r .a) + 8 = getD-set-same m (r .a) (markOrigin m (r .a) + 8) 0 (omega arith) in
+          let w : getD (set m (r .a) (markOrigin m (r .a) + 8)) (r .a) 0 ≡ markOrigin m (r .a) + 8 =
+          getD-set-same m (r .a) (markOrigin m (r .a) + 8) 0 (omega arith) in
           let t : taken (put Assigned r T) v ≡ true = now-taken v ∙ (ap (λ (b : Bool). taken T v || b) q ∙ or-true (taken T v)) in
           rw (t, ← z) (w ∙ ap (λ (o : ℕ). o + 8) (origin-is T m h (r .a)))
 
-      mark-old : (v : ℕ) → eqb (r .a) v ≡ false → getD (set m (r .a) (markOrigin m (r .a) + 8)) v 0 ≡ at (T .variables) v .b + cond (taken (put Assigned r T) v) 8 0
+      mark-old : (v : ℕ) → eqb (r .a) v ≡ false → getD (set m (r .a) (markOrigin m (r .a) + 8)) v 0 ≡ at (T .variables) v .b
+          + cond (taken (put Assigned r T) v) 8 0
       mark-old v q =
           let t : taken (put Assigned r T) v ≡ taken T v = now-taken v ∙ (ap (λ (b : Bool). taken T v || b) q ∙ or-false (taken T v)) in
           rw t (getD-set-other m (r .a) v (markOrigin m (r .a) + 8) 0 (λ z. eqb-false _ _ q (sym z)) ∙ h .mark v)
@@ -293,7 +299,8 @@ module _ (T : Tables) (m : List ℕ) (h : Marked T m) (r : Rec) where
 
 -- a record that is not refused leaves the marks of the tables with it
 module _ (T : Tables) (m : List ℕ) (h : Marked T m) (r : Rec) (a b : Slot) where
-  noted-marked : (t : Table) → Fit t a b → ltb (length (tableOf t T)) (limit t) ≡ true → fieldGood b r (r .b) ≡ true → numberGood T t a r (r .a) ≡ true → Marked (put t r T) (noted t r m)
+  noted-marked : (t : Table) → Fit t a b → ltb (length (tableOf t T)) (limit t) ≡ true → fieldGood b r (r .b) ≡ true → numberGood T t a r (r .a) ≡ true
+      → Marked (put t r T) (noted t r m)
   unfolding noted
   noted-marked Names w l f n = record { mark = h .mark; low = h .low; past = h .past; few = h .few; size = h .size }
   noted-marked Solvables w l f n = record { mark = h .mark; low = h .low; past = h .past; few = h .few; size = h .size }
@@ -370,6 +377,8 @@ module _ (file : List ℕ) where
   unfolding readOf
   read-odd h = rw (ne-eqb (length file % 32) 0 h)
 
-  pub read-run : (x : Answer) → length file ≤ 65536 → length file % 32 ≡ 0 → x ≡ passFrom (recordsOf file) 0 noCounts (replicate 1024 0) → x ≡ answerOf (readOf file)
+  pub read-run : (x : ReadAnswer) → length file ≤ 65536 → length file % 32 ≡ 0 → x ≡ passFrom (recordsOf file) 0 noCounts (replicate 1024 0)
+      → x ≡ answerOf (readOf file)
   unfolding readOf
-  read-run x h l q = rw (le-leb (length file) 65536 h, eq-eqb (length file % 32) 0 l) (q ∙ pass-is-read (recordsOf file) 0 noTables (replicate 1024 0) none-marked)
+  read-run x h l q =
+      rw (le-leb (length file) 65536 h, eq-eqb (length file % 32) 0 l) (q ∙ pass-is-read (recordsOf file) 0 noTables (replicate 1024 0) none-marked)

@@ -7,8 +7,8 @@ use Prim.Native.Nat.{ℕ, _-_, _/_, _%_}
 use lib.ListN.{length, replicate}
 use Rattle.basis.specs.Lists.{concatMap, upto}
 use Rattle.basis.specs.Members.{All}
-use Rattle.records.specs.declared.Answer.{Answer}
-use Rattle.records.specs.declared.Answer.the-variants.{Accepted, Refused}
+use Rattle.records.specs.declared.ReadAnswer.{ReadAnswer}
+use Rattle.records.specs.declared.ReadAnswer.the-variants.{Accepted, Refused}
 use Rattle.records.specs.declared.Counts.{Counts}
 use Rattle.records.specs.Shapes.{Rec, recOf, cut, shapeOf}
 use Rattle.records.specs.Tables.{Tables, noRec}
@@ -47,9 +47,9 @@ with789 v g c = record { names = 0; solvables = 0; sets = 0; requirements = 0; c
 
 pub record Case : Type 0 where
   pub file : List ℕ
-  pub answer : Answer
+  pub answer : ReadAnswer
 
-abbrev case : List ℕ → Answer → Case
+abbrev case : List ℕ → ReadAnswer → Case
 case f a = record { file = f; answer = a }
 
 abbrev pub cases : List Case
@@ -98,7 +98,67 @@ cases =
 
 pub right : All (λ c. answerOf (readOf (c .file)) ≡ c .answer) cases
 unfolding readOf readFrom shapeOf cut
-right = (refl, (refl, (refl, (refl, (refl, (refl, (refl, (refl, (refl, (refl, (refl, (refl, (refl, (refl, (refl, (refl, (refl, (refl, (refl, (refl, (refl, (refl, (refl, (refl, (refl, (refl, (refl, (refl, (refl, (refl, (refl, (refl, tt))))))))))))))))))))))))))))))))
+right = (
+  refl,
+  (
+    refl,
+    (
+      refl,
+      (
+        refl,
+        (
+          refl,
+          (
+            refl,
+            (
+              refl,
+              (
+                refl,
+                (
+                  refl,
+                  (
+                    refl,
+                    (
+                      refl,
+                      (
+                        refl,
+                        (
+                          refl,
+                          (
+                            refl,
+                            (
+                              refl,
+                              (
+                                refl,
+                                (
+                                  refl,
+                                  (
+                                    refl,
+                                    (
+                                      refl,
+                                      (
+                                        refl,
+                                        (refl, (refl, (refl, (refl, (refl, (refl, (refl, (refl, (refl, (refl, (refl, (refl, tt)))))))))))),
+                                      ),
+                                    ),
+                                  ),
+                                ),
+                              ),
+                            ),
+                          ),
+                        ),
+                      ),
+                    ),
+                  ),
+                ),
+              ),
+            ),
+          ),
+        ),
+      ),
+    ),
+  ),
+)
 
 -- ---- the order 2, 3, 6, 4, 5 within one record: Excluded(variable 0, reason 0), its faults mended one by one
 

@@ -12,7 +12,7 @@ use borrow.Author.Tests.{lt-ltb, le-ltb, ltb-true, ltb-false}
 use Rattle.basis.specs.Members.{split}
 use Rattle.records.specs.Shapes.{Rec, cut, recOf, recordsOf, le16}
 use Rattle.records.specs.Tables.{noRec, at}
-use Rattle.records.specs.Read.{shown}
+use Rattle.records.specs.Read.{recText}
 
 pub length-cut : (n : ℕ) (s : List ℕ) → length (cut n s) ≡ n
 unfolding cut
@@ -52,7 +52,8 @@ module _ (file : List ℕ) (i : ℕ) where
   byte-of k h l = sym (byte-in k (getD (take 32 (drop (32 * i) file)) k 0) h (getD-take 32 (drop (32 * i) file) k 0 l ∙ getD-drop (32 * i) file k 0))
 
   -- a value that the record has by its 32 bytes, and `noRec` as it is read past the end
-  either : (f : Rec → ℕ) (x : ℕ) → (i < length file / 32 → x ≡ f (recOf (take 32 (drop (32 * i) file)))) → (length file / 32 ≤ i → x ≡ f noRec) → x ≡ f (at (recordsOf file) i)
+  either : (f : Rec → ℕ) (x : ℕ) → (i < length file / 32 → x ≡ f (recOf (take 32 (drop (32 * i) file)))) → (length file / 32 ≤ i → x ≡ f noRec)
+      → x ≡ f (at (recordsOf file) i)
   either f x inside past =
       split (ltb i (length file / 32))
       (λ q. let h : i < length file / 32 = ltb-true _ _ q in inside h ∙ ap f (sym (cut-at (length file / 32) file i h)))
@@ -97,10 +98,10 @@ module _ (file : List ℕ) (i b n : ℕ) (h : i < length file / 32) (is : b ≡ 
   rec-is : at (recordsOf file) i ≡ recOf (take 32 (drop (32 * i) file))
   rec-is = cut-at (length file / 32) file i h
 
-  pub text-short : n ≤ 24 → take (32 * i + 8 + n - (32 * i + 8)) (drop (32 * i + 8) file) ≡ shown (at (recordsOf file) i)
+  pub text-short : n ≤ 24 → take (32 * i + 8 + n - (32 * i + 8)) (drop (32 * i + 8) file) ≡ recText (at (recordsOf file) i)
   text-short l = rw (add-sub-cancel-left, ← text-bytes file i n l, w, is, rec-is)
 
-  pub text-long : 24 < n → take (32 * i + 32 - (32 * i + 8)) (drop (32 * i + 8) file) ≡ shown (at (recordsOf file) i)
+  pub text-long : 24 < n → take (32 * i + 32 - (32 * i + 8)) (drop (32 * i + 8) file) ≡ recText (at (recordsOf file) i)
   text-long l =
       let m : 32 * i + 32 - (32 * i + 8) ≡ 24 = omega arith in
       let r : length (recOf (take 32 (drop (32 * i) file)) .text) ≤ 24 = simp length-take (omega arith) in
@@ -108,11 +109,12 @@ module _ (file : List ℕ) (i b n : ℕ) (h : i < length file / 32) (is : b ≡ 
       let v : take 24 (recOf (take 32 (drop (32 * i) file)) .text) ≡ recOf (take 32 (drop (32 * i) file)) .text = take-all 24 _ r in
       rw (m, ← text-bytes file i 24 (omega arith), v, ← g, w, is, rec-is)
 
-pub text-none : (file : List ℕ) (i : ℕ) → length file / 32 ≤ i → take (0 - 0) (drop 0 file) ≡ shown (at (recordsOf file) i)
+pub text-none : (file : List ℕ) (i : ℕ) → length file / 32 ≤ i → take (0 - 0) (drop 0 file) ≡ recText (at (recordsOf file) i)
 text-none file i h = rw (cut-past (length file / 32) file i h)
 
 -- the text's bytes from byte n on, unused ones and all
-pub text-rest : (file : List ℕ) (i b n : ℕ) → i < length file / 32 → n ≡ b → b ≤ 24 → take (32 * i + 32 - (32 * i + 8 + n)) (drop (32 * i + 8 + n) file) ≡ drop b (at (recordsOf file) i .text)
+pub text-rest : (file : List ℕ) (i b n : ℕ) → i < length file / 32 → n ≡ b → b ≤ 24
+    → take (32 * i + 32 - (32 * i + 8 + n)) (drop (32 * i + 8 + n) file) ≡ drop b (at (recordsOf file) i .text)
 text-rest file i b n h w l =
     let m : 32 * i + 32 - (32 * i + 8 + b) ≡ 24 - b = omega arith in
     let p : b + (24 - b) ≡ 24 = omega arith in
@@ -121,7 +123,8 @@ text-rest file i b n h w l =
     ap (λ (k : ℕ). drop b (take k (drop 8 (drop (32 * i) file)))) (sym p) ∙ drop-take b (24 - b) (drop 8 (drop (32 * i) file)) in
     rw (w, m, rec-is file i (at (recordsOf file) i .first) (at (recordsOf file) i .first) h refl refl)
     (sym (ap (λ (t : List ℕ). drop b (take 24 t)) (drop-take 8 24 (drop (32 * i) file))
-    ∙ (ap (drop b) (take-take 24 24 (drop 8 (drop (32 * i) file)) (omega arith)) ∙ (d ∙ ap (take (24 - b)) (drop-drop b 8 (drop (32 * i) file) ∙ (drop-drop (8 + b) (32 * i) file ∙ ap (λ (k : ℕ). drop k file) q))))))
+    ∙ (ap (drop b) (take-take 24 24 (drop 8 (drop (32 * i) file)) (omega arith))
+    ∙ (d ∙ ap (take (24 - b)) (drop-drop b 8 (drop (32 * i) file) ∙ (drop-drop (8 + b) (32 * i) file ∙ ap (λ (k : ℕ). drop k file) q))))))
 
 pub rest-none : (file : List ℕ) (i b : ℕ) → length file / 32 ≤ i → take (0 - 0) (drop 0 file) ≡ drop b (at (recordsOf file) i .text)
 rest-none file i b h = rw (cut-past (length file / 32) file i h) (sym (drop-nil b))

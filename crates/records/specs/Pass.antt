@@ -13,8 +13,8 @@ use lib.Dec.{ltb, eqb}
 use borrow.Author.Tests.{eq-eqb, ne-eqb, le-leb, lt-leb}
 use Rattle.basis.specs.Guard.{guard}
 use Rattle.basis.specs.Members.{All}
-use Rattle.records.specs.declared.Answer.{Answer}
-use Rattle.records.specs.declared.Answer.the-variants.{Accepted, Refused}
+use Rattle.records.specs.declared.ReadAnswer.{ReadAnswer}
+use Rattle.records.specs.declared.ReadAnswer.the-variants.{Accepted, Refused}
 use Rattle.records.specs.declared.Counts.{Counts}
 use Rattle.records.specs.declared.Table.{Table}
 use Rattle.records.specs.declared.Table.the-variants.{Names, Solvables, VersionSets, Requirements, Candidates, Reasons, Variables, Assigned, Clauses}
@@ -25,8 +25,8 @@ use Rattle.records.specs.declared.Slot.the-variants as S
 use Rattle.records.specs.declared.Shape.{Shape}
 use Rattle.records.specs.declared.Found.{Found}
 use Rattle.records.specs.declared.Found.the-variants.{Known, Unknown}
-use Rattle.records.specs.declared.Step.{Step}
-use Rattle.records.specs.declared.Step.the-variants.{Next, No}
+use Rattle.records.specs.declared.CountStep.{CountStep}
+use Rattle.records.specs.declared.CountStep.the-variants.{Next, No}
 use Rattle.records.specs.Shapes.{Rec, recordsOf, limit, shapeOf, kinds, rowAt}
 use Rattle.records.specs.Tables.{noRec, at}
 use Rattle.records.specs.Read.{fieldGood, allows}
@@ -88,15 +88,114 @@ countOf Assigned c = c .assigned
 countOf Clauses c = c .clauses
 
 abbrev pub withCount : Table → Counts → ℕ → Counts
-withCount Names c n = record { names = n; solvables = c .solvables; sets = c .sets; requirements = c .requirements; candidates = c .candidates; reasons = c .reasons; variables = c .variables; assigned = c .assigned; clauses = c .clauses }
-withCount Solvables c n = record { names = c .names; solvables = n; sets = c .sets; requirements = c .requirements; candidates = c .candidates; reasons = c .reasons; variables = c .variables; assigned = c .assigned; clauses = c .clauses }
-withCount VersionSets c n = record { names = c .names; solvables = c .solvables; sets = n; requirements = c .requirements; candidates = c .candidates; reasons = c .reasons; variables = c .variables; assigned = c .assigned; clauses = c .clauses }
-withCount Requirements c n = record { names = c .names; solvables = c .solvables; sets = c .sets; requirements = n; candidates = c .candidates; reasons = c .reasons; variables = c .variables; assigned = c .assigned; clauses = c .clauses }
-withCount Candidates c n = record { names = c .names; solvables = c .solvables; sets = c .sets; requirements = c .requirements; candidates = n; reasons = c .reasons; variables = c .variables; assigned = c .assigned; clauses = c .clauses }
-withCount Reasons c n = record { names = c .names; solvables = c .solvables; sets = c .sets; requirements = c .requirements; candidates = c .candidates; reasons = n; variables = c .variables; assigned = c .assigned; clauses = c .clauses }
-withCount Variables c n = record { names = c .names; solvables = c .solvables; sets = c .sets; requirements = c .requirements; candidates = c .candidates; reasons = c .reasons; variables = n; assigned = c .assigned; clauses = c .clauses }
-withCount Assigned c n = record { names = c .names; solvables = c .solvables; sets = c .sets; requirements = c .requirements; candidates = c .candidates; reasons = c .reasons; variables = c .variables; assigned = n; clauses = c .clauses }
-withCount Clauses c n = record { names = c .names; solvables = c .solvables; sets = c .sets; requirements = c .requirements; candidates = c .candidates; reasons = c .reasons; variables = c .variables; assigned = c .assigned; clauses = n }
+withCount Names c n =
+    record {
+      names = n;
+      solvables = c .solvables;
+      sets = c .sets;
+      requirements = c .requirements;
+      candidates = c .candidates;
+      reasons = c .reasons;
+      variables = c .variables;
+      assigned = c .assigned;
+      clauses = c .clauses;
+    }
+withCount Solvables c n =
+    record {
+      names = c .names;
+      solvables = n;
+      sets = c .sets;
+      requirements = c .requirements;
+      candidates = c .candidates;
+      reasons = c .reasons;
+      variables = c .variables;
+      assigned = c .assigned;
+      clauses = c .clauses;
+    }
+withCount VersionSets c n =
+    record {
+      names = c .names;
+      solvables = c .solvables;
+      sets = n;
+      requirements = c .requirements;
+      candidates = c .candidates;
+      reasons = c .reasons;
+      variables = c .variables;
+      assigned = c .assigned;
+      clauses = c .clauses;
+    }
+withCount Requirements c n =
+    record {
+      names = c .names;
+      solvables = c .solvables;
+      sets = c .sets;
+      requirements = n;
+      candidates = c .candidates;
+      reasons = c .reasons;
+      variables = c .variables;
+      assigned = c .assigned;
+      clauses = c .clauses;
+    }
+withCount Candidates c n =
+    record {
+      names = c .names;
+      solvables = c .solvables;
+      sets = c .sets;
+      requirements = c .requirements;
+      candidates = n;
+      reasons = c .reasons;
+      variables = c .variables;
+      assigned = c .assigned;
+      clauses = c .clauses;
+    }
+withCount Reasons c n =
+    record {
+      names = c .names;
+      solvables = c .solvables;
+      sets = c .sets;
+      requirements = c .requirements;
+      candidates = c .candidates;
+      reasons = n;
+      variables = c .variables;
+      assigned = c .assigned;
+      clauses = c .clauses;
+    }
+withCount Variables c n =
+    record {
+      names = c .names;
+      solvables = c .solvables;
+      sets = c .sets;
+      requirements = c .requirements;
+      candidates = c .candidates;
+      reasons = c .reasons;
+      variables = n;
+      assigned = c .assigned;
+      clauses = c .clauses;
+    }
+withCount Assigned c n =
+    record {
+      names = c .names;
+      solvables = c .solvables;
+      sets = c .sets;
+      requirements = c .requirements;
+      candidates = c .candidates;
+      reasons = c .reasons;
+      variables = c .variables;
+      assigned = n;
+      clauses = c .clauses;
+    }
+withCount Clauses c n =
+    record {
+      names = c .names;
+      solvables = c .solvables;
+      sets = c .sets;
+      requirements = c .requirements;
+      candidates = c .candidates;
+      reasons = c .reasons;
+      variables = c .variables;
+      assigned = c .assigned;
+      clauses = n;
+    }
 
 abbrev pub noCounts : Counts
 noCounts = record { names = 0; solvables = 0; sets = 0; requirements = 0; candidates = 0; reasons = 0; variables = 0; assigned = 0; clauses = 0 }
@@ -231,7 +330,8 @@ pub number-at : (c : Counts) (m : List ℕ) (t : Table) (s u : Slot) (b x : ℕ)
 unfolding numberPass
 number-at c m t s u b x y e q = rw e q
 
-pub number-via : (c : Counts) (m : List ℕ) (t : Table) (s : Slot) (b x d z : ℕ) (y : Bool) → y ≡ numberPass c m t s b x → b ≡ d → x ≡ z → y ≡ numberPass c m t s d z
+pub number-via : (c : Counts) (m : List ℕ) (t : Table) (s : Slot) (b x d z : ℕ) (y : Bool) → y ≡ numberPass c m t s b x → b ≡ d → x ≡ z
+    → y ≡ numberPass c m t s d z
 number-via c m t s b x d z y q e f = rw (e, f) at q
 
 unfoldable pub numbersPass : Counts → List ℕ → Shape → Rec → Bool
@@ -297,7 +397,7 @@ originsPass m s r =
 -- ---- one record
 
 -- in the order 3, 6, 4, 5
-unfoldable pub admitPass : Counts → List ℕ → Shape → Rec → Step
+unfoldable pub admitPass : Counts → List ℕ → Shape → Rec → CountStep
 admitPass c m s r =
     guard (shapePass s r) (No 3)
     (guard (hasRoom (s .table) c) (No 6)
@@ -305,15 +405,15 @@ admitPass c m s r =
     (guard (originsPass m s r) (No 5)
     (Next (s .table)))))
 
-abbrev pub checkAt : Counts → List ℕ → Rec → Found → Step
+abbrev pub checkAt : Counts → List ℕ → Rec → Found → CountStep
 checkAt c m r Unknown = No 2
 checkAt c m r (Known s) = admitPass c m s r
 
-unfoldable pub checkPass : Counts → List ℕ → Rec → Step
+unfoldable pub checkPass : Counts → List ℕ → Rec → CountStep
 checkPass c m r = checkAt c m r (foundAt (r .kind))
 
 module _ (c : Counts) (m : List ℕ) (r : Rec) (k : ℕ) (f : Found) (is : f ≡ foundAt k) (e : k ≡ r .kind) where
-  pub check-at : (g : Found) (x : Step) → f ≡ g → x ≡ checkAt c m r g → x ≡ checkPass c m r
+  pub check-at : (g : Found) (x : CountStep) → f ≡ g → x ≡ checkAt c m r g → x ≡ checkPass c m r
   unfolding checkPass
   check-at g x p q = q ∙ ap (λ (h : Found). checkAt c m r h) (sym p ∙ (is ∙ ap foundAt e))
 
@@ -342,22 +442,22 @@ set-via m u w v a b x q e f g = q ∙ rw (e, f, g)
 pub set-mark-via : (m u : List ℕ) (w v a o : ℕ) → u ≡ set m w (o + 8) → w ≡ v → v ≡ a → o ≡ markOrigin m v → u ≡ set m a (markOrigin m a + 8)
 set-mark-via m u w v a o q e f g = q ∙ rw (g, e, f)
 
-abbrev pub turned : Step → Counts → ℕ → Answer
+abbrev pub turned : CountStep → Counts → ℕ → ReadAnswer
 turned (Next t) c i = Accepted (moreOf t c)
 turned (No k) c i = Refused k i
 
-abbrev pub marked : Step → Rec → List ℕ → List ℕ
+abbrev pub marked : CountStep → Rec → List ℕ → List ℕ
 marked (Next t) r m = noted t r m
 marked (No k) r m = m
 
 -- record r, number i, with the counts c and the marks m of those before: the next counts and marks, or the refusal
-unfoldable pub turnPass : Counts → List ℕ → Rec → ℕ → Answer
+unfoldable pub turnPass : Counts → List ℕ → Rec → ℕ → ReadAnswer
 turnPass c m r i = turned (checkPass c m r) c i
 
 unfoldable pub marksPass : Counts → List ℕ → Rec → List ℕ
 marksPass c m r = marked (checkPass c m r) r m
 
-module _ (c : Counts) (m : List ℕ) (r : Rec) (s : Step) (is : s ≡ checkPass c m r) where
+module _ (c : Counts) (m : List ℕ) (r : Rec) (s : CountStep) (is : s ≡ checkPass c m r) where
   pub turn-no : (i p k : ℕ) → s ≡ No k → p ≡ i → Refused k p ≡ turnPass c m r i
   unfolding turnPass
   turn-no i p k e q = rw (← is, e, q)
@@ -376,16 +476,16 @@ module _ (c : Counts) (m : List ℕ) (r : Rec) (s : Step) (is : s ≡ checkPass 
 
 -- ---- all records
 
-abbrev pub after : Answer → (Counts → Answer) → Answer
+abbrev pub after : ReadAnswer → (Counts → ReadAnswer) → ReadAnswer
 after (Accepted d) rest = rest d
 after (Refused k i) rest = Refused k i
 
-unfoldable pub passFrom : List Rec → ℕ → Counts → List ℕ → Answer
+unfoldable pub passFrom : List Rec → ℕ → Counts → List ℕ → ReadAnswer
 passFrom [] i c m = Accepted c
 passFrom (r ∷ rs) i c m = after (turnPass c m r i) (λ d. passFrom rs (suc i) d (marksPass c m r))
 
 -- what is left to read from record i on
-unfoldable pub leftPass : List ℕ → ℕ → Counts → List ℕ → Answer
+unfoldable pub leftPass : List ℕ → ℕ → Counts → List ℕ → ReadAnswer
 leftPass file i c m = passFrom (drop i (recordsOf file)) i c m
 
 left-one : (file : List ℕ) (i : ℕ) (c : Counts) (m : List ℕ) → i < length file / 32
@@ -395,7 +495,7 @@ left-one file i c m h =
     let l : length (recordsOf file) ≡ length file / 32 = length-cut (length file / 32) file in
     rw (add-one, drop-cons (recordsOf file) i noRec (omega arith))
 
-module _ (file : List ℕ) (i : ℕ) (c : Counts) (m : List ℕ) (w : Answer) (inv : leftPass file i c m ≡ w) where
+module _ (file : List ℕ) (i : ℕ) (c : Counts) (m : List ℕ) (w : ReadAnswer) (inv : leftPass file i c m ≡ w) where
   pub left-end : length file / 32 ≤ i → Accepted c ≡ w
   unfolding leftPass passFrom
   left-end h =
@@ -403,7 +503,7 @@ module _ (file : List ℕ) (i : ℕ) (c : Counts) (m : List ℕ) (w : Answer) (i
       let g : length (recordsOf file) ≤ i = omega arith in
       rw (drop-of-length-le (recordsOf file) g) at inv
 
-  module _ (s : Answer) (h : i < length file / 32) (is : s ≡ turnPass c m (at (recordsOf file) i) i) where
+  module _ (s : ReadAnswer) (h : i < length file / 32) (is : s ≡ turnPass c m (at (recordsOf file) i) i) where
     on : after s (λ d. leftPass file (i + 1) d (marksPass c m (at (recordsOf file) i))) ≡ w
     on = rw is (sym (left-one file i c m h) ∙ inv)
 

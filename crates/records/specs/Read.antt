@@ -6,8 +6,8 @@ use Prim.Native.Nat.{ℕ, zero, suc, _%_}
 use lib.ListN.{length, take, drop}
 use lib.Dec.{leb, ltb, eqb}
 use Rattle.basis.specs.Lists.{any, all}
-use Rattle.records.specs.declared.Answer.{Answer}
-use Rattle.records.specs.declared.Answer.the-variants.{Accepted, Refused}
+use Rattle.records.specs.declared.ReadAnswer.{ReadAnswer}
+use Rattle.records.specs.declared.ReadAnswer.the-variants.{Accepted, Refused}
 use Rattle.records.specs.declared.Table.{Table}
 use Rattle.records.specs.declared.First.{First}
 use Rattle.records.specs.declared.First.the-variants as F
@@ -26,12 +26,12 @@ abbrev pub zeros : List ℕ → Bool
 zeros s = all (eqb 0) s
 
 -- the text of a record: the first bytes, as many as byte 1 says ("byte 1 text length or flag")
-abbrev pub shown : Rec → List ℕ
-shown r = take (r .first) (r .text)
+abbrev pub recText : Rec → List ℕ
+recText r = take (r .first) (r .text)
 
 -- "Text is 1 to 24 bytes, each from 32 to 126", "zero beyond its length"
 abbrev pub textGood : Rec → Bool
-textGood r = leb 1 (r .first) && (leb (r .first) 24 && (all (λ x. leb 32 x && leb x 126) (shown r) && zeros (drop (r .first) (r .text))))
+textGood r = leb 1 (r .first) && (leb (r .first) 24 && (all (λ x. leb 32 x && leb x 126) (recText r) && zeros (drop (r .first) (r .text))))
 
 -- byte 1 and the text, by what the kind has there: 3 for a "bad length, flag, text byte .. or nonzero unused byte"
 abbrev pub firstGood : First → Rec → Bool
@@ -130,7 +130,7 @@ unfoldable pub readOf : List ℕ → Reading
 readOf file = cond (eqb (length file % 32) 0 && leb (length file) 65536) (readFrom (recordsOf file) 0 noTables) (bad 1 0)
 
 -- the number and the values of document 01 for each case of the answer
-abbrev pub answerOf : Reading → Answer
+abbrev pub answerOf : Reading → ReadAnswer
 answerOf (good T) = Accepted (countsOf T)
 answerOf (bad k i) = Refused k i
 

@@ -61,7 +61,13 @@ module _ (r : Rec) (rs : List Rec) (i : ℕ) (T : Tables) where
     read-by : (n : ℕ) → refusalIn T s r ≡ n → readFrom (r ∷ rs) i T ≡ elim n [ zero ↦ readFrom rs (suc i) (put (s .table) r T) | suc k ↦ bad (suc k) i ]
     unfolding readFrom
     read-by n q =
-        ap (λ (o : Option Shape). elim o [ none ↦ bad 2 i | some x ↦ elim (refusalIn T x r) [ zero ↦ readFrom rs (suc i) (put (x .table) r T) | suc k ↦ bad (suc k) i ] ]) e
+        ap (λ (o : Option Shape). elim o [
+          | none ↦ bad 2 i
+          | some x ↦ elim (refusalIn T x r) [
+            | zero ↦ readFrom rs (suc i) (put (x .table) r T)
+            | suc k ↦ bad (suc k) i
+          ]
+        ]) e
         ∙ ap (λ (l : ℕ). elim l [ zero ↦ readFrom rs (suc i) (put (s .table) r T) | suc k ↦ bad (suc k) i ]) q
 
     pub read-next : refusalIn T s r ≡ 0 → readFrom (r ∷ rs) i T ≡ readFrom rs (suc i) (put (s .table) r T)

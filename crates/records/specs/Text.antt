@@ -16,7 +16,7 @@ use Rattle.basis.specs.Laws.Guard.{guard-no, guard-yes}
 use Rattle.records.specs.declared.First.{First}
 use Rattle.records.specs.declared.First.the-variants as F
 use Rattle.records.specs.Shapes.{Rec}
-use Rattle.records.specs.Read.{shown, zeros, firstGood}
+use Rattle.records.specs.Read.{recText, zeros, firstGood}
 
 -- ---- every byte of a text passes
 
@@ -162,7 +162,7 @@ unfoldable pub textPass : Rec → Bool
 textPass r =
     guard (leb 1 (r .first)) false
     (guard (leb (r .first) 24) false
-    (guard (allText (shown r)) false
+    (guard (allText (recText r)) false
     (restZero r (r .first))))
 
 abbrev pub firstAt : First → Rec → Bool
@@ -203,6 +203,6 @@ guard-and false x y e = refl
 pub first-is-good : (f : First) (r : Rec) → firstPass f r ≡ firstGood f r
 unfolding firstPass textPass allText restZero allZero
 first-is-good F.Length r =
-    guard-and (leb 1 (r .first)) _ _ (guard-and (leb (r .first) 24) _ _ (guard-and (all inText (shown r)) _ _ refl))
+    guard-and (leb 1 (r .first)) _ _ (guard-and (leb (r .first) 24) _ _ (guard-and (all inText (recText r)) _ _ refl))
 first-is-good F.Flag r = guard-and (leb (r .first) 1) _ _ refl
 first-is-good F.Unused r = guard-and (eqb (r .first) 0) _ _ refl

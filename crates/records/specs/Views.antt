@@ -12,13 +12,13 @@ use Rattle.records.specs.declared.Clause.{Clause}
 use Rattle.records.specs.declared.Clause.the-variants as C
 use Rattle.records.specs.Shapes.{Rec}
 use Rattle.records.specs.Tables.{Tables, at}
-use Rattle.records.specs.Read.{shown}
+use Rattle.records.specs.Read.{recText}
 
 -- ---- texts
 
 -- "1 name, a own number, text"
 abbrev pub nameText : Tables → ℕ → List ℕ
-nameText T n = shown (at (T .names) n)
+nameText T n = recText (at (T .names) n)
 
 -- "2 solvable, a own, b name, text version"
 abbrev pub solvableName : Tables → ℕ → ℕ
@@ -26,7 +26,7 @@ solvableName T s = at (T .solvables) s .b
 
 -- "2 solvable, a own, b name, text version"
 abbrev pub versionText : Tables → ℕ → List ℕ
-versionText T s = shown (at (T .solvables) s)
+versionText T s = recText (at (T .solvables) s)
 
 -- "3 version set, a own, b name, text"
 abbrev pub setName : Tables → ℕ → ℕ
@@ -34,15 +34,15 @@ setName T v = at (T .versionSets) v .b
 
 -- "3 version set, a own, b name, text"
 abbrev pub setText : Tables → ℕ → List ℕ
-setText T v = shown (at (T .versionSets) v)
+setText T v = recText (at (T .versionSets) v)
 
 -- "4 requirement, a own, text"
 abbrev pub requirementText : Tables → ℕ → List ℕ
-requirementText T q = shown (at (T .requirements) q)
+requirementText T q = recText (at (T .requirements) q)
 
 -- "6 reason, a own, text"
 abbrev pub reasonText : Tables → ℕ → List ℕ
-reasonText T r = shown (at (T .reasons) r)
+reasonText T r = recText (at (T .reasons) r)
 
 -- ---- variables
 

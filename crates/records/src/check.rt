@@ -1,9 +1,9 @@
 // One record against the counts and marks of those before it: in the order 2, 3, 6, 4, 5 (document 01, "Refusal numbers").
+use crate::CountStep;
 use crate::Counts;
 use crate::Found;
 use crate::Shape;
 use crate::Slot;
-use crate::Step;
 use crate::Table;
 use crate::fields::a_at;
 use crate::fields::b_at;
@@ -147,33 +147,33 @@ fn origins_good(file: &[u8], i: usize, m: &[u16], s: Shape) -> bool
 }
 
 // A record of a known kind.
-fn admit(file: &[u8], i: usize, c: Counts, m: &[u16], s: Shape) -> Step
+fn admit(file: &[u8], i: usize, c: Counts, m: &[u16], s: Shape) -> CountStep
     ensures { λ r. ⌜ r ≡ admitPass c (now (m .entry)) s (at (recordsOf (now (file .entry))) i) ⌝ }
 {
     let t = s.table;
     if !shape_good(file, i, s) {
-        return Step::No(3);
+        return CountStep::No(3);
     }
     if !has_room(t, c) {
-        return Step::No(6);
+        return CountStep::No(6);
     }
     if !numbers_good(file, i, c, m, s) {
-        return Step::No(4);
+        return CountStep::No(4);
     }
     if !origins_good(file, i, m, s) {
-        return Step::No(5);
+        return CountStep::No(5);
     }
-    Step::Next(t)
+    CountStep::Next(t)
 }
 
 // Record i of the file: the table that it goes into, or its refusal.
-pub fn check_record(file: &[u8], i: usize, c: Counts, m: &[u16]) -> Step
+pub fn check_record(file: &[u8], i: usize, c: Counts, m: &[u16]) -> CountStep
     ensures { λ r. ⌜ r ≡ checkPass c (now (m .entry)) (at (recordsOf (now (file .entry))) i) ⌝ }
 {
     let kind = kind_at(file, i);
     let f = shape_of(kind);
     let Found::Known(s) = f else {
-        return Step::No(2);
+        return CountStep::No(2);
     };
     admit(file, i, c, m, s)
 }

@@ -5,7 +5,7 @@ ghost use Prim.Native.Nat.{_+_, _<_, _≤_};
 ghost use lib.ListN.{drop};
 ghost use Rattle.records.specs.Shapes.{recordsOf};
 ghost use Rattle.records.specs.Tables.{at};
-ghost use Rattle.records.specs.Read.{shown};
+ghost use Rattle.records.specs.Read.{recText};
 ghost use Rattle.records.specs.Cut.{byteIn, wordIn};
 
 // Byte k of record i.
@@ -73,7 +73,7 @@ pub fn c_at(file: &[u8], i: usize) -> u16
 
 // "The text of a record is handed out as that part of the lent file".
 pub fn text_at(file: &[u8], i: usize) -> &[u8]
-    ensures { λ r. ⌜ now r ≡ shown (at (recordsOf (now (file .entry))) i) ⌝ }
+    ensures { λ r. ⌜ now r ≡ recText (at (recordsOf (now (file .entry))) i) ⌝ }
 {
     if file.len() / 32 <= i {
         return &file[0..0];

@@ -1,6 +1,6 @@
 // The record file (document 01, "The record file", "Refusal numbers"): the shapes of the records, and one record. `fields` reads it, and
 // the step over the tables before it is public: `check` answers it, a table or a refusal from 2 to 6, `pass` also notes its mark,
-// specs/Laws/Step.antt says what it is. The whole file is read in `arms`.
+// specs/Laws/CountStep.antt says what it is. The whole file is read in `arms`.
 
 pub mod check;
 pub mod fields;
@@ -73,7 +73,7 @@ pub struct Counts {
 }
 
 // What reading a file answers: the size of its tables, or a refusal of document 01 with its place.
-pub enum Answer {
+pub enum ReadAnswer {
     Accepted(Counts),
     Refused { number: u64, place: u64 },
 }
@@ -109,7 +109,7 @@ pub enum Found {
 }
 
 // What one record makes: a record more in its table, or a refusal.
-pub enum Step {
+pub enum CountStep {
     Next(Table),
     No(u64),
 }

@@ -1,7 +1,7 @@
 // One record of a file: the counts and the marks after it.
-use crate::Answer;
+use crate::CountStep;
 use crate::Counts;
-use crate::Step;
+use crate::ReadAnswer;
 use crate::Table;
 use crate::check::check_record;
 use crate::check::mark_origin;
@@ -29,7 +29,8 @@ fn note_variable(file: &[u8], i: usize, m: &mut [u16])
 
 // A record 8: 8 more in the mark of its variable.
 fn note_assigned(file: &[u8], i: usize, m: &mut [u16])
-    ensures { λ _. ⌜ now (m .exit) ≡ set (now (m .entry)) (at (recordsOf (now (file .entry))) i .a) (markOrigin (now (m .entry)) (at (recordsOf (now (file .entry))) i .a) + 8) ⌝ }
+    ensures { λ _. ⌜ now (m .exit) ≡ set (now (m .entry)) (at (recordsOf (now (file .entry))) i .a)
+        (markOrigin (now (m .entry)) (at (recordsOf (now (file .entry))) i .a) + 8) ⌝ }
 {
     let a = a_at(file, i);
     let o = mark_origin(m, a);
@@ -59,19 +60,19 @@ pub fn note(file: &[u8], i: usize, t: Table, m: &mut [u16])
 }
 
 // Record i: the counts after it, with its mark noted, or its refusal.
-pub fn turn(file: &[u8], i: usize, c: Counts, m: &mut [u16]) -> Answer
+pub fn turn(file: &[u8], i: usize, c: Counts, m: &mut [u16]) -> ReadAnswer
     ensures { λ r. ⌜ r ≡ turnPass c (now (m .entry)) (at (recordsOf (now (file .entry))) i) i ⌝ }
     ensures { λ r. ⌜ now (m .exit) ≡ marksPass c (now (m .entry)) (at (recordsOf (now (file .entry))) i) ⌝ }
 {
     let s = check_record(file, i, c, m);
     match s {
-        Step::No(k) => Answer::Refused {
+        CountStep::No(k) => ReadAnswer::Refused {
             number: k,
             place: i as u64,
         },
-        Step::Next(t) => {
+        CountStep::Next(t) => {
             note(file, i, t, m);
-            Answer::Accepted(more(t, c))
+            ReadAnswer::Accepted(more(t, c))
         }
     }
 }

@@ -11,7 +11,8 @@ use Rattle.basis.specs.Members.{clash}
 use Rattle.calls.specs.Plain.{plainOption}
 use Rattle.replay.specs.declared.early.Seen.{Seen}
 use Rattle.replay.specs.Head.{callIn, optionIn, firstIn, secondIn, roomIn, recordedIn}
-use Rattle.replay.specs.Seen.{Told, told-one, Aired, aired-one, noCall, blank, blankNumbers, checkedIn, drawnIn, listedIn, edgedIn, mendedIn, replacedIn}
+use Rattle.replay.specs.Seen.{ToldAgain, told-one, Aired, aired-one, noCall, blank, blankNumbers, checkedIn, drawnIn, listedIn, edgedIn, mendedIn}
+use Rattle.replay.specs.Seen.{replacedIn}
 use Rattle.replay.specs.Later.{FromTen, from-ten-one}
 use Rattle.replay.specs.Latest.{FromThirteen, from-thirteen-one}
 use Rattle.replay.specs.Seasons.{FromEighteen, from-eighteen-one}
@@ -34,12 +35,12 @@ mendsIn file n = cond (leb n 8192) (replacedIn file (blank 65536) (blankNumbers 
 -- the calls from 10 on are told in Later, those from 13 on in Latest, those from 18 on in Seasons
 unfoldable pub ToNine : List ℕ → ℕ → ℕ → ℕ → Seen → Type 0
 ToNine file zero opt n r = r ≡ checkedIn file
-ToNine file (suc zero) opt n r = Told 1 file opt (blank n) r
-ToNine file (suc (suc zero)) opt n r = Told 1 file plainOption (blank n) r
+ToNine file (suc zero) opt n r = ToldAgain 1 file opt (blank n) r
+ToNine file (suc (suc zero)) opt n r = ToldAgain 1 file plainOption (blank n) r
 ToNine file (suc (suc (suc zero))) opt n r = r ≡ drawnIn file opt (blank n)
 ToNine file (suc (suc (suc (suc zero)))) opt n r = Listing file n r
 ToNine file (suc (suc (suc (suc (suc zero))))) opt n r = r ≡ edgesIn file n
-ToNine file (suc (suc (suc (suc (suc (suc zero)))))) opt n r = Told 2 file opt (blank n) r
+ToNine file (suc (suc (suc (suc (suc (suc zero)))))) opt n r = ToldAgain 2 file opt (blank n) r
 ToNine file (suc (suc (suc (suc (suc (suc (suc zero))))))) opt n r = Aired file opt (blank n) r
 ToNine file (suc (suc (suc (suc (suc (suc (suc (suc zero)))))))) opt n r = r ≡ mendedIn file (blank n) (blankNumbers 8192)
 ToNine file (suc (suc (suc (suc (suc (suc (suc (suc (suc zero))))))))) opt n r = r ≡ mendsIn file n
@@ -53,7 +54,7 @@ pub record Replayed (file : List ℕ) (call opt s t n : ℕ) (r : Seen) : Type 0
   pub top : 18 ≤ call → FromEighteen file (call - 18) opt s t n r
 
 -- a and b are one and the same, or not
-pub record Same (a b : Seen) (r : Bool) : Type 0 where
+pub record SameSeen (a b : Seen) (r : Bool) : Type 0 where
   pub equal : r ≡ true → a ≡ b
   pub told : a ≡ b → r ≡ true
 
@@ -61,7 +62,7 @@ pub record Same (a b : Seen) (r : Bool) : Type 0 where
 pub record Compared (file head : List ℕ) (r : Bool) : Type 0 where
   pub seen : Seen
   pub again : Replayed file (callIn head) (optionIn head) (firstIn head) (secondIn head) (roomIn head) seen
-  pub same : Same seen (recordedIn head) r
+  pub same : SameSeen seen (recordedIn head) r
 
 -- r says whether it does; a room larger than the program's never agrees
 pub record Agrees (file head : List ℕ) (r : Bool) : Type 0 where
@@ -106,7 +107,7 @@ true-both false false f g = refl
 true-both true false f g = sym (f refl)
 true-both false true f g = g refl
 
-same-one : (a b : Seen) (r q : Bool) → Same a b r → Same a b q → r ≡ q
+same-one : (a b : Seen) (r q : Bool) → SameSeen a b r → SameSeen a b q → r ≡ q
 same-one a b r q R Q = true-both r q (λ e. Q .told (R .equal e)) (λ e. R .told (Q .equal e))
 
 pub agrees-one : (file head : List ℕ) (r q : Bool) → Agrees file head r → Agrees file head q → r ≡ q
@@ -114,7 +115,8 @@ agrees-one file head r q R Q = go (decLe (roomIn head) 65536)
   where
     both : Compared file head r → Compared file head q → r ≡ q
     both C D =
-        let e : D .seen ≡ C .seen = replayed-one file (callIn head) (optionIn head) (firstIn head) (secondIn head) (roomIn head) (D .seen) (C .seen) (D .again) (C .again) in
+        let e : D .seen ≡ C .seen = replayed-one file (callIn head) (optionIn head) (firstIn head) (secondIn head) (roomIn head) (D .seen) (C .seen) (D .again)
+        (C .again) in
         same-one (C .seen) (recordedIn head) r q (C .same) (rw e at (D .same))
 
     go : Dec (roomIn head ≤ 65536) → r ≡ q
@@ -150,11 +152,11 @@ module _ (file : List ℕ) (call opt n : ℕ) (r : Seen) where
   unfolding ToNine
   at-check q e = rw q e
 
-  pub at-explain : call ≡ 1 → Told 1 file opt (blank n) r → ToNine file call opt n r
+  pub at-explain : call ≡ 1 → ToldAgain 1 file opt (blank n) r → ToNine file call opt n r
   unfolding ToNine
   at-explain q e = rw q e
 
-  pub at-plain : call ≡ 2 → Told 1 file plainOption (blank n) r → ToNine file call opt n r
+  pub at-plain : call ≡ 2 → ToldAgain 1 file plainOption (blank n) r → ToNine file call opt n r
   unfolding ToNine
   at-plain q e = rw q e
 
@@ -170,7 +172,7 @@ module _ (file : List ℕ) (call opt n : ℕ) (r : Seen) where
   unfolding ToNine
   at-edges q e = rw q e
 
-  pub at-second : call ≡ 6 → Told 2 file opt (blank n) r → ToNine file call opt n r
+  pub at-second : call ≡ 6 → ToldAgain 2 file opt (blank n) r → ToNine file call opt n r
   unfolding ToNine
   at-second q e = rw q e
 
@@ -219,7 +221,8 @@ at-middle file call opt s t n r l m e =
       top = λ k. let f : ⊥ = omega arith in absurd f;
     }
 
-pub at-high : (file : List ℕ) (call opt s t n : ℕ) (r : Seen) → 13 ≤ call → call < 18 → FromThirteen file (call - 13) opt s t n r → Replayed file call opt s t n r
+pub at-high : (file : List ℕ) (call opt s t n : ℕ) (r : Seen) → 13 ≤ call → call < 18 → FromThirteen file (call - 13) opt s t n r
+    → Replayed file call opt s t n r
 at-high file call opt s t n r l m e =
     record {
       low = λ k. let f : ⊥ = omega arith in absurd f;
@@ -238,42 +241,52 @@ at-top file call opt s t n r l e =
     }
 
 fields-same : (n p y u d s n′ p′ y′ u′ d′ s′ : ℕ) → n ≡ n′ → p ≡ p′ → y ≡ y′ → u ≡ u′ → d ≡ d′ → s ≡ s′
-    → _≡_ {A = Seen} (record { number = n; place = p; bytes = y; units = u; depth = d; sum = s }) (record { number = n′; place = p′; bytes = y′; units = u′; depth = d′; sum = s′ })
+    → _≡_ {A = Seen} (record { number = n; place = p; bytes = y; units = u; depth = d; sum = s }) (record {
+      number = n′;
+      place = p′;
+      bytes = y′;
+      units = u′;
+      depth = d′;
+      sum = s′;
+    })
 fields-same n p y u d s n′ p′ y′ u′ d′ s′ e f g h i j = rw (e, f, g, h, i, j)
 
 module _ (a b : Seen) where
-  other : (a ≡ b → ⊥) → Same a b false
+  other : (a ≡ b → ⊥) → SameSeen a b false
   other f = record { equal = λ e. clash (cc); told = λ e. absurd (f e) }
 
-  pub not-number : (a .number ≡ b .number → ⊥) → Same a b false
+  pub not-number : (a .number ≡ b .number → ⊥) → SameSeen a b false
   not-number f = other (λ e. f (ap (λ (s : Seen). s .number) e))
 
-  pub not-place : (a .place ≡ b .place → ⊥) → Same a b false
+  pub not-place : (a .place ≡ b .place → ⊥) → SameSeen a b false
   not-place f = other (λ e. f (ap (λ (s : Seen). s .place) e))
 
-  pub not-bytes : (a .bytes ≡ b .bytes → ⊥) → Same a b false
+  pub not-bytes : (a .bytes ≡ b .bytes → ⊥) → SameSeen a b false
   not-bytes f = other (λ e. f (ap (λ (s : Seen). s .bytes) e))
 
-  pub not-units : (a .units ≡ b .units → ⊥) → Same a b false
+  pub not-units : (a .units ≡ b .units → ⊥) → SameSeen a b false
   not-units f = other (λ e. f (ap (λ (s : Seen). s .units) e))
 
-  pub not-depth : (a .depth ≡ b .depth → ⊥) → Same a b false
+  pub not-depth : (a .depth ≡ b .depth → ⊥) → SameSeen a b false
   not-depth f = other (λ e. f (ap (λ (s : Seen). s .depth) e))
 
-  pub not-sum : (a .sum ≡ b .sum → ⊥) → Same a b false
+  pub not-sum : (a .sum ≡ b .sum → ⊥) → SameSeen a b false
   not-sum f = other (λ e. f (ap (λ (s : Seen). s .sum) e))
 
-  pub all-same : a .number ≡ b .number → a .place ≡ b .place → a .bytes ≡ b .bytes → a .units ≡ b .units → a .depth ≡ b .depth → a .sum ≡ b .sum → Same a b true
+  pub all-same : a .number ≡ b .number → a .place ≡ b .place → a .bytes ≡ b .bytes → a .units ≡ b .units → a .depth ≡ b .depth → a .sum ≡ b .sum
+      → SameSeen a b true
   all-same n p y u d s =
       record {
-        equal = λ _. fields-same (a .number) (a .place) (a .bytes) (a .units) (a .depth) (a .sum) (b .number) (b .place) (b .bytes) (b .units) (b .depth) (b .sum) n p y u d s;
+        equal =
+            λ _. fields-same (a .number) (a .place) (a .bytes) (a .units) (a .depth) (a .sum) (b .number) (b .place) (b .bytes) (b .units) (b .depth) (b .sum) n
+            p y u d s;
         told = λ _. refl;
       }
 
 pub agrees-beyond : (file head : List ℕ) (n : ℕ) → n ≡ roomIn head → 65536 < n → Agrees file head false
 agrees-beyond file head n q l = record { within = λ k. let f : ⊥ = omega (arith, q) in absurd f; beyond = λ _. refl }
 
-pub agrees-within : (file head : List ℕ) (call opt x y n m : ℕ) (s t : Seen) (r : Bool) → Replayed file call opt x y m s → Same s t r → t ≡ recordedIn head
+pub agrees-within : (file head : List ℕ) (call opt x y n m : ℕ) (s t : Seen) (r : Bool) → Replayed file call opt x y m s → SameSeen s t r → t ≡ recordedIn head
     → call ≡ callIn head → opt ≡ optionIn head → x ≡ firstIn head → y ≡ secondIn head → m ≡ n → n ≡ roomIn head → n ≤ 65536 → Agrees file head r
 agrees-within file head call opt x y n m s t r R S e p q u v i j l =
     record {

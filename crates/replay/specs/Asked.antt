@@ -6,9 +6,9 @@ use Prim.Native.Nat.{ℕ, _≤_, _<_}
 use lib.ListN.{take, replicate}
 use lib.Dec.{leb}
 use borrow.Author.Tests.{le-leb, lt-leb}
-use Rattle.nodelist.specs.declared.Counted.{Counted}
-use Rattle.nodelist.specs.Listed.{Listed}
-use Rattle.asking.specs.Nodes.{askedNodes}
+use Rattle.lists.specs.declared.nodes.Counted.{Counted}
+use Rattle.lists.specs.Listed.{Listed}
+use Rattle.lists.specs.Asked.{askedNodes}
 use Rattle.calls.specs.declared.Answer.{Answer}
 use Rattle.calls.specs.Nodes.{answerOf}
 use Rattle.calls.specs.WhatIf.{whatIfAnswer, whatIfLeft, SaysWhatIf}
@@ -56,5 +56,6 @@ pub told-if : (file : List ℕ) (s t opt : ℕ) (out left : List ℕ) (a : Answe
     → r ≡ seenOf a m → ToldIf file s t opt out r
 told-if file s t opt out left a m r S p q = rw q (record { left = left; says = S; sums = p })
 
-pub told-if-blank : (file : List ℕ) (s t opt n : ℕ) (r : Seen) → ToldIf file s t opt (take n (replicate 65536 165)) r → n ≤ 65536 → ToldIf file s t opt (blank n) r
+pub told-if-blank : (file : List ℕ) (s t opt n : ℕ) (r : Seen) → ToldIf file s t opt (take n (replicate 65536 165)) r → n ≤ 65536
+    → ToldIf file s t opt (blank n) r
 told-if-blank file s t opt n r S l = rw (take-blank {A = ℕ} 165 n 65536 l) at S

@@ -41,7 +41,14 @@ abbrev pub secondIn : List ℕ → ℕ
 secondIn head = wordAt head 88
 
 unfoldable pub recordedIn : List ℕ → Seen
-recordedIn head = record { number = wordAt head 32; place = wordAt head 40; bytes = wordAt head 48; units = wordAt head 56; depth = wordAt head 64; sum = wordAt head 72 }
+recordedIn head = record {
+  number = wordAt head 32;
+  place = wordAt head 40;
+  bytes = wordAt head 48;
+  units = wordAt head 56;
+  depth = wordAt head 64;
+  sum = wordAt head 72;
+}
 
 pub quad-is : (xs : List ℕ) (at a b : ℕ) → a ≡ pairAt xs at → b ≡ pairAt xs (at + 2) → a + 65536 * b ≡ quadAt xs at
 unfolding quadAt
@@ -51,7 +58,8 @@ pub word-is : (xs : List ℕ) (at a b : ℕ) → a ≡ quadAt xs at → b ≡ qu
 unfolding wordAt
 word-is xs at a b p q = rw (p, q)
 
-pub recorded-is : (head : List ℕ) (n p b u d s : ℕ) → n ≡ wordAt head 32 → p ≡ wordAt head 40 → b ≡ wordAt head 48 → u ≡ wordAt head 56 → d ≡ wordAt head 64 → s ≡ wordAt head 72
+pub recorded-is : (head : List ℕ) (n p b u d s : ℕ) → n ≡ wordAt head 32 → p ≡ wordAt head 40 → b ≡ wordAt head 48 → u ≡ wordAt head 56 → d ≡ wordAt head 64
+    → s ≡ wordAt head 72
     → _≡_ {A = Seen} (record { number = n; place = p; bytes = b; units = u; depth = d; sum = s }) (recordedIn head)
 unfolding recordedIn
 recorded-is head n p b u d s e f g h i j = rw (e, f, g, h, i, j)
@@ -96,7 +104,8 @@ fill-next xs ws vs us at i e q l k =
     ∙ set-at (wordsAt xs at i) (getD ws i 0) (drop (suc i) ws) w i (length-words xs at i) in
     q ∙ t ∙ rw add-one (sym (append-assoc (wordsAt xs at i) (wordAt xs (at + 8 * i) ∷ []) (drop (suc i) ws)))
 
-pub fill-end : (xs ws vs : List ℕ) (at i : ℕ) → vs ≡ filledTo xs at i ws → length vs ≤ i → i ≤ length ws → length vs ≡ length ws → vs ≡ wordsAt xs at (length ws)
+pub fill-end : (xs ws vs : List ℕ) (at i : ℕ) → vs ≡ filledTo xs at i ws → length vs ≤ i → i ≤ length ws → length vs ≡ length ws
+    → vs ≡ wordsAt xs at (length ws)
 unfolding filledTo
 fill-end xs ws vs at i e l k q =
     let z : i ≡ length ws = omega (arith, q) in

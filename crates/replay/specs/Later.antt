@@ -9,7 +9,7 @@ use lib.Dec.{leb}
 use borrow.Author.Tests.{le-leb, lt-leb}
 use Rattle.texts.specs.Wrote.{over, Wrote}
 use Rattle.settings.specs.declared.Settings.{Settings}
-use Rattle.settings.specs.Settings.{readOf}
+use Rattle.settings.specs.Settings.{settingsOf}
 use Rattle.settings.specs.Change.{changeOf, roomOf}
 use Rattle.calls.specs.declared.Answer.{Answer}
 use Rattle.calls.specs.Settings.{changeAnswer}
@@ -25,7 +25,7 @@ heldAs s = record { number = s .number; place = s .place; bytes = s .indent; uni
 
 -- the settings of the file by a reader of version v, with nothing lent
 unfoldable pub heldIn : List ℕ → ℕ → Seen
-heldIn file v = seenOf (heldAs (readOf v file)) (sumOf [])
+heldIn file v = seenOf (heldAs (settingsOf v file)) (sumOf [])
 
 -- setting s gets content c by a writer of version v, in the room `out`, which begins with a settings file of `used` bytes
 unfoldable pub changedIn : List ℕ → ℕ → ℕ → ℕ → ℕ → Seen
@@ -57,7 +57,7 @@ from-ten-one file (suc (suc (suc k))) opt s t n r q R Q = R ∙ sym Q
 
 -- ---- the ways through the code
 
-pub held-in : (file : List ℕ) (v : ℕ) (x : Settings) (a : Answer) (r : Seen) → x ≡ readOf v file → a ≡ heldAs x → r ≡ seenOf a 0 → r ≡ heldIn file v
+pub held-in : (file : List ℕ) (v : ℕ) (x : Settings) (a : Answer) (r : Seen) → x ≡ settingsOf v file → a ≡ heldAs x → r ≡ seenOf a 0 → r ≡ heldIn file v
 unfolding heldIn sumFrom
 held-in file v x a r e w q = rw (q, w, e)
 
@@ -83,7 +83,8 @@ pub changes-short : (file : List ℕ) (v s c n : ℕ) (r : Seen) → n < length 
 unfolding changesIn
 changes-short file v s c n r l e = rw (lt-leb (length file) n l) e
 
-pub changes-long : (file : List ℕ) (v s c n : ℕ) (r : Seen) → length file ≤ n → r ≡ changedIn (over file (blank n)) (length file) v s c → r ≡ changesIn file v s c n
+pub changes-long : (file : List ℕ) (v s c n : ℕ) (r : Seen) → length file ≤ n → r ≡ changedIn (over file (blank n)) (length file) v s c
+    → r ≡ changesIn file v s c n
 unfolding changesIn
 changes-long file v s c n r l e = rw (le-leb (length file) n l) e
 

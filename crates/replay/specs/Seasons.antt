@@ -87,7 +87,8 @@ pub words-fit : (m : ℕ) → m ≤ 64 → length (take m (replicate {A = ℕ} 6
 words-fit m l = let e : m ≡ length (take m (replicate {A = ℕ} 64 0)) = prefix-words m l in omega (arith, e)
 
 pub joined-parts : (b : List ℕ) (m n : ℕ) (r : Seen)
-    → r ≡ joinedIn (wordsAt b 0 (length (take m (replicate {A = ℕ} 64 0)))) (wordsAt b (8 * length (take m (replicate {A = ℕ} 64 0))) (length (take n (replicate {A = ℕ} 64 0))))
+    → r ≡ joinedIn (wordsAt b 0 (length (take m (replicate {A = ℕ} 64 0))))
+    (wordsAt b (8 * length (take m (replicate {A = ℕ} 64 0))) (length (take n (replicate {A = ℕ} 64 0))))
     → m ≤ 64 → n ≤ 64 → r ≡ joinedIn (wordsAt b 0 m) (wordsAt b (8 * m) n)
 joined-parts b m n r e k l =
     e ∙ sym (ap₂ (λ (i j : ℕ). joinedIn (wordsAt b 0 i) (wordsAt b (8 * i) j)) (prefix-words m k) (prefix-words n l))
@@ -100,7 +101,8 @@ pub joins-second : (b : List ℕ) (s t : ℕ) (r : Seen) → 64 < t → s ≤ 64
 unfolding joinsIn
 joins-second b s t r l k e = rw (le-leb s 64 k, cond, lt-leb t 64 l) e
 
-pub joins-both : (b : List ℕ) (s t m n : ℕ) (r : Seen) → r ≡ joinedIn (wordsAt b 0 m) (wordsAt b (8 * m) n) → m ≡ s → n ≡ t → s ≤ 64 → t ≤ 64 → r ≡ joinsIn b s t
+pub joins-both : (b : List ℕ) (s t m n : ℕ) (r : Seen) → r ≡ joinedIn (wordsAt b 0 m) (wordsAt b (8 * m) n) → m ≡ s → n ≡ t → s ≤ 64 → t ≤ 64
+    → r ≡ joinsIn b s t
 unfolding joinsIn
 joins-both b s t m n r e p q k l =
     rw (le-leb s 64 k, cond, le-leb t 64 l) (e ∙ ap₂ (λ (i j : ℕ). joinedIn (wordsAt b 0 i) (wordsAt b (8 * i) j)) p q)

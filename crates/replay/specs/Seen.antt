@@ -9,11 +9,11 @@ use lib.Seq.{take-append-add}
 use Rattle.texts.specs.Wrote.{over}
 use Rattle.salvage.specs.declared.Salvaged.{Salvaged}
 use Rattle.salvage.specs.Lent.{salvageAnswer, salvageRoom, salvageList}
-use Rattle.entries.specs.Entry.{entryOf, wordOf, Narrows, entries-back}
-use Rattle.entries.specs.declared.NodeEntry.{NodeEntry}
-use Rattle.nodelist.specs.Nodes.{Nodes, nodesOf, listedBy}
-use Rattle.nodelist.specs.declared.Counted.{Counted}
-use Rattle.nodelist.specs.Listed.{Listed, wordsOver, as-many, in-room}
+use Rattle.lists.specs.Entry.{nodeEntryIn, wordOf, Narrows, entries-back}
+use Rattle.lists.specs.declared.entries.NodeEntry.{NodeEntry}
+use Rattle.lists.specs.Nodes.{Nodes, nodesOf, listedBy}
+use Rattle.lists.specs.declared.nodes.Counted.{Counted}
+use Rattle.lists.specs.Listed.{Listed, wordsOver, as-many, in-room}
 use Rattle.calls.specs.declared.Answer.{Answer}
 use Rattle.calls.specs.Answers.{checkOf}
 use Rattle.calls.specs.Says.{Says}
@@ -42,7 +42,7 @@ abbrev pub blank : ℕ → List ℕ
 blank n = replicate n 165
 
 -- the explanation of a file by edition e in the room `out`
-pub record Told (e : ℕ) (file : List ℕ) (opt : ℕ) (out : List ℕ) (r : Seen) : Type 0 where
+pub record ToldAgain (e : ℕ) (file : List ℕ) (opt : ℕ) (out : List ℕ) (r : Seen) : Type 0 where
   pub left : List ℕ
   pub says : Says e file opt out left (answerIn r)
   pub sums : r .sum ≡ sumOf left
@@ -97,7 +97,7 @@ both-one r q left right s t e =
     let h : r .sum ≡ q .sum = s ∙ ap sumOf (e .1) ∙ sym t in
     ap (λ (a : Answer). seenOf a (r .sum)) (e .0) ∙ ap (seenOf (answerIn q)) h
 
-pub told-one : (e : ℕ) (file : List ℕ) (opt : ℕ) (out : List ℕ) (r q : Seen) → Told e file opt out r → Told e file opt out q → r ≡ q
+pub told-one : (e : ℕ) (file : List ℕ) (opt : ℕ) (out : List ℕ) (r q : Seen) → ToldAgain e file opt out r → ToldAgain e file opt out q → r ≡ q
 told-one e file opt out r q S T =
     both-one r q (S .left) (T .left) (S .sums) (T .sums) (says-one e file opt out (S .left) (T .left) (answerIn r) (answerIn q) (S .says) (T .says))
 
@@ -108,7 +108,7 @@ aired-one file opt out r q S T =
 -- ---- the ways through the code
 
 pub told-in : (e : ℕ) (file : List ℕ) (opt : ℕ) (out left : List ℕ) (a : Answer) (s : ℕ) (r : Seen) → Says e file opt out left a → s ≡ sumOf left
-    → r ≡ seenOf a s → Told e file opt out r
+    → r ≡ seenOf a s → ToldAgain e file opt out r
 told-in e file opt out left a s r S p q = rw q (record { left = left; says = S; sums = p })
 
 pub aired-in : (file : List ℕ) (opt : ℕ) (out left : List ℕ) (a : Answer) (s : ℕ) (r : Seen) → SaysAir file opt out left a → s ≡ sumOf left
@@ -145,19 +145,20 @@ drop-blank x zero m = simp unary-clauses
 drop-blank x (suc k) zero = let z : zero - suc k ≡ zero = omega arith in rw z
 drop-blank x (suc k) (suc m) = simp unary-clauses (drop-blank x k m)
 
-map-blank : (n w : ℕ) → map entryOf (replicate n w) ≡ replicate n (entryOf w)
+map-blank : (n w : ℕ) → map nodeEntryIn (replicate n w) ≡ replicate n (nodeEntryIn w)
 map-blank zero w = refl
-map-blank (suc n) w = ap (λ (t : List NodeEntry). entryOf w ∷ t) (map-blank n w)
+map-blank (suc n) w = ap (λ (t : List NodeEntry). nodeEntryIn w ∷ t) (map-blank n w)
 
-map-append : (xs ys : List ℕ) → map entryOf (xs ++ ys) ≡ map entryOf xs ++ map entryOf ys
+map-append : (xs ys : List ℕ) → map nodeEntryIn (xs ++ ys) ≡ map nodeEntryIn xs ++ map nodeEntryIn ys
 map-append [] ys = refl
-map-append (x ∷ xs) ys = ap (λ (t : List NodeEntry). entryOf x ∷ t) (map-append xs ys)
+map-append (x ∷ xs) ys = ap (λ (t : List NodeEntry). nodeEntryIn x ∷ t) (map-append xs ys)
 
 -- a part of the program's room
 pub prefix-blank : (n : ℕ) → n ≤ 65536 → n ≡ length (take n (replicate {A = ℕ} 65536 165))
 prefix-blank n l = sym (ap length (take-blank {A = ℕ} 165 n 65536 l) ∙ length-replicate {A = ℕ} n 165)
 
-pub told-blank : (e : ℕ) (file : List ℕ) (opt n : ℕ) (r : Seen) → Told e file opt (take n (replicate 65536 165)) r → n ≤ 65536 → Told e file opt (blank n) r
+pub told-blank : (e : ℕ) (file : List ℕ) (opt n : ℕ) (r : Seen) → ToldAgain e file opt (take n (replicate 65536 165)) r → n ≤ 65536
+    → ToldAgain e file opt (blank n) r
 told-blank e file opt n r S l = rw (take-blank {A = ℕ} 165 n 65536 l) at S
 
 pub aired-blank : (file : List ℕ) (opt n : ℕ) (r : Seen) → Aired file opt (take n (replicate 65536 165)) r → n ≤ 65536 → Aired file opt (blank n) r
@@ -190,7 +191,7 @@ blankWords = replicate 128 11936128518282651045
 
 -- entries as words over blank ones, read back
 over-blank : (es : List NodeEntry) (ws : List ℕ) (n : ℕ) → ws ≡ wordsOver es blankWords → Narrows es → length es ≤ n → n ≤ 128
-    → map entryOf (take n ws) ≡ es ++ drop (length es) (blankList n)
+    → map nodeEntryIn (take n ws) ≡ es ++ drop (length es) (blankList n)
 over-blank es ws n e h k l =
     let a : List ℕ = map wordOf es in
     let m : length a ≡ length es = length-map es wordOf in
@@ -203,7 +204,7 @@ over-blank es ws n e h k l =
     ∙ take-append-add a (drop (length es) blankWords) (n - length es)
     ∙ ap (λ (x : List ℕ). a ++ take (n - length es) x) (drop-blank {A = ℕ} blankWord (length es) 128)
     ∙ ap (λ (x : List ℕ). a ++ x) b in
-    ap (map entryOf) t
+    ap (map nodeEntryIn) t
     ∙ map-append a (replicate (n - length es) blankWord)
     ∙ ap₂ (λ (x y : List NodeEntry). x ++ y) (entries-back es h) (map-blank (n - length es) blankWord)
     ∙ ap (λ (y : List NodeEntry). es ++ y) (sym (drop-blank blankEntry (length es) n))

@@ -6,8 +6,8 @@ use native.Mathlib.Numerals.{add-one}
 use native.Mathlib.Omega.{arith}
 use lib.ListN.{length, getD, drop, take}
 use lib.Seq.{drop-cons, take-suc}
-use Rattle.entries.specs.Entry.{entryOf, entryAt}
-use Rattle.entries.specs.declared.NodeEntry.{NodeEntry}
+use Rattle.lists.specs.Entry.{nodeEntryIn, entryAt}
+use Rattle.lists.specs.declared.entries.NodeEntry.{NodeEntry}
 
 -- one digit more: a polynomial in 1,021 modulo 2^54 - 33, the largest prime below 2^54
 unfoldable pub mix : ℕ → ℕ → ℕ
@@ -74,7 +74,8 @@ pub word-mixed : (h a w r : ℕ) → r ≡ mix a (w / 4294967296) → a ≡ mix 
 unfolding mixWord
 word-mixed h a w r p q = rw (p, q)
 
-pub words-next : (ws : List ℕ) (h i z r w : ℕ) → wordsFrom h (drop i ws) ≡ z → i < length ws → r ≡ mixWord h w → w ≡ getD ws i 0 → wordsFrom r (drop (i + 1) ws) ≡ z
+pub words-next : (ws : List ℕ) (h i z r w : ℕ) → wordsFrom h (drop i ws) ≡ z → i < length ws → r ≡ mixWord h w → w ≡ getD ws i 0
+    → wordsFrom r (drop (i + 1) ws) ≡ z
 unfolding wordsFrom
 words-next ws h i z r w e l q p =
     let d : drop i ws ≡ getD ws i 0 ∷ drop (suc i) ws = drop-cons ws i 0 l in
@@ -102,13 +103,13 @@ unfolding entriesFrom
 snoc-entries [] e h = refl
 snoc-entries (x ∷ xs) e h = snoc-entries xs e (mixEntry h x)
 
-map-snoc : (ws : List ℕ) (w : ℕ) → map entryOf (ws ++ (w ∷ [])) ≡ map entryOf ws ++ (entryOf w ∷ [])
+map-snoc : (ws : List ℕ) (w : ℕ) → map nodeEntryIn (ws ++ (w ∷ [])) ≡ map nodeEntryIn ws ++ (nodeEntryIn w ∷ [])
 map-snoc [] w = refl
-map-snoc (v ∷ ws) w = ap (λ (t : List NodeEntry). entryOf v ∷ t) (map-snoc ws w)
+map-snoc (v ∷ ws) w = ap (λ (t : List NodeEntry). nodeEntryIn v ∷ t) (map-snoc ws w)
 
 -- the first i words as entries
 unfoldable pub entriesAt : List ℕ → ℕ → List NodeEntry
-entriesAt ws i = map entryOf (take i ws)
+entriesAt ws i = map nodeEntryIn (take i ws)
 
 pub entries-none : (ws : List ℕ) → 0 ≡ sumEntries (entriesAt ws 0)
 unfolding entriesFrom entriesAt
@@ -119,12 +120,13 @@ pub entries-next : (ws : List ℕ) (h i n r : ℕ) (e : NodeEntry) → h ≡ sum
 unfolding entriesAt entryAt
 entries-next ws h i n r e q k l t p m =
     let j : i < length ws = omega arith in
-    rw (m, p, q, add-one, take-suc ws i 0 j, map-snoc) (sym (snoc-entries (map entryOf (take i ws)) (entryOf (getD ws i 0)) 0))
+    rw (m, p, q, add-one, take-suc ws i 0 j, map-snoc) (sym (snoc-entries (map nodeEntryIn (take i ws)) (nodeEntryIn (getD ws i 0)) 0))
 
 pub entries-end : (ws : List ℕ) (h i n : ℕ) → h ≡ sumEntries (entriesAt ws i) → i ≤ n → n ≤ i → h ≡ sumEntries (entriesAt ws n)
 entries-end ws h i n q a b = let z : i ≡ n = omega arith in rw z at q
 
-pub entry-mixed : (h a b c d f r : ℕ) (e : NodeEntry) → r ≡ mix f (e .clause) → f ≡ mix d (e .missing) → d ≡ mix c (e .installable) → c ≡ mix b (e .group) → b ≡ mix a (e .number) → a ≡ mix h (e .kind)
+pub entry-mixed : (h a b c d f r : ℕ) (e : NodeEntry) → r ≡ mix f (e .clause) → f ≡ mix d (e .missing) → d ≡ mix c (e .installable) → c ≡ mix b (e .group)
+    → b ≡ mix a (e .number) → a ≡ mix h (e .kind)
     → r ≡ mixEntry h e
 unfolding mixEntry
 entry-mixed h a b c d f r e u v w x y z = rw (u, v, w, x, y, z)

@@ -57,7 +57,8 @@ ends-in text ns es left c a m r e k w p q = q ∙ ap₂ seenOf (w ∙ ap countsA
 pub prefix-wide : (n : ℕ) → n ≤ 65536 → n ≡ length (take n (replicate {A = ℕ} 65536 2779096485))
 prefix-wide n l = sym (ap length (take-blank {A = ℕ} 2779096485 n 65536 l) ∙ length-replicate {A = ℕ} n 2779096485)
 
-pub spots-blank : (text es : List ℕ) (n : ℕ) (r : Seen) → r ≡ spotsIn text (take n (replicate 65536 2779096485)) es → n ≤ 65536 → r ≡ spotsIn text (blankWide n) es
+pub spots-blank : (text es : List ℕ) (n : ℕ) (r : Seen) → r ≡ spotsIn text (take n (replicate 65536 2779096485)) es → n ≤ 65536
+    → r ≡ spotsIn text (blankWide n) es
 spots-blank text es n r e l = e ∙ ap (λ (x : List ℕ). spotsIn text x es) (take-blank {A = ℕ} 2779096485 n 65536 l)
 
 pub ends-blank : (text ns : List ℕ) (n : ℕ) (r : Seen) → r ≡ endsIn text ns (take n (replicate 65536 2779096485)) → n ≤ 65536 → r ≡ endsIn text ns (blankWide n)

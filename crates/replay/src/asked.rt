@@ -9,7 +9,7 @@ use crate::early::joined;
 use crate::early::no_call;
 use crate::sums::sum;
 use crate::sums::sum_entries;
-use asking::ask_words;
+use lists::asked::ask_words;
 use urzulempa::urzulempa_what_if_explain;
 
 // `ask_words` stands below `urzulempa_what_if` as `node_words` does below `urzulempa_nodes`.

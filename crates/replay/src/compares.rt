@@ -1,6 +1,6 @@
 // What a call shows now, against what is recorded of it.
 ghost use Prim.Native.Nat.{_≤_};
-ghost use Rattle.replay.specs.Again.{Replayed, Same, Agrees};
+ghost use Rattle.replay.specs.Again.{Replayed, SameSeen, Agrees};
 use crate::early::Seen;
 use crate::early::to_nine;
 use crate::heads::recorded;
@@ -27,7 +27,7 @@ pub fn replayed(file: &[u8], call: u64, option: u64, first: u64, second: u64, n:
 }
 
 fn same(a: Seen, b: Seen) -> bool
-    ensures { λ r. ⌜ Same a b r ⌝ }
+    ensures { λ r. ⌜ SameSeen a b r ⌝ }
 {
     if a.number != b.number {
         return false;

@@ -1,7 +1,8 @@
 // A recorded call, 0 to 9, made again: the answer, and the checksum of the whole room or list that it was lent.
 ghost use mathlib.Core.Path.{_≡_};
 ghost use Prim.Native.Nat.{_≤_};
-ghost use Rattle.replay.specs.Seen.{seenOf, Told, Aired, noCall, blank, blankNumbers, checkedIn, drawnIn, listedIn, edgedIn, mendedAs, mendedIn, replacedIn};
+ghost use Rattle.replay.specs.Seen.{seenOf, ToldAgain, Aired, noCall, blank, blankNumbers, checkedIn, drawnIn, listedIn, edgedIn, mendedAs, mendedIn};
+ghost use Rattle.replay.specs.Seen.{replacedIn};
 ghost use Rattle.replay.specs.Again.{Listing, ToNine, edgesIn, mendsIn};
 ghost use Rattle.calls.specs.Nodes.{answerOf};
 ghost use Rattle.calls.specs.Plain.{plainOption};
@@ -9,8 +10,8 @@ use crate::sums::sum;
 use crate::sums::sum_entries;
 use crate::sums::sum_numbers;
 use calls::Answer;
-use nodelist::Counted;
-use nodelist::node_words;
+use lists::nodes::Counted;
+use lists::nodes::node_words;
 use salvage::Salvaged;
 use urzulempa::urzulempa_check;
 use urzulempa::urzulempa_edges;
@@ -50,7 +51,7 @@ fn check(file: &[u8]) -> Seen
 }
 
 fn explained(file: &[u8], option: u64, room: &mut [u8]) -> Seen
-    ensures { λ r. ⌜ Told 1 (now (file .entry)) option (now (room .entry)) r ⌝ }
+    ensures { λ r. ⌜ ToldAgain 1 (now (file .entry)) option (now (room .entry)) r ⌝ }
 {
     let a = urzulempa_explain(file, option, room);
     joined(a, sum(room))
@@ -58,14 +59,14 @@ fn explained(file: &[u8], option: u64, room: &mut [u8]) -> Seen
 
 fn explain(file: &[u8], option: u64, n: usize) -> Seen
     requires { ⌜ n ≤ 65536 ⌝ }
-    ensures { λ r. ⌜ Told 1 (now (file .entry)) option (blank n) r ⌝ }
+    ensures { λ r. ⌜ ToldAgain 1 (now (file .entry)) option (blank n) r ⌝ }
 {
     let mut room = [165u8; 65536];
     explained(file, option, &mut room[..n])
 }
 
 fn told_plainly(file: &[u8], room: &mut [u8]) -> Seen
-    ensures { λ r. ⌜ Told 1 (now (file .entry)) plainOption (now (room .entry)) r ⌝ }
+    ensures { λ r. ⌜ ToldAgain 1 (now (file .entry)) plainOption (now (room .entry)) r ⌝ }
 {
     let a = urzulempa_explain_plain(file, room);
     joined(a, sum(room))
@@ -73,7 +74,7 @@ fn told_plainly(file: &[u8], room: &mut [u8]) -> Seen
 
 fn plain(file: &[u8], n: usize) -> Seen
     requires { ⌜ n ≤ 65536 ⌝ }
-    ensures { λ r. ⌜ Told 1 (now (file .entry)) plainOption (blank n) r ⌝ }
+    ensures { λ r. ⌜ ToldAgain 1 (now (file .entry)) plainOption (blank n) r ⌝ }
 {
     let mut room = [165u8; 65536];
     told_plainly(file, &mut room[..n])
@@ -164,7 +165,7 @@ fn edges_in(file: &[u8], n: usize) -> Seen
 }
 
 fn told_second(file: &[u8], option: u64, room: &mut [u8]) -> Seen
-    ensures { λ r. ⌜ Told 2 (now (file .entry)) option (now (room .entry)) r ⌝ }
+    ensures { λ r. ⌜ ToldAgain 2 (now (file .entry)) option (now (room .entry)) r ⌝ }
 {
     let a = urzulempa_explain_edition(file, 2, option, room);
     joined(a, sum(room))
@@ -172,7 +173,7 @@ fn told_second(file: &[u8], option: u64, room: &mut [u8]) -> Seen
 
 fn second(file: &[u8], option: u64, n: usize) -> Seen
     requires { ⌜ n ≤ 65536 ⌝ }
-    ensures { λ r. ⌜ Told 2 (now (file .entry)) option (blank n) r ⌝ }
+    ensures { λ r. ⌜ ToldAgain 2 (now (file .entry)) option (blank n) r ⌝ }
 {
     let mut room = [165u8; 65536];
     told_second(file, option, &mut room[..n])

@@ -49,7 +49,8 @@ fn join(report: &mut [u64], second: &[u64]) -> Seen
 fn join_read(bytes: &[u8], report: &mut [u64], second: &mut [u64]) -> Seen
     requires { ⌜ length (now report) ≤ 64 ⌝ }
     requires { ⌜ length (now second) ≤ 64 ⌝ }
-    ensures { λ r. ⌜ r ≡ joinedIn (wordsAt (now (bytes .entry)) 0 (length (now (report .entry)))) (wordsAt (now (bytes .entry)) (8 * length (now (report .entry))) (length (now (second .entry)))) ⌝ }
+    ensures { λ r. ⌜ r ≡ joinedIn (wordsAt (now (bytes .entry)) 0 (length (now (report .entry))))
+        (wordsAt (now (bytes .entry)) (8 * length (now (report .entry))) (length (now (second .entry)))) ⌝ }
 {
     let at = 8 * report.len();
     fill(bytes, 0, report);

@@ -3,8 +3,8 @@ ghost use mathlib.Core.Path.{_≡_};
 ghost use Prim.Native.Nat.{_<_, _≤_};
 ghost use lib.ListN.{length};
 ghost use Rattle.replay.specs.Sum.{mix, mixEntry, mixWord, sumOf, wordsFrom, sumEntries, entriesAt};
-use entries::NodeEntry;
-use entries::entry_at;
+use lists::entries::NodeEntry;
+use lists::entries::entry_at;
 
 // One digit more.
 fn mixed(h: u64, x: u64) -> u64

@@ -6,7 +6,7 @@ use lib.ListN.{length, replicate}
 use Rattle.records.specs.Shapes.{recOf, shapeOf}
 use Rattle.records.specs.Tables.{Tables}
 use Rattle.salvage.specs.declared.Verdict.the-variants.{Replaced, Stops}
-use Rattle.pieces.specs.Pieces.{pieces, joined}
+use Rattle.reader.specs.Pieces.{pieces, joined}
 use Rattle.salvage.specs.Salvage.{blank, verdictOf, mendFrom, repaired, refused, salvageOf}
 use Rattle.salvage.specs.Lent.{refusalOf, doneOf, salvageAnswer, salvageRoom, salvageList}
 

@@ -5,3 +5,4 @@ pub mod Agree
 pub mod Paste
 pub mod Lent
 pub mod Promises
+pub mod Never

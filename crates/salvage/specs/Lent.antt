@@ -16,23 +16,23 @@ abbrev pub doneOf : ℕ → ℕ → ℕ → Salvaged
 doneOf b k d = record { number = 0; place = 0; bytes = b; replaced = k; dropped = d }
 
 -- b bytes and k numbers go into n bytes and m numbers; else "10 if either lent place is short"
-abbrev pub fits : ℕ → ℕ → ℕ → ℕ → Bool
-fits b k n m = leb b n && leb k m
+abbrev pub fitsLent : ℕ → ℕ → ℕ → ℕ → Bool
+fitsLent b k n m = leb b n && leb k m
 
 -- "then 10 if either lent place is short"; n bytes and m numbers are lent
 abbrev pub answerFor : Salvage → ℕ → ℕ → Salvaged
 answerFor (refused k i) n m = refusalOf k i
-answerFor (repaired out ls d) n m = cond (fits (length out) (length ls) n m) (doneOf (length out) (length ls) d) (refusalOf 10 0)
+answerFor (repaired out ls d) n m = cond (fitsLent (length out) (length ls) n m) (doneOf (length out) (length ls) d) (refusalOf 10 0)
 
 -- "on any refusal both are as before"; bytes and numbers past those written stay
 abbrev pub roomFor : Salvage → List ℕ → ℕ → List ℕ
 roomFor (refused k i) room m = room
-roomFor (repaired out ls d) room m = cond (fits (length out) (length ls) (length room) m) (out ++ drop (length out) room) room
+roomFor (repaired out ls d) room m = cond (fitsLent (length out) (length ls) (length room) m) (out ++ drop (length out) room) room
 
 -- the same for the list: "on any refusal both are as before"
 abbrev pub listFor : Salvage → ℕ → List ℕ → List ℕ
 listFor (refused k i) n list = list
-listFor (repaired out ls d) n list = cond (fits (length out) (length ls) n (length list)) (ls ++ drop (length ls) list) list
+listFor (repaired out ls d) n list = cond (fitsLent (length out) (length ls) n (length list)) (ls ++ drop (length ls) list) list
 
 -- the answer for n bytes of room and m numbers of list (`answerFor`)
 unfoldable pub salvageAnswer : List ℕ → ℕ → ℕ → Salvaged

@@ -4,3 +4,4 @@ pub mod Pass
 pub mod Writing
 pub mod Laws
 pub mod Cases
+pub mod NeverCases

@@ -9,8 +9,8 @@ use Rattle.records.specs.declared.Table.the-variants.{Clauses}
 use Rattle.records.specs.declared.Counts.{Counts}
 use Rattle.records.specs.declared.Found.{Found}
 use Rattle.records.specs.declared.Found.the-variants.{Known, Unknown}
-use Rattle.records.specs.declared.Step.{Step}
-use Rattle.records.specs.declared.Step.the-variants.{Next, No}
+use Rattle.records.specs.declared.CountStep.{CountStep}
+use Rattle.records.specs.declared.CountStep.the-variants.{Next, No}
 use Rattle.records.specs.Shapes.{Rec}
 use Rattle.records.specs.Pass.{foundAt, hasRoom, moreOf, checkPass, noted, noCounts}
 use Rattle.salvage.specs.declared.Verdict.{Verdict}
@@ -36,19 +36,19 @@ unfoldable pub clauseKind : ℕ → Bool
 clauseKind k = clauseFound (foundAt k)
 
 -- a clause that there is room for, by the step of the reader
-abbrev pub clauseIn : Step → Rec → Verdict
+abbrev pub clauseIn : CountStep → Rec → Verdict
 clauseIn (No n) r = Replaced
 clauseIn (Next t) r = cond (learntPass r) Replaced (Stays t)
 
-unfoldable pub clauseBy : Step → Rec → Verdict
+unfoldable pub clauseBy : CountStep → Rec → Verdict
 clauseBy s r = clauseIn s r
 
 -- any other record
-abbrev pub otherIn : Step → Verdict
+abbrev pub otherIn : CountStep → Verdict
 otherIn (No n) = Stops n
 otherIn (Next t) = Stays t
 
-unfoldable pub otherBy : Step → Verdict
+unfoldable pub otherBy : CountStep → Verdict
 otherBy s = otherIn s
 
 unfoldable pub verdictPass : Counts → List ℕ → Rec → Verdict

@@ -11,7 +11,7 @@ use Rattle.records.specs.declared.Shape.{Shape}
 use Rattle.records.specs.Shapes.{Rec, recOf, shapeOf, limit}
 use Rattle.records.specs.Tables.{Tables, noTables, put}
 use Rattle.records.specs.Read.{refusalIn}
-use Rattle.pieces.specs.Pieces.{pieces, joined}
+use Rattle.reader.specs.Pieces.{pieces, joined}
 use Rattle.salvage.specs.declared.Verdict.{Verdict}
 use Rattle.salvage.specs.declared.Verdict.the-variants.{Stays, Replaced, Stops}
 
@@ -94,14 +94,14 @@ pub data Salvage : Type 0 where
   refused : ℕ → ℕ → Salvage
 
 -- what `salvageOf` gives once the records are mended, d bytes being dropped
-abbrev pub finished : ℕ → Mended → Salvage
-finished d (mended ys ls) = repaired (joined ys) ls d
-finished d (halted n i) = refused n i
+abbrev pub mendedFile : ℕ → Mended → Salvage
+mendedFile d (mended ys ls) = repaired (joined ys) ls d
+mendedFile d (halted n i) = refused n i
 
 -- "1 only for above 65,536; then the record refusals"; the pieces are whole records: "drop the bytes after the last whole record"
 unfoldable pub salvageOf : List ℕ → Salvage
 unfolding pieces mendFrom
 salvageOf file =
     cond (leb (length file) 65536)
-    (finished (length file % 32) (mendFrom (pieces (length file / 32) file) 0 noTables))
+    (mendedFile (length file % 32) (mendFrom (pieces (length file / 32) file) 0 noTables))
     (refused 1 0)

@@ -9,7 +9,7 @@ use lib.Dec.{leb}
 use Rattle.basis.specs.Guard.{guard}
 use Rattle.salvage.specs.declared.Salvaged.{Salvaged}
 use Rattle.salvage.specs.Salvage.{blank}
-use Rattle.salvage.specs.Lent.{refusalOf, doneOf, fits}
+use Rattle.salvage.specs.Lent.{refusalOf, doneOf, fitsLent}
 
 -- record l of d, if it is there, "kind 16 with flag 0 and all else zero"
 unfoldable pub blankAt : List ℕ → ℕ → List ℕ
@@ -25,7 +25,7 @@ abbrev pub wholeOf : List ℕ → ℕ
 wholeOf file = 32 * (length file / 32)
 
 -- what is answered and left where the first k numbers of `found` are the records to replace
-pub record Laid (file found : List ℕ) (k : ℕ) (room list : List ℕ) (r : Salvaged) (room′ list′ : List ℕ) : Type 0 where
-  pub answer : r ≡ cond (fits (wholeOf file) k (length room) (length list)) (doneOf (wholeOf file) k (length file - wholeOf file)) (refusalOf 10 0)
-  pub in-room : room′ ≡ cond (fits (wholeOf file) k (length room) (length list)) (blanks (take k found) (paste room 0 file (wholeOf file))) room
-  pub in-list : list′ ≡ cond (fits (wholeOf file) k (length room) (length list)) (paste list 0 found k) list
+pub record SalvageLaid (file found : List ℕ) (k : ℕ) (room list : List ℕ) (r : Salvaged) (room′ list′ : List ℕ) : Type 0 where
+  pub answer : r ≡ cond (fitsLent (wholeOf file) k (length room) (length list)) (doneOf (wholeOf file) k (length file - wholeOf file)) (refusalOf 10 0)
+  pub in-room : room′ ≡ cond (fitsLent (wholeOf file) k (length room) (length list)) (blanks (take k found) (paste room 0 file (wholeOf file))) room
+  pub in-list : list′ ≡ cond (fitsLent (wholeOf file) k (length room) (length list)) (paste list 0 found k) list

@@ -4,9 +4,9 @@ use crate::Turn;
 use crate::Verdict;
 use crate::Work;
 use basis::put16;
+use records::CountStep;
 use records::Counts;
 use records::Found;
-use records::Step;
 use records::Table;
 use records::check::check_record;
 use records::fields::first_at;
@@ -63,12 +63,12 @@ fn is_clause(kind: u8) -> bool
 }
 
 // A clause where there is room for one.
-fn clause(file: &[u8], i: usize, s: Step) -> Verdict
+fn clause(file: &[u8], i: usize, s: CountStep) -> Verdict
     ensures { λ r. ⌜ r ≡ clauseBy s (at (recordsOf (now (file .entry))) i) ⌝ }
 {
     match s {
-        Step::No(_) => Verdict::Replaced,
-        Step::Next(t) => {
+        CountStep::No(_) => Verdict::Replaced,
+        CountStep::Next(t) => {
             if core_learnt(file, i) {
                 return Verdict::Replaced;
             }
@@ -78,12 +78,12 @@ fn clause(file: &[u8], i: usize, s: Step) -> Verdict
 }
 
 // A record of kinds 1 to 8, or of an unknown one.
-fn other(s: Step) -> Verdict
+fn other(s: CountStep) -> Verdict
     ensures { λ r. ⌜ r ≡ otherBy s ⌝ }
 {
     match s {
-        Step::No(n) => Verdict::Stops(n),
-        Step::Next(t) => Verdict::Stays(t),
+        CountStep::No(n) => Verdict::Stops(n),
+        CountStep::Next(t) => Verdict::Stays(t),
     }
 }
 

@@ -3,12 +3,12 @@ use crate::Salvaged;
 use crate::refusal;
 use basis::get16;
 use basis::wide16;
-use pieces::paste_bytes;
+use reader::pieces::paste_bytes;
 ghost use mathlib.Core.Path.{_≡_};
 ghost use Prim.Native.Nat.{_+_, _≤_, _<_};
 ghost use lib.ListN.{length, take};
-ghost use Rattle.pieces.specs.Pieces.{Pasted};
-ghost use Rattle.salvage.specs.Writing.{blankAt, blanks, Laid};
+ghost use Rattle.reader.specs.Pieces.{Pasted};
+ghost use Rattle.salvage.specs.Writing.{blankAt, blanks, SalvageLaid};
 
 // n numbers of `s` over the first of `d`.
 fn paste_numbers(d: &mut [u16], at: usize, s: &[u16], n: usize)
@@ -52,7 +52,7 @@ fn blank_all(room: &mut [u8], list: &[u16], k: usize)
 // The file with the first k records of `found` replaced, if both lent places are long enough.
 pub fn repair(file: &[u8], found: &[u16], k: usize, room: &mut [u8], list: &mut [u16]) -> Salvaged
     requires { ⌜ k ≤ length (now found) ⌝ }
-    ensures { λ r. ⌜ Laid (now (file .entry)) (now (found .entry)) k (now (room .entry)) (now (list .entry)) r (now (room .exit)) (now (list .exit)) ⌝ }
+    ensures { λ r. ⌜ SalvageLaid (now (file .entry)) (now (found .entry)) k (now (room .entry)) (now (list .entry)) r (now (room .exit)) (now (list .exit)) ⌝ }
 {
     let len = file.len();
     let bytes = 32 * (len / 32);

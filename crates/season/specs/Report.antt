@@ -56,22 +56,22 @@ join r s = record { counts = sums (r .counts) (s .counts); deepest = deeper (fil
 abbrev pub narrow : ℕ → Bool
 narrow n = ltb n (2 ^ 64)
 
--- the depth and the file number, for `fits`
+-- the depth and the file number, for `fitsWidths`
 abbrev pub numbers : Option (ℕ × ℕ) → List ℕ
 numbers none = []
 numbers (some p) = p .0 ∷ p .1 ∷ []
 
 -- "14 if a count would pass its width": none does, of the 24, the number of files, the depth and the file number
-unfoldable pub fits : Report → Bool
-fits r = all narrow (r .counts) && (narrow (files r) && all narrow (numbers (r .deepest)))
+unfoldable pub fitsWidths : Report → Bool
+fitsWidths r = all narrow (r .counts) && (narrow (files r) && all narrow (numbers (r .deepest)))
 
 -- "14 if a count would pass its width, tested per file and per joining"
 pub data Joining : Type 0 where
   whole : Report → Joining
   wide : Joining
 
-unfoldable pub joined : Report → Report → Joining
-joined r s = elim (fits (join r s)) [ true ↦ whole (join r s) | false ↦ wide ]
+unfoldable pub joinedReports : Report → Report → Joining
+joinedReports r s = elim (fitsWidths (join r s)) [ true ↦ whole (join r s) | false ↦ wide ]
 
 -- "report unchanged"
 abbrev pub orKept : Report → Joining → Report

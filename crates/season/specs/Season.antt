@@ -7,7 +7,7 @@ use Prim.Native.Nat.{ℕ, _≤_}
 use lib.ListN.{set, replicate}
 use lib.Dec.{eqb}
 use Rattle.season.specs.declared.Own.{Own}
-use Rattle.season.specs.Report.{Report, empty, join, fits, joined, orKept}
+use Rattle.season.specs.Report.{Report, empty, join, fitsWidths, joinedReports, orKept}
 
 -- "A file refused with 1 to 9 or 12 adds nothing but its refusal; one refused with 10 or 11 adds its graph counts, the lines it wrote
 -- and its depth."
@@ -27,7 +27,7 @@ share a =
 -- "Over many files, in the order given", from the report so far: a file that gets 14 leaves it as it is
 unfoldable pub seasonFrom : Report → List Own → Report
 seasonFrom r [] = r
-seasonFrom r (a ∷ xs) = seasonFrom (orKept r (joined r (share a))) xs
+seasonFrom r (a ∷ xs) = seasonFrom (orKept r (joinedReports r (share a))) xs
 
 unfoldable pub season : List Own → Report
 season xs = seasonFrom empty xs
@@ -35,7 +35,7 @@ season xs = seasonFrom empty xs
 -- no file gets 14
 abbrev pub NoWide : Report → List Own → Type 0
 NoWide r [] = Unit {0}
-NoWide r (a ∷ xs) = (fits (join r (share a)) ≡ true) × NoWide (join r (share a)) xs
+NoWide r (a ∷ xs) = (fitsWidths (join r (share a)) ≡ true) × NoWide (join r (share a)) xs
 
 -- the number is one of the table's
 abbrev pub Known : Own → Type 0

@@ -9,7 +9,7 @@ use Rattle.basis.specs.Guard.{guard}
 use Rattle.season.specs.declared.Total.{Total}
 use Rattle.season.specs.declared.Deep.{Deep}
 use Rattle.season.specs.declared.Own.{Own}
-use Rattle.season.specs.Report.{sum, sums, narrow, numbers, fits}
+use Rattle.season.specs.Report.{sum, sums, narrow, numbers, fitsWidths}
 use Rattle.season.specs.Words.{both}
 
 -- count i of both reports together is narrow
@@ -39,7 +39,7 @@ deepOf o = elim (all narrow (numbers o)) [ true ↦ shownDeep o | false ↦ noDe
 
 -- the last three words of the joined report, if it fits
 unfoldable pub planOf : List ℕ → List ℕ → Deep
-planOf ws vs = guard (fits (both ws vs)) noDeep (shownDeep (both ws vs .deepest))
+planOf ws vs = guard (fitsWidths (both ws vs)) noDeep (shownDeep (both ws vs .deepest))
 
 -- the last three words are d's
 unfoldable pub threePut : List ℕ → Deep → List ℕ

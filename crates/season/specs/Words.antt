@@ -8,7 +8,7 @@ use lib.ListN.{length, getD, take}
 use lib.Dec.{eqb}
 use Rattle.basis.specs.Guard.{guard}
 use Rattle.season.specs.declared.Own.{Own}
-use Rattle.season.specs.Report.{Report, join, fits}
+use Rattle.season.specs.Report.{Report, join, fitsWidths}
 use Rattle.season.specs.Season.{share}
 
 -- "no first file is named": where word 26 is 0, words 24 and 25 read as 0 whatever they hold
@@ -36,7 +36,7 @@ both ws vs = join (reportOf ws) (reportOf vs)
 
 -- 10 for a report that is not 27 words; "14 if a count would pass its width": one chain for the number and for the words
 unfoldable pub joinBy : {X : Type 0} → List ℕ → List ℕ → X → X → X → X
-joinBy ws vs short wide done = guard (eqb (length ws) 27) short (guard (eqb (length vs) 27) short (guard (fits (both ws vs)) wide done))
+joinBy ws vs short wide done = guard (eqb (length ws) 27) short (guard (eqb (length vs) 27) short (guard (fitsWidths (both ws vs)) wide done))
 
 -- the number of the answer, by `joinBy`
 abbrev pub joinNumber : List ℕ → List ℕ → ℕ

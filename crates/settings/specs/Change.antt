@@ -6,7 +6,7 @@ use lib.ListN.{length, take, drop}
 use lib.Dec.{eqb, leb}
 use Rattle.basis.specs.Guard.{guard}
 use Rattle.settings.specs.declared.Change.{Change}
-use Rattle.settings.specs.Settings.{table, newestIn, lowest, knows, readOf}
+use Rattle.settings.specs.Settings.{table, newestIn, lowest, knows, settingsOf}
 
 -- "one record, of the lowest version that knows it"
 unfoldable pub recordOf : ℕ → ℕ → List ℕ
@@ -24,7 +24,7 @@ changeBy bad on room used v s c =
     guard (leb 1 v) (bad 12 0)
     (guard (leb v (newestIn table)) (bad 12 0)
     (guard (leb used (length room)) (bad 1 0)
-    (guard (eqb (readOf v (fileIn room used) .number) 0) (bad (readOf v (fileIn room used) .number) (readOf v (fileIn room used) .place))
+    (guard (eqb (settingsOf v (fileIn room used) .number) 0) (bad (settingsOf v (fileIn room used) .number) (settingsOf v (fileIn room used) .place))
     (guard (knows v s c) (bad 3 0)
     (guard (leb (used + 16) 4096) (bad 10 0)
     (guard (leb (used + 16) (length room)) (bad 10 0) on))))))

@@ -28,12 +28,12 @@ abbrev pub table : List Row
 table = row 1 1 0 1 ∷ row 1 2 0 1 ∷ row 2 3 1 2 ∷ []
 
 -- s is the setting n, and c is among the contents from l to h: a row of `table` taken apart
-unfoldable pub fits : ℕ → ℕ → ℕ → ℕ → ℕ → Bool
-fits s c n l h = guard (eqb s n) false (guard (leb l c) false (leb c h))
+unfoldable pub fitsContent : ℕ → ℕ → ℕ → ℕ → ℕ → Bool
+fitsContent s c n l h = guard (eqb s n) false (guard (leb l c) false (leb c h))
 
 -- the row of `table` has the setting s, with c among its contents
 abbrev pub fitsRow : ℕ → ℕ → Row → Bool
-fitsRow s c r = fits s c (r .setting) (r .low) (r .high)
+fitsRow s c r = fitsContent s c (r .setting) (r .low) (r .high)
 
 -- "the lowest version that knows it": the first row that fits; 0 where none does
 unfoldable pub lowestIn : List Row → ℕ → ℕ → ℕ
@@ -61,24 +61,24 @@ newestIn (r ∷ rs) = cond (leb (r .version) (newestIn rs)) (newestIn rs) (r .ve
 -- ---- a record
 
 -- "byte 0 the version of the record, byte 1 the setting, bytes 2 and 3 its content, little-endian, the rest zero"
-pub record Entry : Type 0 where
+pub record Choice : Type 0 where
   pub version : ℕ
   pub setting : ℕ
   pub content : ℕ
   pub rest : List ℕ
 
--- an `Entry`
-abbrev pub entryOf : List ℕ → Entry
-entryOf s = record { version = getD s 0 0; setting = getD s 1 0; content = getD s 2 0 + 256 * getD s 3 0; rest = drop 4 s }
+-- an `Choice`
+abbrev pub choiceOf : List ℕ → Choice
+choiceOf s = record { version = getD s 0 0; setting = getD s 1 0; content = getD s 2 0 + 256 * getD s 3 0; rest = drop 4 s }
 
 -- the first n records of a file: "a file of 16-byte records without a header"
-unfoldable pub cut : ℕ → List ℕ → List Entry
-cut zero s = []
-cut (suc n) s = entryOf (take 16 s) ∷ cut n (drop 16 s)
+unfoldable pub choices : ℕ → List ℕ → List Choice
+choices zero s = []
+choices (suc n) s = choiceOf (take 16 s) ∷ choices n (drop 16 s)
 
 -- all records of a file: "a file of 16-byte records without a header"
-abbrev pub entriesOf : List ℕ → List Entry
-entriesOf file = cut (length file / 16) file
+abbrev pub entriesOf : List ℕ → List Choice
+entriesOf file = choices (length file / 16) file
 
 -- "the rest zero"
 unfoldable pub zeros : List ℕ → Bool
@@ -87,8 +87,8 @@ zeros s = all (eqb 0) s
 -- "3 for shape or content, 18 for an unknown version, per record .. in the order 18, 3"; 0 where the record is good. A version is
 -- unknown to a reader if it is 0 or above the reader's own: "A version 1 reader that meets version 2 refuses with 18. A version 2
 -- reader takes both kinds of record, and an edition setting in a version 1 record is refused."
-unfoldable pub judged : ℕ → Entry → ℕ
-judged reader e =
+unfoldable pub judgedRecord : ℕ → Choice → ℕ
+judgedRecord reader e =
     guard (leb 1 (e .version)) 18
     (guard (leb (e .version) reader) 18
     (guard (knows (e .version) (e .setting) (e .content)) 3
@@ -112,20 +112,20 @@ putBy s c x =
     (cond (eqb s 3) (record { number = x .number; place = x .place; indent = x .indent; simplify = x .simplify; edition = c }) x))
 
 -- the settings with s set to c (`putBy`)
-unfoldable pub put : ℕ → ℕ → Settings → Settings
-put s c x = putBy s c x
+unfoldable pub settingPut : ℕ → ℕ → Settings → Settings
+settingPut s c x = putBy s c x
 
 -- the records from number i on, over the settings so far: "The last record for a setting counts"; "per record (the place)"
-unfoldable pub readFrom : ℕ → List Entry → ℕ → Settings → Settings
-readFrom reader [] i x = x
-readFrom reader (e ∷ es) i x =
-    elim (judged reader e) [ zero ↦ readFrom reader es (suc i) (put (e .setting) (e .content) x) | suc k ↦ refused (suc k) i ]
+unfoldable pub settingsFrom : ℕ → List Choice → ℕ → Settings → Settings
+settingsFrom reader [] i x = x
+settingsFrom reader (e ∷ es) i x =
+    elim (judgedRecord reader e) [ zero ↦ settingsFrom reader es (suc i) (settingPut (e .setting) (e .content) x) | suc k ↦ refused (suc k) i ]
 
 -- a reader of another version than those of the table is 12, before all others; "1 for length", "at most 4,096 bytes"
-unfoldable pub readOf : ℕ → List ℕ → Settings
-readOf reader file =
+unfoldable pub settingsOf : ℕ → List ℕ → Settings
+settingsOf reader file =
     guard (leb 1 reader) (refused 12 0)
     (guard (leb reader (newestIn table)) (refused 12 0)
     (guard (leb (length file) 4096) (refused 1 0)
     (guard (eqb (length file % 16) 0) (refused 1 0)
-    (readFrom reader (entriesOf file) 0 defaults))))
+    (settingsFrom reader (entriesOf file) 0 defaults))))

@@ -3,7 +3,8 @@ use basis::byte;
 ghost use mathlib.Core.Path.{_≡_};
 ghost use Prim.Native.Nat.{_+_, _≤_, _<_};
 ghost use lib.ListN.{length};
-ghost use Rattle.settings.specs.Settings.{fits, lowest, knows, entryOf, entriesOf, zeros, judged, put, refused, defaults, readFrom, readOf};
+ghost use Rattle.settings.specs.Settings.{fitsContent, lowest, knows, choiceOf, entriesOf, zeros, judgedRecord, settingPut, refused, defaults};
+ghost use Rattle.settings.specs.Settings.{settingsFrom, settingsOf};
 ghost use Rattle.settings.specs.Change.{refusal, changeOf, roomOf, appended};
 
 // What a file says: 0 and the three settings, or a refusal with its place and three zeros.
@@ -33,7 +34,7 @@ fn wide64(x: u8) -> u64
 
 // Whether s may be c by a row of the table: its setting, and its contents from low to high.
 fn in_row(s: u64, c: u64, setting: u64, low: u64, high: u64) -> bool
-    ensures { λ r. ⌜ r ≡ fits s c setting low high ⌝ }
+    ensures { λ r. ⌜ r ≡ fitsContent s c setting low high ⌝ }
 {
     if s != setting {
         return false;
@@ -88,21 +89,21 @@ fn all_zero(s: &[u8]) -> bool
 
 // The version of a record.
 fn version_of(s: &[u8]) -> u64
-    ensures { λ r. ⌜ r ≡ entryOf (now (s .entry)) .version ⌝ }
+    ensures { λ r. ⌜ r ≡ choiceOf (now (s .entry)) .version ⌝ }
 {
     wide64(byte(s, 0))
 }
 
 // The setting that a record names.
 fn setting_of(s: &[u8]) -> u64
-    ensures { λ r. ⌜ r ≡ entryOf (now (s .entry)) .setting ⌝ }
+    ensures { λ r. ⌜ r ≡ choiceOf (now (s .entry)) .setting ⌝ }
 {
     wide64(byte(s, 1))
 }
 
 // The content of a record.
 fn content_of(s: &[u8]) -> u64
-    ensures { λ r. ⌜ r ≡ entryOf (now (s .entry)) .content ⌝ }
+    ensures { λ r. ⌜ r ≡ choiceOf (now (s .entry)) .content ⌝ }
 {
     let low = wide64(byte(s, 2));
     let high = wide64(byte(s, 3));
@@ -112,7 +113,7 @@ fn content_of(s: &[u8]) -> u64
 // The bytes behind the content are 0.
 fn rest_zero(s: &[u8]) -> bool
     requires { ⌜ 4 ≤ length (now s) ⌝ }
-    ensures { λ r. ⌜ r ≡ zeros (entryOf (now (s .entry)) .rest) ⌝ }
+    ensures { λ r. ⌜ r ≡ zeros (choiceOf (now (s .entry)) .rest) ⌝ }
 {
     all_zero(&s[4..])
 }
@@ -120,7 +121,7 @@ fn rest_zero(s: &[u8]) -> bool
 // The refusal of a record, or 0.
 fn judge(s: &[u8], reader: u64) -> u64
     requires { ⌜ 4 ≤ length (now s) ⌝ }
-    ensures { λ r. ⌜ r ≡ judged reader (entryOf (now (s .entry))) ⌝ }
+    ensures { λ r. ⌜ r ≡ judgedRecord reader (choiceOf (now (s .entry))) ⌝ }
 {
     let v = version_of(s);
     if v < 1 {
@@ -142,7 +143,7 @@ fn judge(s: &[u8], reader: u64) -> u64
 
 // The settings with s set to c.
 fn with(s: u64, c: u64, x: Settings) -> Settings
-    ensures { λ r. ⌜ r ≡ put s c x ⌝ }
+    ensures { λ r. ⌜ r ≡ settingPut s c x ⌝ }
 {
     if s == 1 {
         return Settings {
@@ -189,7 +190,7 @@ pub fn refuse(number: u64, place: u64) -> Settings
 
 // All records in their order, over the defaults.
 fn read_all(file: &[u8], reader: u64) -> Settings
-    ensures { λ r. ⌜ r ≡ readFrom reader (entriesOf (now (file .entry))) 0 defaults ⌝ }
+    ensures { λ r. ⌜ r ≡ settingsFrom reader (entriesOf (now (file .entry))) 0 defaults ⌝ }
 {
     let n = file.len() / 16;
     let mut x = Settings {
@@ -217,7 +218,7 @@ fn read_all(file: &[u8], reader: u64) -> Settings
 
 // The settings of a file, as a reader of that version takes it.
 pub fn read(file: &[u8], version: u64) -> Settings
-    ensures { λ r. ⌜ r ≡ readOf version (now (file .entry)) ⌝ }
+    ensures { λ r. ⌜ r ≡ settingsOf version (now (file .entry)) ⌝ }
 {
     if version < 1 {
         return refuse(12, 0);

@@ -19,9 +19,10 @@ use Rattle.store.specs.declared.ConflictNode.{ConflictNode}
 use Rattle.store.specs.declared.ConflictNode.the-variants as N
 use Rattle.store.specs.declared.ConflictEdge.{ConflictEdge}
 use Rattle.store.specs.declared.Edge.{Edge}
-use Rattle.store.specs.Graph.{Graph, handing, nodeAt, isSolvable, renumber, renumberEdge, lastOf, front, settle, unreached}
-use Rattle.expansion.specs.Expand.{Build, Step, on, stop, startBuild, expand}
-use Rattle.graph.specs.Graphs.{isLearnt, Turned, go, halt, expanded, coreTurn, handed, turnAt, Built, built, stopped, buildFrom, buildOf, Outcome, drawn, refused, finished, graphOf}
+use Rattle.store.specs.Graph.{Graph, handing, nodeAt, isSolvable, renumber, renumberEdge, lastOne, front, settle, unreached}
+use Rattle.expansion.specs.Expand.{Build, ClauseStep, on, stop, startBuild, expand}
+use Rattle.graph.specs.Graphs.{isLearnt, Turned, go, halt, expanded, coreTurn, handed, turnAt, Built, built, stopped, buildFrom, buildOf, Outcome, drawn}
+use Rattle.graph.specs.Graphs.{refused, reachedAll, graphOf}
 use Rattle.shape.specs.Shaped.{Known, isEnd, fitsTarget, Runs, Shaped, shaped-hand}
 use Rattle.shape.specs.Reared.{Sane, expand-sane, start-sane}
 
@@ -58,14 +59,20 @@ pub record Cut (l : List ConflictNode) : Type 0 where
   pub ys : List ConflictNode
   pub z : ConflictNode
   pub whole : l ≡ snoc ys z
-  pub last-is : lastOf l ≡ z ∷ []
+  pub last-is : lastOne l ≡ z ∷ []
   pub front-is : front l ≡ ys
 
 pub cut : (x : ConflictNode) (l : List ConflictNode) → Cut (x ∷ l)
 cut x [] = record { ys = []; z = x; whole = refl; last-is = refl; front-is = refl }
 cut x (y ∷ l) =
     let c = cut y l in
-    record { ys = x ∷ c .ys; z = c .z; whole = ap (λ (m : List ConflictNode). x ∷ m) (c .whole); last-is = c .last-is; front-is = ap (λ (m : List ConflictNode). x ∷ m) (c .front-is) }
+    record {
+      ys = x ∷ c .ys;
+      z = c .z;
+      whole = ap (λ (m : List ConflictNode). x ∷ m) (c .whole);
+      last-is = c .last-is;
+      front-is = ap (λ (m : List ConflictNode). x ∷ m) (c .front-is);
+    }
 
 distinct-last : (ys : List ConflictNode) (z : ConflictNode) → Distinct (snoc ys z) → (In z ys → ⊥) × Distinct ys
 distinct-last [] z d = (λ i. i, tt)
@@ -91,7 +98,9 @@ graphed-stays T G S =
       once = S .once;
       unresolved = one;
       nodes-most = S .nodes-most;
-      solvables-most = let l : length (G .nodes) ≡ suc (suc (length (S .rest))) = ap length (S .nodes-are) in rw (S .nodes-are) (omega (arith, filter-most (S .rest), S .nodes-most));
+      solvables-most =
+          let l : length (G .nodes) ≡ suc (suc (length (S .rest))) = ap length (S .nodes-are) in
+          rw (S .nodes-are) (omega (arith, filter-most (S .rest), S .nodes-most));
       edges-most = S .edges-most;
       edges = S .edges;
     }
@@ -102,7 +111,8 @@ graphed-stays T G S =
     one : (n : ℕ) → n < length (G .nodes) → getD (G .nodes) n N.Root ≡ N.UnresolvedDependency → n ≡ 1
     one n l e = which n (rw (S .nodes-are) at l) (rw (S .nodes-are) at e)
       where
-        which : (n : ℕ) → n < length (N.Root ∷ N.UnresolvedDependency ∷ S .rest) → getD (N.Root ∷ N.UnresolvedDependency ∷ S .rest) n N.Root ≡ N.UnresolvedDependency → n ≡ 1
+        which : (n : ℕ) → n < length (N.Root ∷ N.UnresolvedDependency ∷ S .rest)
+            → getD (N.Root ∷ N.UnresolvedDependency ∷ S .rest) n N.Root ≡ N.UnresolvedDependency → n ≡ 1
         which zero l e = clash (cc)
         which (suc zero) l e = refl
         which (suc (suc n)) l e = absurd (no-second N.UnresolvedDependency (S .rest) (d .1 .0) n (omega arith) e)
@@ -114,7 +124,8 @@ pub record Moves (ns ms : List ConflictNode) (last : ℕ) : Type 0 where
   pub inside : (x : ℕ) → x < length ns → (x ≡ 1 → ⊥) → renumber last x < length ms
   pub same : (x : ℕ) → x < length ns → (x ≡ 1 → ⊥) → getD ms (renumber last x) N.Root ≡ getD ns x N.Root
 
-runs-moved : (ns ms : List ConflictNode) (last : ℕ) → Moves ns ms last → isEnd (getD ns 1 N.Root) ≡ false → (e : Edge) → Runs ns e → eqb (e .target) 1 ≡ false → Runs ms (renumberEdge last e)
+runs-moved : (ns ms : List ConflictNode) (last : ℕ) → Moves ns ms last → isEnd (getD ns 1 N.Root) ≡ false → (e : Edge) → Runs ns e → eqb (e .target) 1 ≡ false
+    → Runs ms (renumberEdge last e)
 runs-moved ns ms last M f e R t =
     record {
       from = M .inside (e .source) (R .from) source;
@@ -129,7 +140,8 @@ runs-moved ns ms last M f e R t =
     source : e .source ≡ 1 → ⊥
     source q = let z : true ≡ false = sym (R .source-end) ∙ ap (λ (x : ℕ). isEnd (getD ns x N.Root)) q ∙ f in clash (cc)
 
-all-moved : (ns ms : List ConflictNode) (last : ℕ) → Moves ns ms last → isEnd (getD ns 1 N.Root) ≡ false → (es : List Edge) → any (λ e. eqb (e .target) 1) es ≡ false → All (Runs ns) es → All (Runs ms) (map (renumberEdge last) es)
+all-moved : (ns ms : List ConflictNode) (last : ℕ) → Moves ns ms last → isEnd (getD ns 1 N.Root) ≡ false → (es : List Edge)
+    → any (λ e. eqb (e .target) 1) es ≡ false → All (Runs ns) es → All (Runs ms) (map (renumberEdge last) es)
 all-moved ns ms last M f [] q R = tt
 all-moved ns ms last M f (e ∷ es) q R =
     split (eqb (e .target) 1)
@@ -167,17 +179,20 @@ moves-last ys z = record { inside = inside; same = same }
     other (suc zero) l n = absurd (n refl)
     other (suc (suc x)) l n = sym (List·getD-append ys (z ∷ []) N.Root x (omega arith))
 
-    same : (x : ℕ) → x < suc (suc (length (snoc ys z))) → (x ≡ 1 → ⊥) → getD (N.Root ∷ z ∷ ys) (renumber (suc (suc (length ys))) x) N.Root ≡ getD (N.Root ∷ N.UnresolvedDependency ∷ snoc ys z) x N.Root
+    same : (x : ℕ) → x < suc (suc (length (snoc ys z))) → (x ≡ 1 → ⊥)
+        → getD (N.Root ∷ z ∷ ys) (renumber (suc (suc (length ys))) x) N.Root ≡ getD (N.Root ∷ N.UnresolvedDependency ∷ snoc ys z) x N.Root
     same x l n =
         split (eqb x (suc (suc (length ys))))
-        (λ t. rw t (sym (ap (λ (i : ℕ). getD (N.Root ∷ N.UnresolvedDependency ∷ snoc ys z) i N.Root) (eqb-true x (suc (suc (length ys))) t) ∙ getD-append-seam ys z [] N.Root)))
+        (λ t. rw t (sym (ap (λ (i : ℕ). getD (N.Root ∷ N.UnresolvedDependency ∷ snoc ys z) i N.Root) (eqb-true x (suc (suc (length ys))) t)
+        ∙ getD-append-seam ys z [] N.Root)))
         (λ t. let d : x ≡ suc (suc (length ys)) → ⊥ = eqb-false x (suc (suc (length ys))) t in rw t (other x (omega (arith, long, d)) n))
 
 -- fs, c: the nodes' clauses and the one at hand, whatever they are
 abbrev gone : List ConflictNode → List Edge → List ℕ → ℕ → Graph
-gone ns es fs c = record { nodes = N.Root ∷ lastOf (drop 2 ns) ++ front (drop 2 ns); edges = map (renumberEdge (length ns - 1)) es; firsts = fs; hand = c }
+gone ns es fs c = record { nodes = N.Root ∷ lastOne (drop 2 ns) ++ front (drop 2 ns); edges = map (renumberEdge (length ns - 1)) es; firsts = fs; hand = c }
 
-gone-none : (T : Tables) (es : List Edge) (fs : List ℕ) (c : ℕ) → length es ≤ 1024 → any (λ e. eqb (e .target) 1) es ≡ false → All (Runs (N.Root ∷ N.UnresolvedDependency ∷ [])) es → Graphed T (gone (N.Root ∷ N.UnresolvedDependency ∷ []) es fs c)
+gone-none : (T : Tables) (es : List Edge) (fs : List ℕ) (c : ℕ) → length es ≤ 1024 → any (λ e. eqb (e .target) 1) es ≡ false
+    → All (Runs (N.Root ∷ N.UnresolvedDependency ∷ [])) es → Graphed T (gone (N.Root ∷ N.UnresolvedDependency ∷ []) es fs c)
 gone-none T es fs c m q R =
     record {
       tail = [];
@@ -195,7 +210,10 @@ gone-none T es fs c m q R =
     none zero l e = clash (cc)
     none (suc n) l e = let f : ⊥ = omega arith in absurd f
 
-gone-last : (T : Tables) (ys : List ConflictNode) (z : ConflictNode) (es : List Edge) (fs : List ℕ) (c : ℕ) → All (Known T) (N.Root ∷ N.UnresolvedDependency ∷ snoc ys z) → Distinct (N.Root ∷ N.UnresolvedDependency ∷ snoc ys z) → suc (suc (suc (length ys))) ≤ 128 → length es ≤ 1024 → any (λ e. eqb (e .target) 1) es ≡ false → All (Runs (N.Root ∷ N.UnresolvedDependency ∷ snoc ys z)) es → Graphed T (record { nodes = N.Root ∷ z ∷ ys; edges = map (renumberEdge (suc (suc (length ys)))) es; firsts = fs; hand = c })
+gone-last : (T : Tables) (ys : List ConflictNode) (z : ConflictNode) (es : List Edge) (fs : List ℕ) (c : ℕ)
+    → All (Known T) (N.Root ∷ N.UnresolvedDependency ∷ snoc ys z) → Distinct (N.Root ∷ N.UnresolvedDependency ∷ snoc ys z) → suc (suc (suc (length ys))) ≤ 128
+    → length es ≤ 1024 → any (λ e. eqb (e .target) 1) es ≡ false → All (Runs (N.Root ∷ N.UnresolvedDependency ∷ snoc ys z)) es
+    → Graphed T (record { nodes = N.Root ∷ z ∷ ys; edges = map (renumberEdge (suc (suc (length ys)))) es; firsts = fs; hand = c })
 gone-last T ys z es fs c k d l m q R =
     let a = all-last (Known T) ys z (k .1 .1) in
     let b = distinct-last ys z (d .1 .1) in
@@ -215,12 +233,16 @@ gone-last T ys z es fs c k d l m q R =
     rootless i = d .0 (either i (λ e. inr (in-right N.Root ys (z ∷ []) (inl e))) (λ j. inr (in-left N.Root ys (z ∷ []) j)))
 
     gone-in : In N.UnresolvedDependency (N.Root ∷ z ∷ ys) → ⊥
-    gone-in i = either i (λ e. clash (cc)) (λ j. d .1 .0 (either j (λ e. in-right N.UnresolvedDependency ys (z ∷ []) (inl e)) (λ o. in-left N.UnresolvedDependency ys (z ∷ []) o)))
+    gone-in i =
+        either i (λ e. clash (cc)) (λ j. d .1 .0 (either j (λ e. in-right N.UnresolvedDependency ys (z ∷ []) (inl e)) (λ o.
+        in-left N.UnresolvedDependency ys (z ∷ []) o)))
 
     none : (n : ℕ) → n < length (N.Root ∷ z ∷ ys) → getD (N.Root ∷ z ∷ ys) n N.Root ≡ N.UnresolvedDependency → ⊥
     none n h e = no-second N.UnresolvedDependency (N.Root ∷ z ∷ ys) gone-in n h e
 
-gone-by : (T : Tables) (rest : List ConflictNode) (es : List Edge) (fs : List ℕ) (h : ℕ) → All (Known T) (N.Root ∷ N.UnresolvedDependency ∷ rest) → Distinct (N.Root ∷ N.UnresolvedDependency ∷ rest) → suc (suc (length rest)) ≤ 128 → length es ≤ 1024 → any (λ e. eqb (e .target) 1) es ≡ false → All (Runs (N.Root ∷ N.UnresolvedDependency ∷ rest)) es → Graphed T (gone (N.Root ∷ N.UnresolvedDependency ∷ rest) es fs h)
+gone-by : (T : Tables) (rest : List ConflictNode) (es : List Edge) (fs : List ℕ) (h : ℕ) → All (Known T) (N.Root ∷ N.UnresolvedDependency ∷ rest)
+    → Distinct (N.Root ∷ N.UnresolvedDependency ∷ rest) → suc (suc (length rest)) ≤ 128 → length es ≤ 1024 → any (λ e. eqb (e .target) 1) es ≡ false
+    → All (Runs (N.Root ∷ N.UnresolvedDependency ∷ rest)) es → Graphed T (gone (N.Root ∷ N.UnresolvedDependency ∷ rest) es fs h)
 gone-by T [] es fs h k d l m q R = gone-none T es fs h m q R
 gone-by T (x ∷ r) es fs h k d l m q R =
     let c : Cut (x ∷ r) = cut x r in
@@ -239,7 +261,8 @@ graphed-settle T G S =
     split (any (λ e. eqb (e .target) 1) (G .edges))
     (λ t. rw t (graphed-stays T G S))
     (λ t. let p : G .nodes ≡ N.Root ∷ N.UnresolvedDependency ∷ S .rest = S .nodes-are in
-    rw (t, p) (gone-by T (S .rest) (G .edges) (65535 ∷ lastOf (drop 2 (G .firsts)) ++ front (drop 2 (G .firsts))) (G .hand) (rw p at (S .known)) (rw p at (S .once)) (rw p at (S .nodes-most)) (S .edges-most) t (rw p at (S .edges))))
+    rw (t, p) (gone-by T (S .rest) (G .edges) (65535 ∷ lastOne (drop 2 (G .firsts))
+    ++ front (drop 2 (G .firsts))) (G .hand) (rw p at (S .known)) (rw p at (S .once)) (rw p at (S .nodes-most)) (S .edges-most) t (rw p at (S .edges))))
 
 -- ---- all clauses
 
@@ -253,11 +276,14 @@ module _ (T : Tables) (valid : Valid T) where
       (λ u. step (expand T (clauseOf T i) (handed i b)) refl (rw (t, turnAt, u, coreTurn) at e)))
       (λ t. let z : go b ≡ go d = rw (t, turnAt) at e in let y : b ≡ d = cc in rw (← y) P)
     where
-      step : (s : Step) → expand T (clauseOf T i) (handed i b) ≡ s → expanded (expand T (clauseOf T i) (handed i b)) ≡ go d → Sane T d
-      step (on c) q z = let y : go c ≡ go d = rw (q, expanded) at z in let x : c ≡ d = cc in rw (← x) (expand-sane T valid i (handed i b) c (record { shaped = shaped-hand T (b .graph) i (P .shaped); lasts = P .lasts }) q)
+      step : (s : ClauseStep) → expand T (clauseOf T i) (handed i b) ≡ s → expanded (expand T (clauseOf T i) (handed i b)) ≡ go d → Sane T d
+      step (on c) q z =
+          let y : go c ≡ go d = rw (q, expanded) at z in let x : c ≡ d = cc in
+          rw (← x) (expand-sane T valid i (handed i b) c (record { shaped = shaped-hand T (b .graph) i (P .shaped); lasts = P .lasts }) q)
       step stop q z = let y : halt 8 ≡ go d = rw (q, expanded) at z in clash (cc)
 
-  build-step : (n i : ℕ) (b d : Build) → ((c : Build) → Sane T c → buildFrom n T (suc i) c ≡ built d → Sane T d) → Sane T b → (t : Turned) → turnAt T i b ≡ t → buildFrom (suc n) T i b ≡ built d → Sane T d
+  build-step : (n i : ℕ) (b d : Build) → ((c : Build) → Sane T c → buildFrom n T (suc i) c ≡ built d → Sane T d) → Sane T b → (t : Turned) → turnAt T i b ≡ t
+      → buildFrom (suc n) T i b ≡ built d → Sane T d
   unfolding buildFrom
   build-step n i b d f P (go c) q e = f c (turn-sane i b c P q) (rw (q, buildFrom) at e)
   build-step n i b d f P (halt k) q e = let z : stopped k i ≡ built d = rw (q, buildFrom) at e in clash (cc)
@@ -273,15 +299,15 @@ module _ (T : Tables) (valid : Valid T) where
 
   -- the theorem: a drawn graph is as promised, and every node of it is reached
   pub graphed : (G : Graph) → graphOf T ≡ drawn G → Graphed T G × (unreached G ≡ none)
-  unfolding graphOf finished
+  unfolding graphOf reachedAll
   graphed G e = by (buildOf T) refl
     where
       end : (b : Build) → buildOf T ≡ built b → (o : Option ℕ) → unreached (settle (b .graph)) ≡ o → Graphed T G × (unreached G ≡ none)
       end b q none u =
-          let z : drawn (settle (b .graph)) ≡ drawn G = rw (q, graphOf, u, finished) at e in
+          let z : drawn (settle (b .graph)) ≡ drawn G = rw (q, graphOf, u, reachedAll) at e in
           let y : settle (b .graph) ≡ G = cc in
           rw (← y) (settled b q, u)
-      end b q (some n) u = let z : refused 9 n ≡ drawn G = rw (q, graphOf, u, finished) at e in clash (cc)
+      end b q (some n) u = let z : refused 9 n ≡ drawn G = rw (q, graphOf, u, reachedAll) at e in clash (cc)
 
       by : (B : Built) → buildOf T ≡ B → Graphed T G × (unreached G ≡ none)
       by (built b) q = end b q (unreached (settle (b .graph))) refl

@@ -1,3 +1,4 @@
+pub mod Settled
 pub mod Shaped
 pub mod Reared
 pub mod Graphed

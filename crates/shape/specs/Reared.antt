@@ -29,13 +29,16 @@ use Rattle.store.specs.declared.ConflictCause.the-variants as K
 use Rattle.store.specs.declared.ConflictEdge.{ConflictEdge}
 use Rattle.store.specs.declared.ConflictEdge.the-variants as W
 use Rattle.store.specs.Graph.{Graph, Added, added, full, addNode, addLink}
-use Rattle.triples.specs.Triple.{Triple, triple, sameTriple}
+use Rattle.expansion.specs.Triple.{Triple, triple, sameTriple}
 use Rattle.linking.specs.declared.Party.{Party}
 use Rattle.linking.specs.declared.Party.the-variants.{Node, Neither}
-use Rattle.linking.specs.Links.{partyBy, partyOf, asList, nodesOf, solvableIn, nameIn, anyOfIn, parentIn, excludedIn, gateReason, parentReason, excludedReason, partnersOr, requirers, requirersBy, Link, link, Linked, more, short, linkAll, requireLink, requireLinks, requiresOf, excludedLinks, lockLinks, constrainsLinks, previousLinks, forbidAll}
+use Rattle.linking.specs.Links.{partyBy, partyOf, asList, nodesNamed, solvableIn, nameForbidden, anyOfIn, parentIn, excludedIn, gateReason, parentReason}
+use Rattle.linking.specs.Links.{excludedReason, partnersOr, requirers, requirersBy, Link, link, Linked, more, short, linkAll, requireLink, requireLinks}
+use Rattle.linking.specs.Links.{requiresOf, excludedLinks, lockLinks, constrainsLinks, previousLinks, forbidAll}
 use Rattle.expansion.specs.declared.Side.{Side}
 use Rattle.expansion.specs.declared.Side.the-variants.{Parent, Candidate}
-use Rattle.expansion.specs.Expand.{Build, Step, on, stop, startBuild, kept, noted, once, onceAll, tripleBy, triplesOf, others, pair, pairAll, lastly, forbid, forbidIn, expand}
+use Rattle.expansion.specs.Expand.{Build, ClauseStep, on, stop, startBuild, keptBeside, noted, once, onceAll, tripleBy, triplesOf, others, pair, pairAll}
+use Rattle.expansion.specs.Expand.{lastly, forbid, forbidIn, expand}
 use Rattle.expansion.specs.Forbidding.{solvable-below}
 use Rattle.shape.specs.Shaped.{Known, isEnd, fitsTarget, Shaped, Good, shaped-start, shaped-link, shaped-node}
 
@@ -47,7 +50,8 @@ GoodLink T l = Good T (l .source) (l .target) (l .weight)
 abbrev GoodTriple : Tables → Triple → Type 0
 GoodTriple T t = Good T (t .parent) (t .candidate) (W.Conflict (K.Constrains (t .vset)))
 
-link-step : (T : Tables) (l : Link) (ls : List Link) (g h : Graph) → ((k : Graph) → Shaped T k → linkAll ls k ≡ more h → Shaped T h) → Shaped T g → GoodLink T l → (a : Added) → addLink g (l .source) (l .target) (l .weight) ≡ a → linkAll (l ∷ ls) g ≡ more h → Shaped T h
+link-step : (T : Tables) (l : Link) (ls : List Link) (g h : Graph) → ((k : Graph) → Shaped T k → linkAll ls k ≡ more h → Shaped T h) → Shaped T g → GoodLink T l
+    → (a : Added) → addLink g (l .source) (l .target) (l .weight) ≡ a → linkAll (l ∷ ls) g ≡ more h → Shaped T h
 unfolding linkAll
 link-step T l ls g h f P O (added i k) q e = f k (shaped-link T g k (l .source) (l .target) (l .weight) i P O q) (rw (q, linkAll) at e)
 link-step T l ls g h f P O full q e = let z : short ≡ more h = rw (q, linkAll) at e in clash (cc)
@@ -55,22 +59,23 @@ link-step T l ls g h f P O full q e = let z : short ≡ more h = rw (q, linkAll)
 links-shaped : (T : Tables) (ls : List Link) (g h : Graph) → All (GoodLink T) ls → Shaped T g → linkAll ls g ≡ more h → Shaped T h
 unfolding linkAll
 links-shaped T [] g h O P e = let z : g ≡ h = cc in rw (← z) P
-links-shaped T (l ∷ ls) g h O P e = link-step T l ls g h (λ k Q z. links-shaped T ls k h (O .1) Q z) P (O .0) (addLink g (l .source) (l .target) (l .weight)) refl e
+links-shaped T (l ∷ ls) g h O P e =
+    link-step T l ls g h (λ k Q z. links-shaped T ls k h (O .1) Q z) P (O .0) (addLink g (l .source) (l .target) (l .weight)) refl e
 
 -- a build whose graph is shaped, and whose last solvables are known
 pub record Sane (T : Tables) (b : Build) : Type 0 where
   pub shaped : Shaped T (b .graph)
   pub lasts : (n p : ℕ) → getD (b .last) n none ≡ some p → p < length (T .solvables)
 
-kept-sane : (T : Tables) (b d : Build) (ls : List Link) → All (GoodLink T) ls → Sane T b → kept b (linkAll ls (b .graph)) ≡ on d → Sane T d
+kept-sane : (T : Tables) (b d : Build) (ls : List Link) → All (GoodLink T) ls → Sane T b → keptBeside b (linkAll ls (b .graph)) ≡ on d → Sane T d
 kept-sane T b d ls O P e = go (linkAll ls (b .graph)) refl
   where
     go : (l : Linked) → linkAll ls (b .graph) ≡ l → Sane T d
     go (more h) q =
-        let z : on (record { graph = h; last = b .last; made = b .made }) ≡ on d = rw (q, kept) at e in
+        let z : on (record { graph = h; last = b .last; made = b .made }) ≡ on d = rw (q, keptBeside) at e in
         let y : record { graph = h; last = b .last; made = b .made } ≡ d = cc in
         rw (← y) (record { shaped = links-shaped T ls (b .graph) h O (P .shaped) q; lasts = P .lasts })
-    go short q = let z : stop ≡ on d = rw (q, kept) at e in clash (cc)
+    go short q = let z : stop ≡ on d = rw (q, keptBeside) at e in clash (cc)
 
 once-sane : (T : Tables) (b d : Build) (t : Triple) → GoodTriple T t → Sane T b → once b t ≡ on d → Sane T d
 unfolding once
@@ -90,7 +95,8 @@ once-sane T b d t O P e =
         }
     go h full q = let z : noted b t full ≡ on d = rw (h, once, q) at e in clash (cc)
 
-once-step : (T : Tables) (t : Triple) (ts : List Triple) (b d : Build) → ((c : Build) → Sane T c → onceAll ts c ≡ on d → Sane T d) → GoodTriple T t → Sane T b → (s : Step) → once b t ≡ s → onceAll (t ∷ ts) b ≡ on d → Sane T d
+once-step : (T : Tables) (t : Triple) (ts : List Triple) (b d : Build) → ((c : Build) → Sane T c → onceAll ts c ≡ on d → Sane T d) → GoodTriple T t → Sane T b
+    → (s : ClauseStep) → once b t ≡ s → onceAll (t ∷ ts) b ≡ on d → Sane T d
 unfolding onceAll
 once-step T t ts b d f O P (on c) q e = f c (once-sane T b c t O P q) (rw (q, onceAll) at e)
 once-step T t ts b d f O P stop q e = let z : stop ≡ on d = rw (q, onceAll) at e in clash (cc)
@@ -113,7 +119,8 @@ all-map-in : {A B : Type 0} (P : A → Type 0) (Q : B → Type 0) (f : A → B) 
 all-map-in P Q f [] h p = tt
 all-map-in P Q f (x ∷ xs) h p = (h x (p .0), all-map-in P Q f xs h (p .1))
 
-all-concat-in : {A B : Type 0} (P : A → Type 0) (Q : B → Type 0) (f : A → List B) (xs : List A) → ((x : A) → P x → All Q (f x)) → All P xs → All Q (concatMap f xs)
+all-concat-in : {A B : Type 0} (P : A → Type 0) (Q : B → Type 0) (f : A → List B) (xs : List A) → ((x : A) → P x → All Q (f x)) → All P xs
+    → All Q (concatMap f xs)
 all-concat-in P Q f [] h p = tt
 all-concat-in P Q f (x ∷ xs) h p = all-append Q (f x) (concatMap f xs) (h x (p .0)) (all-concat-in P Q f xs h (p .1))
 
@@ -124,8 +131,37 @@ all-or P (x ∷ xs) ys p q = p
 -- the slots that name them
 candidate-slot : (k : ℕ) (s : Shape) → shapeOf k ≡ some s → s .table ≡ Candidates → s .b ≡ S.Names Solvables
 candidate-slot =
-    each-kind (λ o. (s : Shape) → o ≡ some s → s .table ≡ Candidates → s .b ≡ S.Names Solvables)
-    (λ s e h. cc, (λ s e h. cc, (λ s e h. cc, (λ s e h. cc, (λ s e h. cc, (λ s e h. cc, (λ s e h. cc, (λ s e h. cc, (λ s e h. cc, (λ s e h. cc, (λ s e h. cc, (λ s e h. cc, (λ s e h. cc, (λ s e h. cc, (λ s e h. cc, (λ s e h. cc, (λ s e h. cc, (λ s e h. cc, tt))))))))))))))))))
+    each-kind (λ o. (s : Shape) → o ≡ some s → s .table ≡ Candidates → s .b ≡ S.Names Solvables) (
+      λ s e h. cc,
+      (
+        λ s e h. cc,
+        (
+          λ s e h. cc,
+          (
+            λ s e h. cc,
+            (
+              λ s e h. cc,
+              (
+                λ s e h. cc,
+                (
+                  λ s e h. cc,
+                  (
+                    λ s e h. cc,
+                    (
+                      λ s e h. cc,
+                      (
+                        λ s e h. cc,
+                        (λ s e h. cc, (λ s e h. cc, (λ s e h. cc, (λ s e h. cc, (λ s e h. cc, (λ s e h. cc, (λ s e h. cc, (λ s e h. cc, tt)))))))),
+                      ),
+                    ),
+                  ),
+                ),
+              ),
+            ),
+          ),
+        ),
+      ),
+    )
     (λ s e h. cc)
 
 reason-slot : (s : Shape) → shapeOf 17 ≡ some s → s .b ≡ S.Names Reasons
@@ -142,7 +178,8 @@ excluded-kind r a b e =
     split (eqb (r .kind) 21) (λ t. let z : C.ForbidMultipleInstances (r .a) (r .b) ≡ C.Excluded a b = rw (t0, t1, t2, t3, t) at e in clash (cc)) (λ t4.
     split (eqb (r .kind) 22) (λ t. let z : C.Constrains (r .a) (r .b) (r .c) ≡ C.Excluded a b = rw (t0, t1, t2, t3, t4, t) at e in clash (cc)) (λ t5.
     split (eqb (r .kind) 23) (λ t. let z : C.ConstrainsParent (r .a) (r .b) (r .c) ≡ C.Excluded a b = rw (t0, t1, t2, t3, t4, t5, t) at e in clash (cc)) (λ t6.
-    split (eqb (r .kind) 24) (λ t. let z : C.ConstrainsExcluded (r .a) (r .b) (r .c) ≡ C.Excluded a b = rw (t0, t1, t2, t3, t4, t5, t6, t) at e in clash (cc)) (λ t7.
+    split (eqb (r .kind) 24) (λ t. let z : C.ConstrainsExcluded (r .a) (r .b) (r .c) ≡ C.Excluded a b = rw (t0, t1, t2, t3, t4, t5, t6, t) at e in
+    clash (cc)) (λ t7.
     split (eqb (r .kind) 25) (λ t. let z : C.AnyOf (r .a) (r .b) ≡ C.Excluded a b = rw (t0, t1, t2, t3, t4, t5, t6, t7, t) at e in clash (cc)) (λ t8.
     let z : C.Learnt ≡ C.Excluded a b = rw (t0, t1, t2, t3, t4, t5, t6, t7, t8) at e in clash (cc))))))))))
 
@@ -203,7 +240,8 @@ module _ (T : Tables) (valid : Valid T) where
   excluded-end (C.ConstrainsExcluded a b v) = party-end a
   excluded-end (C.AnyOf a b) = tt
 
-  reason-end : (f : Clause → Party) → ((c : Clause) → All (End T) (asList (f c))) → (o : Option ℕ) → All (End T) (asList (elim o [ none ↦ Neither | some i ↦ f (clauseOf T i) ]))
+  reason-end : (f : Clause → Party) → ((c : Clause) → All (End T) (asList (f c))) → (o : Option ℕ)
+      → All (End T) (asList (elim o [ none ↦ Neither | some i ↦ f (clauseOf T i) ]))
   reason-end f h none = tt
   reason-end f h (some i) = h (clauseOf T i)
 
@@ -221,7 +259,7 @@ module _ (T : Tables) (valid : Valid T) where
 
   partners-end : (vs : List ℕ) (p : Party) → All (End T) (asList p) → All (End T) (partnersOr T vs p)
   unfolding partnersOr
-  partners-end vs p h = all-or (End T) (concatMap (nodesOf T) vs) (asList p) (all-concat (End T) (nodesOf T) vs party-end) h
+  partners-end vs p h = all-or (End T) (concatMap (nodesNamed T) vs) (asList p) (all-concat (End T) (nodesNamed T) vs party-end) h
 
   requirers-by : (v : ℕ) (o : Origin) → originOf T v ≡ o → All (End T) (requirersBy T v o)
   requirers-by v O.Root e = ((tt, refl), tt)
@@ -259,7 +297,8 @@ module _ (T : Tables) (valid : Valid T) where
   unfolding candidatesOf
   candidates-below q =
       all-map-in (λ r. r .b < length (T .solvables)) (λ c. c < length (T .solvables)) (λ r. r .b) (filter (λ r. eqb (r .a) q) (T .candidates)) (λ r h. h)
-      (all-filter (λ r. r .b < length (T .solvables)) (λ r. eqb (r .a) q) (T .candidates) (all-at (λ r. r .b < length (T .solvables)) (T .candidates) candidate-below))
+      (all-filter (λ r. r .b < length (T .solvables)) (λ r. eqb (r .a) q) (T .candidates)
+      (all-at (λ r. r .b < length (T .solvables)) (T .candidates) candidate-below))
 
   reason-below : (i a r : ℕ) → clauseOf T i ≡ C.Excluded a r → r < length (T .reasons)
   unfolding clauseOf
@@ -292,8 +331,8 @@ module _ (T : Tables) (valid : Valid T) where
   constrains-good : (a b v : ℕ) → All (GoodLink T) (constrainsLinks T a b v)
   unfolding constrainsLinks
   constrains-good a b v =
-      all-concat-in (End T) (GoodLink T) (λ n. map (λ m. link n m (W.Conflict (K.Constrains v))) (nodesOf T b)) (nodesOf T a)
-      (λ n h. all-map-in (End T) (GoodLink T) (λ m. link n m (W.Conflict (K.Constrains v))) (nodesOf T b)
+      all-concat-in (End T) (GoodLink T) (λ n. map (λ m. link n m (W.Conflict (K.Constrains v))) (nodesNamed T b)) (nodesNamed T a)
+      (λ n h. all-map-in (End T) (GoodLink T) (λ m. link n m (W.Conflict (K.Constrains v))) (nodesNamed T b)
       (λ m k. record { source-known = h .0; target-known = k .0; source-end = h .1; target-fits = k .1 }) (party-end b))
       (party-end a)
 
@@ -317,7 +356,8 @@ module _ (T : Tables) (valid : Valid T) where
 
   pair-by : (side : Side) (b v : ℕ) (r : Party) → All (End T) (asList r) → (c d : Build) → Sane T c → pairAll T side b v r c ≡ on d → Sane T d
   pair-by side b v Neither h c d P e = let z : c ≡ d = cc in rw (← z) P
-  pair-by side b v (Node n) h c d P e = onces-sane T (triplesOf side n v (others T side b)) c d (pairs-good side n v (others T side b) (h .0) (others-end side b)) P e
+  pair-by side b v (Node n) h c d P e =
+      onces-sane T (triplesOf side n v (others T side b)) c d (pairs-good side n v (others T side b) (h .0) (others-end side b)) P e
 
   pair-sane : (side : Side) (a b v : ℕ) (c d : Build) → Sane T c → pair T side a b v c ≡ on d → Sane T d
   unfolding pair
@@ -327,7 +367,8 @@ module _ (T : Tables) (valid : Valid T) where
   previous-good none s h k = tt
   previous-good (some p) s h k = (record { source-known = h p refl; target-known = k; source-end = refl; target-fits = refl }, tt)
 
-  forbid-graph : (g h : Graph) (l : Option ℕ) (s : ℕ) → ((p : ℕ) → l ≡ some p → p < length (T .solvables)) → s < length (T .solvables) → Shaped T g → forbidAll g l s ≡ more h → Shaped T h
+  forbid-graph : (g h : Graph) (l : Option ℕ) (s : ℕ) → ((p : ℕ) → l ≡ some p → p < length (T .solvables)) → s < length (T .solvables) → Shaped T g
+      → forbidAll g l s ≡ more h → Shaped T h
   unfolding forbidAll
   forbid-graph g h l s f k P e = go (addNode g (N.Solvable s)) refl
     where
@@ -357,12 +398,15 @@ module _ (T : Tables) (valid : Valid T) where
       go (more g) q =
           let z : on (record { graph = g; last = set (c .last) n (some s); made = c .made }) ≡ on d = rw (q, lastly) at e in
           let y : record { graph = g; last = set (c .last) n (some s); made = c .made } ≡ d = cc in
-          rw (← y) (record { shaped = forbid-graph (c .graph) g (getD (c .last) n none) s (λ p i. P .lasts n p i) (h .0) (P .shaped) q; lasts = lasts-more (c .last) n s (P .lasts) (h .0) })
+          rw (← y) (record {
+            shaped = forbid-graph (c .graph) g (getD (c .last) n none) s (λ p i. P .lasts n p i) (h .0) (P .shaped) q;
+            lasts = lasts-more (c .last) n s (P .lasts) (h .0);
+          })
       go short q = let z : stop ≡ on d = rw (q, lastly) at e in clash (cc)
 
   forbid-sane : (x y : ℕ) (c d : Build) → Sane T c → forbid T x y c ≡ on d → Sane T d
   unfolding forbid
-  forbid-sane x y c d P e = forbid-by (solvableIn (originOf T x)) (nameIn (originOf T y)) (solvable-in x (originOf T x) refl) c d P e
+  forbid-sane x y c d P e = forbid-by (solvableIn (originOf T x)) (nameForbidden (originOf T y)) (solvable-in x (originOf T x) refl) c d P e
 
   same-sane : (b d : Build) → Sane T b → on b ≡ on d → Sane T d
   same-sane b d P e = let z : b ≡ d = cc in rw (← z) P

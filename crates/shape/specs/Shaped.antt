@@ -69,11 +69,28 @@ pub record Shaped (T : Tables) (G : Graph) : Type 0 where
 
 pub shaped-start : (T : Tables) → Shaped T startGraph
 shaped-start T =
-    record { rest = []; nodes-are = refl; known = (tt, (tt, tt)); once = (λ i. either i (λ e. clash (cc)) (λ z. z), (λ i. i, tt)); nodes-most = omega arith; edges-most = omega arith; edges = tt }
+    record {
+      rest = [];
+      nodes-are = refl;
+      known = (tt, (tt, tt));
+      once = (λ i. either i (λ e. clash (cc)) (λ z. z), (λ i. i, tt));
+      nodes-most = omega arith;
+      edges-most = omega arith;
+      edges = tt;
+    }
 
 -- the clause at hand does not matter
 pub shaped-hand : (T : Tables) (G : Graph) (i : ℕ) → Shaped T G → Shaped T (handing i G)
-shaped-hand T G i S = record { rest = S .rest; nodes-are = S .nodes-are; known = S .known; once = S .once; nodes-most = S .nodes-most; edges-most = S .edges-most; edges = S .edges }
+shaped-hand T G i S =
+    record {
+      rest = S .rest;
+      nodes-are = S .nodes-are;
+      known = S .known;
+      once = S .once;
+      nodes-most = S .nodes-most;
+      edges-most = S .edges-most;
+      edges = S .edges;
+    }
 
 -- ---- a node at the end
 
@@ -86,7 +103,8 @@ runs-more ns ys e R =
       target-fits = rw (List·getD-append ns ys N.Root (e .target) (R .to)) (R .target-fits);
     }
 
-pub place-some : (x : ConflictNode) (ns : List ConflictNode) (a i : ℕ) → place (sameNode x) ns a ≡ some i → (j : ℕ) × (i ≡ a + j) × (j < length ns) × (getD ns j N.Root ≡ x)
+pub place-some : (x : ConflictNode) (ns : List ConflictNode) (a i : ℕ) → place (sameNode x) ns a ≡ some i → (j : ℕ) × (i ≡ a + j) × (j < length ns)
+    × (getD ns j N.Root ≡ x)
 place-some x [] a i e = clash (cc)
 place-some x (n ∷ ns) a i e =
     split (sameNode x n)
@@ -106,7 +124,8 @@ place-none x (n ∷ ns) a e i =
 
 pub distinct-snoc : (l : List ConflictNode) (a : ConflictNode) → Distinct l → (In a l → ⊥) → Distinct (snoc l a)
 distinct-snoc [] a d h = (λ i. i, tt)
-distinct-snoc (x ∷ xs) a d h = (λ i. either (in-append x xs (a ∷ []) i) (d .0) (λ j. either j (λ e. h (inl (sym e))) (λ z. z)), distinct-snoc xs a (d .1) (λ i. h (inr i)))
+distinct-snoc (x ∷ xs) a d h =
+    (λ i. either (in-append x xs (a ∷ []) i) (d .0) (λ j. either j (λ e. h (inl (sym e))) (λ z. z)), distinct-snoc xs a (d .1) (λ i. h (inr i)))
 
 -- what adding a node leaves: h holds x at i, and all that g held
 record Placed (T : Tables) (g h : Graph) (x : ConflictNode) (i : ℕ) : Type 0 where
@@ -183,13 +202,16 @@ pub record Good (T : Tables) (x y : ConflictNode) (w : ConflictEdge) : Type 0 wh
   pub source-end : isEnd x ≡ true
   pub target-fits : fitsTarget w y ≡ true
 
-pub shaped-link : (T : Tables) (g h : Graph) (x y : ConflictNode) (w : ConflictEdge) (i : ℕ) → Shaped T g → Good T x y w → addLink g x y w ≡ added i h → Shaped T h
+pub shaped-link : (T : Tables) (g h : Graph) (x y : ConflictNode) (w : ConflictEdge) (i : ℕ) → Shaped T g → Good T x y w → addLink g x y w ≡ added i h
+    → Shaped T h
 unfolding addLink
 shaped-link T g h x y w i S O e = first (addNode g x) refl
   where
-    last : (j m : ℕ) (k l : Graph) → Placed T g k x j → Placed T k l y m → addEdge l (record { source = j; target = m; weight = w; clause = l .hand }) ≡ added i h → Shaped T h
+    last : (j m : ℕ) (k l : Graph) → Placed T g k x j → Placed T k l y m
+        → addEdge l (record { source = j; target = m; weight = w; clause = l .hand }) ≡ added i h → Shaped T h
     last j m k l A B z =
-        let s : getD (l .nodes) j N.Root ≡ x = ap (λ (ns : List ConflictNode). getD ns j N.Root) (B .grown) ∙ List·getD-append (k .nodes) (B .ys) N.Root j (A .below) ∙ A .here in
+        let s : getD (l .nodes) j N.Root ≡ x = ap (λ (ns : List ConflictNode). getD ns j N.Root) (B .grown)
+        ∙ List·getD-append (k .nodes) (B .ys) N.Root j (A .below) ∙ A .here in
         let b : length (l .nodes) ≡ length (k .nodes) + length (B .ys) = ap length (B .grown) ∙ length-append (k .nodes) (B .ys) in
         shaped-edge T l h (record { source = j; target = m; weight = w; clause = l .hand }) i (B .shaped)
         (record { from = omega (arith, A .below); to = B .below; source-end = rw s (O .source-end); target-fits = rw (B .here) (O .target-fits) }) z

@@ -18,8 +18,9 @@ use Rattle.store.specs.Laws.Direct.{both-parts, entry-one}
 use Rattle.store.specs.Keeping.{oneEdge}
 use Rattle.store.specs.Fan.{linkedBy}
 use Rattle.store.specs.Graph.{Graph, nodeAt, firstAt}
-use Rattle.store.specs.Words.{wordOf, nodeOf, firstOf, edgeWord}
-use Rattle.store.specs.Table.{graphIn, edgeIn, noEdge, Stored, Growing, addedIn, sizeOf, nodes-count, edges-count, node-in, first-in, edge-in, node-read, first-read}
+use Rattle.store.specs.Words.{NodeWord, wordOf, nodeOf, firstClause, edgeWord}
+use Rattle.store.specs.Table.{graphIn, edgeIn, noEdge, Stored, Growing, addedIn, sizeOf, nodes-count, edges-count, node-in, first-in, edge-in, node-read}
+use Rattle.store.specs.Table.{first-read}
 
 size-same : (s t : Size) → s .nodes ≡ t .nodes → s .edges ≡ t .edges → s .hand ≡ t .hand → s ≡ t
 size-same s t p q r =
@@ -29,11 +30,15 @@ size-same s t p q r =
     sized n m h = record { nodes = n; edges = m; hand = h }
 
 -- a word is that of its node, of its edge
-node-word : (g : List ℕ) (s : Size) → Stored g s → (n : ℕ) → n < s .nodes → getD g (1024 + n) 0 ≡ wordOf (nodeAt (graphIn g s) n) + 262144 * firstAt (graphIn g s) n
+node-word : (g : List ℕ) (s : Size) → Stored g s → (n : ℕ) → n < s .nodes
+    → getD g (1024 + n) 0 ≡ wordOf (nodeAt (graphIn g s) n) + 262144 * firstAt (graphIn g s) n
 node-word g s S n h =
-    let z : nodeOf (getD g (1024 + n) 0) ≡ nodeAt (graphIn g s) n = node-read g n (getD g (1024 + n) 0) (nodeOf (getD g (1024 + n) 0)) refl refl (omega (arith, S .nodes-most)) ∙ node-in g s S n h in
-    let y : firstOf (getD g (1024 + n) 0) ≡ firstAt (graphIn g s) n = first-read g n (getD g (1024 + n) 0) refl (omega (arith, S .nodes-most)) ∙ first-in g s S n h in
-    sym (S .word n h) ∙ ap (λ (x : ConflictNode). wordOf x + 262144 * firstOf (getD g (1024 + n) 0)) z ∙ ap (λ (c : ℕ). wordOf (nodeAt (graphIn g s) n) + 262144 * c) y
+    let z : nodeOf (getD g (1024 + n) 0) ≡ nodeAt (graphIn g s) n =
+    node-read g n (getD g (1024 + n) 0) (nodeOf (getD g (1024 + n) 0)) refl refl (omega (arith, S .nodes-most)) ∙ node-in g s S n h in
+    let y : firstClause (getD g (1024 + n) 0) ≡ firstAt (graphIn g s) n = first-read g n (getD g (1024 + n) 0) refl (omega (arith, S .nodes-most))
+    ∙ first-in g s S n h in
+    sym (S .word n h) ∙ ap (λ (x : ConflictNode). wordOf x + 262144 * firstClause (getD g (1024 + n) 0)) z
+    ∙ ap (λ (c : ℕ). wordOf (nodeAt (graphIn g s) n) + 262144 * c) y
 
 edge-word : (g : List ℕ) (s : Size) → Stored g s → (e : ℕ) → e < s .edges → getD g e 0 % 72057594037927936 ≡ edgeWord (getD (graphIn g s .edges) e noEdge)
 unfolding edgeIn
@@ -119,3 +124,7 @@ linked-one s r q e =
     (λ u. let z : At (s .edges) (oneEdge (withNodes s (s .nodes + r))) ≡ At (s .edges) (oneEdge (withNodes s (s .nodes + q))) = rw (t, u) at e in
     let y : s .nodes + r ≡ s .nodes + q = ap (λ (p : Put). sizeOf p .nodes) z in
     omega arith))
+
+-- a node has one word
+pub node-word-one : (x : ConflictNode) (r w : ℕ) → NodeWord x r → NodeWord x w → r ≡ w
+node-word-one x r w p q = p .is ∙ sym (q .is)

@@ -97,10 +97,10 @@ abbrev pub renumberEdge : ℕ → Edge → Edge
 renumberEdge last e = record { source = renumber last (e .source); target = renumber last (e .target); weight = e .weight; clause = e .clause }
 
 -- `slice::last`, as a list of one or of none
-abbrev pub lastOf : {A : Type 0} → List A → List A
-lastOf [] = []
-lastOf (x ∷ []) = x ∷ []
-lastOf (x ∷ y ∷ r) = lastOf (y ∷ r)
+abbrev pub lastOne : {A : Type 0} → List A → List A
+lastOne [] = []
+lastOne (x ∷ []) = x ∷ []
+lastOne (x ∷ y ∷ r) = lastOne (y ∷ r)
 
 -- `slice::split_last`: all but the last
 abbrev pub front : {A : Type 0} → List A → List A
@@ -113,9 +113,9 @@ unfoldable pub settle : Graph → Graph
 settle g =
     cond (any (λ e. eqb (e .target) 1) (g .edges)) g
     (record {
-      nodes = N.Root ∷ lastOf (drop 2 (g .nodes)) ++ front (drop 2 (g .nodes));
+      nodes = N.Root ∷ lastOne (drop 2 (g .nodes)) ++ front (drop 2 (g .nodes));
       edges = map (renumberEdge (length (g .nodes) - 1)) (g .edges);
-      firsts = 65535 ∷ lastOf (drop 2 (g .firsts)) ++ front (drop 2 (g .firsts));
+      firsts = 65535 ∷ lastOne (drop 2 (g .firsts)) ++ front (drop 2 (g .firsts));
       hand = g .hand;
     })
 

@@ -20,7 +20,7 @@ use Rattle.store.specs.Laws.Direct.{edge-same, under-low, under-entry, u
 use Rattle.store.specs.Laws.Direct.{entered-length, entered-node, entered-nodes, entered-edges}
 use Rattle.store.specs.Laws.Direct.{entered-low, entered-own, entered-other}
 use Rattle.store.specs.Graph.{sameNode, withNode, withEdge}
-use Rattle.store.specs.Words.{wordOf, nodeOf, firstOf, edgeWord, edgeOf, EdgeWord, NodeWord}
+use Rattle.store.specs.Words.{wordOf, nodeOf, firstClause, edgeWord, edgeOf, EdgeWord, NodeWord}
 use Rattle.store.specs.Words.{node-back, node-low, first-back, low-back, low-word, same-word}
 use Rattle.store.specs.Numbers.{nodeNumber}
 use Rattle.store.specs.Table.{nodeWords, graphIn, Stored, Growing}
@@ -142,7 +142,7 @@ module _ (g : List ℕ) (s : Size) (x : ConflictNode) (w : ℕ) (S : Stored g s)
     v-node : s .hand < 65536 → nodeOf v ≡ x
     v-node b = node-low w (s .hand) ∙ rw (e .is) (node-back x (e .fits))
 
-    v-first : s .hand < 65536 → firstOf v ≡ s .hand
+    v-first : s .hand < 65536 → firstClause v ≡ s .hand
     v-first b = first-back w (s .hand) (e .small) b
 
     -- the table holds the graph with the node
@@ -152,14 +152,14 @@ module _ (g : List ℕ) (s : Size) (x : ConflictNode) (w : ℕ) (S : Stored g s)
         let a : s .nodes < length (drop 1024 g) = rw length-drop (omega (arith, S .long)) in
         let b : s .edges ≤ 1024 + s .nodes = omega (arith, S .edges-most) in
         let c : nodeOf v ≡ x = v-node f in
-        let d : firstOf v ≡ s .hand = v-first f in
+        let d : firstClause v ≡ s .hand = v-first f in
         rw (entered-nodes one w (s .nodes + 1), entered-edges one w (s .nodes + 1) (s .edges))
         (rw (
           add-one (s .nodes),
           drop-set-add 1024 g (s .nodes) v,
           take-suc-set (drop 1024 g) (s .nodes) v a,
           map-append nodeOf,
-          map-append firstOf,
+          map-append firstClause,
           take-set-le (s .edges) g (1024 + s .nodes) v b,
           c,
           d,
@@ -200,7 +200,7 @@ module _ (g : List ℕ) (s : Size) (x : ConflictNode) (w : ℕ) (S : Stored g s)
         old j b = there j (λ q. omega arith)
 
         words : (j : ℕ) → j < s .nodes + 1
-            → wordOf (nodeOf (getD (nodePut g s w) (1024 + j) 0)) + 262144 * firstOf (getD (nodePut g s w) (1024 + j) 0)
+            → wordOf (nodeOf (getD (nodePut g s w) (1024 + j) 0)) + 262144 * firstClause (getD (nodePut g s w) (1024 + j) 0)
             ≡ getD (nodePut g s w) (1024 + j) 0
         words j h =
             split (eqb j (s .nodes))
@@ -314,7 +314,7 @@ module _ (g : List ℕ) (s : Size) (e : Edge) (w : ℕ) (S : Stored g s) (E : Ed
       }
     where
       words : (j : ℕ) → j < s .nodes
-          → wordOf (nodeOf (getD (set g (s .edges) u) (1024 + j) 0)) + 262144 * firstOf (getD (set g (s .edges) u) (1024 + j) 0)
+          → wordOf (nodeOf (getD (set g (s .edges) u) (1024 + j) 0)) + 262144 * firstClause (getD (set g (s .edges) u) (1024 + j) 0)
           ≡ getD (set g (s .edges) u) (1024 + j) 0
       words j h = rw (apart j l) (S .word j h)
 

@@ -19,8 +19,8 @@ nodeNumber N.UnresolvedDependency = 0
 nodeNumber (N.Excluded r) = r
 
 -- "kind and number as in `ConflictNode`, 0 where it has none": the number is `nodeNumber`
-abbrev pub kindOf : ConflictNode → ℕ
-kindOf N.Root = 0
-kindOf (N.Solvable s) = 1
-kindOf N.UnresolvedDependency = 2
-kindOf (N.Excluded r) = 3
+abbrev pub nodeKind : ConflictNode → ℕ
+nodeKind N.Root = 0
+nodeKind (N.Solvable s) = 1
+nodeKind N.UnresolvedDependency = 2
+nodeKind (N.Excluded r) = 3

@@ -20,8 +20,8 @@ use Rattle.store.specs.declared.Edge.{Edge}
 use Rattle.store.specs.declared.Size.{Size}
 use Rattle.store.specs.Direct.{entryAt, entered}
 use Rattle.store.specs.Laws.Direct.{edge-same, entered-length, entered-node, entered-nodes, entered-edges, entered-low, entered-own, entered-other}
-use Rattle.store.specs.Graph.{renumber, renumberEdge, lastOf, front, settle}
-use Rattle.store.specs.Words.{wordOf, nodeOf, firstOf, edgeWord, edgeOf, weightWord}
+use Rattle.store.specs.Graph.{renumber, renumberEdge, lastOne, front, settle}
+use Rattle.store.specs.Words.{wordOf, nodeOf, firstClause, edgeWord, edgeOf, weightWord}
 use Rattle.store.specs.Table.{nodeWords, graphIn, edgeIn, Stored, Growing, nodes-count}
 
 -- ---- does an edge lead to node 1
@@ -124,7 +124,8 @@ module _ (s t r : ℕ) (hs : s < 256) (ht : t < 256) where
 -- the entry above an edge stays
 entry-renumbered : (last w : ℕ) → renumberWord last w / 72057594037927936 ≡ w / 72057594037927936
 entry-renumbered last w =
-    f5 (renumber last (w % 256)) (renumber last (w / 256 % 256)) (w / 65536) (renumber-small last (w % 256) (omega arith)) (renumber-small last (w / 256 % 256) (omega arith)) w refl
+    f5 (renumber last (w % 256)) (renumber last (w / 256 % 256)) (w / 65536) (renumber-small last (w % 256) (omega arith))
+    (renumber-small last (w / 256 % 256) (omega arith)) w refl
 
 edge-renumbered : (last w : ℕ) → edgeOf (renumberWord last w) ≡ renumberEdge last (edgeOf w)
 edge-renumbered last w =
@@ -151,14 +152,16 @@ module _ (last : ℕ) (g : List ℕ) where
   to-past : (i j : ℕ) → i ≤ j → getD (renumberTo last g i) j 0 ≡ getD g j 0
   unfolding renumberTo
   to-past zero j h = refl
-  to-past (suc i) j h = getD-set-other (renumberTo last g i) i j (renumberWord last (getD (renumberTo last g i) i 0)) 0 (λ q. omega arith) ∙ to-past i j (omega arith)
+  to-past (suc i) j h =
+      getD-set-other (renumberTo last g i) i j (renumberWord last (getD (renumberTo last g i) i 0)) 0 (λ q. omega arith) ∙ to-past i j (omega arith)
 
   to-done : (i j : ℕ) → j < i → i ≤ length g → getD (renumberTo last g i) j 0 ≡ renumberWord last (getD g j 0)
   unfolding renumberTo
   to-done zero j h l = absurd (not-suc-le-zero h)
   to-done (suc i) j h l =
       split (eqb j i)
-      (λ t. rw (eqb-true j i t) (getD-set-same (renumberTo last g i) i (renumberWord last (getD (renumberTo last g i) i 0)) 0 (omega (arith, to-length i)) ∙ ap (renumberWord last) (to-past i i (omega arith))))
+      (λ t. rw (eqb-true j i t) (getD-set-same (renumberTo last g i) i (renumberWord last (getD (renumberTo last g i) i 0)) 0 (omega (arith, to-length i))
+      ∙ ap (renumberWord last) (to-past i i (omega arith))))
       (λ t. let d : j ≡ i → ⊥ = eqb-false j i t in
       getD-set-other (renumberTo last g i) i j (renumberWord last (getD (renumberTo last g i) i 0)) 0 d ∙ to-done i j (omega (arith, d)) (omega arith))
 
@@ -176,7 +179,7 @@ module _ (last : ℕ) (g : List ℕ) where
 
 -- ---- the nodes anew
 
-last-snoc : {A : Type 0} (xs : List A) (x : A) → lastOf (xs ++ (x ∷ [])) ≡ x ∷ []
+last-snoc : {A : Type 0} (xs : List A) (x : A) → lastOne (xs ++ (x ∷ [])) ≡ x ∷ []
 last-snoc [] x = refl
 last-snoc (y ∷ []) x = refl
 last-snoc (y ∷ z ∷ xs) x = last-snoc (z ∷ xs) x
@@ -187,16 +190,23 @@ front-snoc (y ∷ []) x = refl
 front-snoc (y ∷ z ∷ xs) x = rw (front-snoc (z ∷ xs) x)
 
 abbrev moved : {A : Type 0} → A → List A → List A
-moved a xs = a ∷ lastOf (drop 2 xs) ++ front (drop 2 xs)
+moved a xs = a ∷ lastOne (drop 2 xs) ++ front (drop 2 xs)
 
 -- f reads the node, or its clause, off a word; a is the root's
-words-moved : {A : Type 0} (f : ℕ → A) (a : A) (d : List ℕ) (l : ℕ) → f (getD d 0 0) ≡ a → suc l < length d → map f (take (suc l) (set d 1 (getD d (suc l) 0))) ≡ moved a (map f (take (suc (suc l)) d))
+words-moved : {A : Type 0} (f : ℕ → A) (a : A) (d : List ℕ) (l : ℕ) → f (getD d 0 0) ≡ a → suc l < length d
+    → map f (take (suc l) (set d 1 (getD d (suc l) 0))) ≡ moved a (map f (take (suc (suc l)) d))
 words-moved f a [] l z h = let f : ⊥ = omega arith in absurd f
 words-moved f a (x ∷ []) l z h = let f : ⊥ = omega arith in absurd f
 words-moved f a (x ∷ y ∷ r) zero z h = rw z
 words-moved f a (x ∷ y ∷ r) (suc l) z h =
     let q : l < length r = omega arith in
-    rw (z, take-suc r l 0 q, map-append f (take l r) (getD r l 0 ∷ []), last-snoc (map f (take l r)) (f (getD r l 0)), front-snoc (map f (take l r)) (f (getD r l 0)))
+    rw (
+      z,
+      take-suc r l 0 q,
+      map-append f (take l r) (getD r l 0 ∷ []),
+      last-snoc (map f (take l r)) (f (getD r l 0)),
+      front-snoc (map f (take l r)) (f (getD r l 0)),
+    )
 
 -- ---- the table after it: the last node's word at place 1, its own place free, its entry 2, every edge renumbered
 
@@ -214,7 +224,8 @@ unfoldable pub removed : List ℕ → ℕ → ℕ → List ℕ
 removed g last m = gone g last m
 
 -- h is the table with the moved node's new entry, k what the renumbering left
-pub removed-is : (g h k : List ℕ) (last m : ℕ) → k ≡ renumberTo last h m → h ≡ entered (set (set g 1025 (getD g (1024 + last) 0)) (1024 + last) 0) (getD g (1024 + last) 0 % 262144) 2 → k ≡ removed g last m
+pub removed-is : (g h k : List ℕ) (last m : ℕ) → k ≡ renumberTo last h m
+    → h ≡ entered (set (set g 1025 (getD g (1024 + last) 0)) (1024 + last) 0) (getD g (1024 + last) 0 % 262144) 2 → k ≡ removed g last m
 unfolding removed
 removed-is g h k last m e d = rw (e, d)
 
@@ -225,22 +236,26 @@ upper : (s t r w : ℕ) → s < 256 → t < 256 → s + 256 * t + 65536 * r ≡ 
 upper s t r w hs ht q = omega arith
 
 -- a word that is its edge's own, below the entry, stays so
-packed-renumbered : (last w : ℕ) → edgeWord (edgeOf w) ≡ w % 72057594037927936 → edgeWord (edgeOf (renumberWord last w)) ≡ renumberWord last w % 72057594037927936
+packed-renumbered : (last w : ℕ) → edgeWord (edgeOf w) ≡ w % 72057594037927936
+    → edgeWord (edgeOf (renumberWord last w)) ≡ renumberWord last w % 72057594037927936
 packed-renumbered last w q =
     let a : w % 256 + 256 * (w / 256 % 256) + 65536 * (weightWord (edgeOf w .weight) + 16777216 * edgeOf w .clause) ≡ w % 72057594037927936 = q in
-    let z : weightWord (edgeOf w .weight) + 16777216 * edgeOf w .clause ≡ w % 72057594037927936 / 65536 = upper (w % 256) (w / 256 % 256) (weightWord (edgeOf w .weight) + 16777216 * edgeOf w .clause) (w % 72057594037927936) (omega arith) (omega arith) a in
+    let z : weightWord (edgeOf w .weight) + 16777216 * edgeOf w .clause ≡ w % 72057594037927936 / 65536 =
+    upper (w % 256) (w / 256 % 256) (weightWord (edgeOf w .weight) + 16777216 * edgeOf w .clause) (w % 72057594037927936) (omega arith) (omega arith) a in
     let p : w % 72057594037927936 / 65536 + 1099511627776 * (w / 72057594037927936) ≡ w / 65536 = omega arith in
     let l : w % 72057594037927936 / 65536 < 1099511627776 = omega arith in
     ap edgeWord (edge-renumbered last w)
     ∙ ap (λ (n : ℕ). renumber last (w % 256) + 256 * renumber last (w / 256 % 256) + 65536 * n) z
-    ∙ f6 (renumber last (w % 256)) (renumber last (w / 256 % 256)) (w % 72057594037927936 / 65536) (renumber-small last (w % 256) (omega arith)) (renumber-small last (w / 256 % 256) (omega arith)) (w / 72057594037927936) l
+    ∙ f6 (renumber last (w % 256)) (renumber last (w / 256 % 256)) (w % 72057594037927936 / 65536) (renumber-small last (w % 256) (omega arith))
+    (renumber-small last (w / 256 % 256) (omega arith)) (w / 72057594037927936) l
     ∙ ap (λ (n : ℕ). (renumber last (w % 256) + 256 * renumber last (w / 256 % 256) + 65536 * n) % 72057594037927936) p
 
 module _ (g : List ℕ) (s : Size) (P : Growing g s) where
   pub settle-kept : (b : Bool) → b ≡ allBelow (spares g) (s .edges) → not b ≡ true → graphIn g s ≡ settle (graphIn g s)
   unfolding settle graphIn
   settle-kept b q f =
-      let z : any toOne (map edgeOf (take (s .edges) g)) ≡ true = is-true (any toOne (map edgeOf (take (s .edges) g))) (spares-any g (s .edges) (omega (arith, P .stored .long, P .stored .edges-most)) ∙ sym q) in
+      let z : any toOne (map edgeOf (take (s .edges) g)) ≡ true = is-true (any toOne (map edgeOf (take (s .edges) g)))
+      (spares-any g (s .edges) (omega (arith, P .stored .long, P .stored .edges-most)) ∙ sym q) in
       rw z
     where
       is-true : (a : Bool) → not a ≡ b → a ≡ true
@@ -293,7 +308,8 @@ module _ (g : List ℕ) (s : Size) (P : Growing g s) where
     h-length : length h ≡ 1152
     h-length = entered-length (vacated g last) u 2 ∙ bare-length
 
-    gone-words : {A : Type 0} (f : ℕ → A) (y : A) → f 17179607040 ≡ y → map f (take last (drop 1024 (gone g last (s .edges)))) ≡ moved y (map f (take (s .nodes) (drop 1024 g)))
+    gone-words : {A : Type 0} (f : ℕ → A) (y : A) → f 17179607040 ≡ y
+        → map f (take last (drop 1024 (gone g last (s .edges)))) ≡ moved y (map f (take (s .nodes) (drop 1024 g)))
     gone-words f y o =
         let a : last ≡ suc (s .nodes - 2) = omega (arith, P .two) in
         let c : s .nodes ≡ suc (suc (s .nodes - 2)) = omega (arith, P .two) in
@@ -315,22 +331,38 @@ module _ (g : List ℕ) (s : Size) (P : Growing g s) where
     unfolding settle graphIn
     settle-gone =
         let c : length (map nodeOf (nodeWords g (s .nodes))) ≡ s .nodes = nodes-count g s (P .stored) in
-        rw (unled, gone-words nodeOf N.Root refl, gone-words firstOf 65535 refl, gone-edges, c)
+        rw (unled, gone-words nodeOf N.Root refl, gone-words firstClause 65535 refl, gone-edges, c)
 
     settle-stored : Stored (gone g last (s .edges)) (goneSize s)
     settle-stored =
-        record { long = to-length last h (s .edges) ∙ h-length; some = omega (arith, P .two); nodes-most = omega (arith, P .stored .nodes-most); edges-most = P .stored .edges-most; root = first; word = words; no-node = no-node; packed = packed; no-edge = no-edge; source = sources; target = targets; direct = record { told = told; stands = stands } }
+        record {
+          long = to-length last h (s .edges) ∙ h-length;
+          some = omega (arith, P .two);
+          nodes-most = omega (arith, P .stored .nodes-most);
+          edges-most = P .stored .edges-most;
+          root = first;
+          word = words;
+          no-node = no-node;
+          packed = packed;
+          no-edge = no-edge;
+          source = sources;
+          target =
+              targets;
+          direct = record { told = told; stands = stands };
+        }
       where
         past : (j : ℕ) → getD (gone g last (s .edges)) (1024 + j) 0 ≡ getD (vacated g last) (1024 + j) 0
         past j = to-past last h (s .edges) (1024 + j) (omega (arith, P .stored .edges-most)) ∙ entered-node (vacated g last) u 2 j
 
         place : (j : ℕ) → (j ≡ last → ⊥) → (j ≡ 1 → ⊥) → getD (gone g last (s .edges)) (1024 + j) 0 ≡ getD g (1024 + j) 0
         place j d o =
-            past j ∙ getD-set-other k (1024 + last) (1024 + j) 0 0 (λ z. d (omega arith)) ∙ getD-set-other g 1025 (1024 + j) (getD g (1024 + last) 0) 0 (λ z. o (omega arith))
+            past j ∙ getD-set-other k (1024 + last) (1024 + j) 0 0 (λ z. d (omega arith))
+            ∙ getD-set-other g 1025 (1024 + j) (getD g (1024 + last) 0) 0 (λ z. o (omega arith))
 
         one : 1 < last → getD (gone g last (s .edges)) 1025 0 ≡ getD g (1024 + last) 0
         one l =
-            past 1 ∙ getD-set-other k (1024 + last) 1025 0 0 (λ z. omega arith) ∙ getD-set-same g 1025 (getD g (1024 + last) 0) 0 (omega (arith, P .stored .long))
+            past 1 ∙ getD-set-other k (1024 + last) 1025 0 0 (λ z. omega arith)
+            ∙ getD-set-same g 1025 (getD g (1024 + last) 0) 0 (omega (arith, P .stored .long))
 
         free : getD (gone g last (s .edges)) (1024 + last) 0 ≡ 0
         free = past last ∙ getD-set-same k (1024 + last) 0 0 (omega (arith, length-set g 1025 (getD g (1024 + last) 0), P .stored .long, P .stored .nodes-most))
@@ -338,7 +370,8 @@ module _ (g : List ℕ) (s : Size) (P : Growing g s) where
         first : getD (gone g last (s .edges)) 1024 0 ≡ 17179607040
         first = place 0 (λ z. omega (arith, P .two)) (λ z. omega arith) ∙ P .stored .root
 
-        words : (j : ℕ) → j < s .nodes - 1 → wordOf (nodeOf (getD (gone g last (s .edges)) (1024 + j) 0)) + 262144 * firstOf (getD (gone g last (s .edges)) (1024 + j) 0) ≡ getD (gone g last (s .edges)) (1024 + j) 0
+        words : (j : ℕ) → j < s .nodes - 1 → wordOf (nodeOf (getD (gone g last (s .edges)) (1024 + j) 0))
+            + 262144 * firstClause (getD (gone g last (s .edges)) (1024 + j) 0) ≡ getD (gone g last (s .edges)) (1024 + j) 0
         words j l =
             split (eqb j 1)
             (λ t. let y : j ≡ 1 = eqb-true j 1 t in rw (y, one (omega arith)) (P .stored .word last (omega (arith, P .two))))
@@ -391,7 +424,8 @@ module _ (g : List ℕ) (s : Size) (P : Growing g s) where
         other : (j : ℕ) → j < 1024 → (u ≡ 1 + 2 * j → ⊥) → entryAt (gone g last (s .edges)) j ≡ entryAt g j
         other j m d = entry j ∙ entered-other (vacated g last) u 2 j d ∙ ap high (apart j m)
 
-        told : (i j : ℕ) → i < s .nodes - 1 → j < 1024 → getD (gone g last (s .edges)) (1024 + i) 0 % 262144 ≡ 1 + 2 * j → entryAt (gone g last (s .edges)) j ≡ i + 1
+        told : (i j : ℕ) → i < s .nodes - 1 → j < 1024 → getD (gone g last (s .edges)) (1024 + i) 0 % 262144 ≡ 1 + 2 * j
+            → entryAt (gone g last (s .edges)) j ≡ i + 1
         told i j l m z =
             split (eqb i 1)
             (λ t. let y : i ≡ 1 = eqb-true i 1 t in
@@ -404,19 +438,22 @@ module _ (g : List ℕ) (s : Size) (P : Growing g s) where
         second : getD g 1025 0 % 262144 ≡ 2
         second = ap low (P .second)
 
-        stands : (i j : ℕ) → j < 1024 → entryAt (gone g last (s .edges)) j ≡ i + 1 → (i < s .nodes - 1) × (getD (gone g last (s .edges)) (1024 + i) 0 % 262144 ≡ 1 + 2 * j)
+        stands : (i j : ℕ) → j < 1024 → entryAt (gone g last (s .edges)) j ≡ i + 1 → (i < s .nodes - 1)
+            × (getD (gone g last (s .edges)) (1024 + i) 0 % 262144 ≡ 1 + 2 * j)
         stands i j m z =
             split (eqb u (1 + 2 * j))
             (λ t. let y : u ≡ 1 + 2 * j = eqb-true u (1 + 2 * j) t in
             let x : _≡_ {A = ℕ} 2 (i + 1) = sym (own j m y) ∙ z in
             let w : i ≡ 1 = omega arith in
-            let n : last ≡ 1 → ⊥ = λ a. (let b : _≡_ {A = ℕ} 2 (1 + 2 * j) = sym second ∙ ap (λ (n : ℕ). getD g (1024 + n) 0 % 262144) (sym a) ∙ y in omega arith) in
+            let n : last ≡ 1 → ⊥ = λ a. (let b : _≡_ {A = ℕ} 2 (1 + 2 * j) = sym second ∙ ap (λ (n : ℕ). getD g (1024 + n) 0 % 262144) (sym a) ∙ y in
+            omega arith) in
             let l : 1 < last = omega (arith, n, P .two) in
             (rw w l, rw w (ap low (one l) ∙ y)))
             (λ t. let d : u ≡ 1 + 2 * j → ⊥ = eqb-false u (1 + 2 * j) t in
             let x : (i < s .nodes) × (getD g (1024 + i) 0 % 262144 ≡ 1 + 2 * j) = P .stored .direct .stands i j m (sym (other j m d) ∙ z) in
             let a : i ≡ last → ⊥ = λ b. d (ap (λ (n : ℕ). getD g (1024 + n) 0 % 262144) (sym b) ∙ x .1) in
-            let o : i ≡ 1 → ⊥ = λ b. (let c : _≡_ {A = ℕ} 2 (1 + 2 * j) = sym second ∙ ap (λ (n : ℕ). getD g (1024 + n) 0 % 262144) (sym b) ∙ x .1 in omega arith) in
+            let o : i ≡ 1 → ⊥ = λ b. (let c : _≡_ {A = ℕ} 2 (1 + 2 * j) = sym second ∙ ap (λ (n : ℕ). getD g (1024 + n) 0 % 262144) (sym b) ∙ x .1 in
+            omega arith) in
             (omega (arith, a, x .0), ap low (place i a o) ∙ x .1))
 
         sources : (e : ℕ) → e < s .edges → getD (gone g last (s .edges)) e 0 % 256 < 128
@@ -433,7 +470,8 @@ module _ (g : List ℕ) (s : Size) (P : Growing g s) where
             (λ t. rw t (omega (arith, P .two, d, eqb-true (getD g e 0 / 256 % 256) last t)))
             (λ t. rw t (omega (arith, P .stored .target e l, eqb-false (getD g e 0 / 256 % 256) last t))))
 
-module _ (g k : List ℕ) (s : Size) (b : Bool) (e : k ≡ removed g (s .nodes - 1) (s .edges)) (P : Growing g s) (q : b ≡ allBelow (spares g) (s .edges)) (f : not b ≡ false) where
+module _ (g k : List ℕ) (s : Size) (b : Bool) (e : k ≡ removed g (s .nodes - 1) (s .edges)) (P : Growing g s) (q : b
+    ≡ allBelow (spares g) (s .edges)) (f : not b ≡ false) where
   pub gone-graph : graphIn k (goneSize s) ≡ settle (graphIn g s)
   unfolding removed
   gone-graph = rw e (settle-gone g s P b q f)

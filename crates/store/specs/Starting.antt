@@ -8,7 +8,7 @@ use lib.Seq.{take-suc-set, drop-set-add, getD-set-same, getD-set-other}
 use Rattle.store.specs.declared.Size.{Size}
 use Rattle.store.specs.Direct.{entryAt}
 use Rattle.store.specs.Graph.{startGraph}
-use Rattle.store.specs.Words.{wordOf, nodeOf, firstOf}
+use Rattle.store.specs.Words.{wordOf, nodeOf, firstClause}
 use Rattle.store.specs.Table.{graphIn, Growing}
 use Rattle.store.specs.Finding.{wordAt}
 
@@ -78,7 +78,7 @@ start-growing g z =
     second = getD-set-same (set g 1024 17179607040) 1025 17179607042 0 (rw length-set (omega (arith, blank-long g z)))
 
     words : (i : ℕ) → i < 2
-        → wordOf (nodeOf (getD (begun g) (1024 + i) 0)) + 262144 * firstOf (getD (begun g) (1024 + i) 0) ≡ getD (begun g) (1024 + i) 0
+        → wordOf (nodeOf (getD (begun g) (1024 + i) 0)) + 262144 * firstClause (getD (begun g) (1024 + i) 0) ≡ getD (begun g) (1024 + i) 0
     words zero h = rw first
     words (suc zero) h = rw second
     words (suc (suc i)) h = let f : ⊥ = omega arith in absurd f

@@ -23,7 +23,7 @@ use Rattle.store.specs.declared.Put.the-variants.{At, Full}
 use Rattle.store.specs.Direct.{Direct}
 use Rattle.store.specs.Graph.{Graph, handing, nodeAt, firstAt, isSolvable, isUnresolved, isConflict, isExcluded}
 use Rattle.store.specs.Working.{AddedSoFar, addedTo, fullAt}
-use Rattle.store.specs.Words.{wordOf, nodeOf, firstOf, edgeWord, edgeOf, weightOf, byKind, requirementCode}
+use Rattle.store.specs.Words.{wordOf, nodeOf, firstClause, edgeWord, edgeOf, weightOf, byKind, requirementCode}
 use Rattle.store.specs.Words.{solvable-kind, unresolved-kind, requires-is, requires-none}
 use Rattle.store.specs.Words.{conflict-is, conflict-not, excluded-is, excluded-not}
 use Rattle.store.specs.Numbers.{nodeNumber}
@@ -34,7 +34,13 @@ nodeWords g k = take k (drop 1024 g)
 
 -- the graph that a table holds
 unfoldable pub graphIn : List ℕ → Size → Graph
-graphIn g s = record { nodes = map nodeOf (nodeWords g (s .nodes)); edges = map edgeOf (take (s .edges) g); firsts = map firstOf (nodeWords g (s .nodes)); hand = s .hand }
+graphIn g s =
+    record {
+      nodes = map nodeOf (nodeWords g (s .nodes));
+      edges = map edgeOf (take (s .edges) g);
+      firsts = map firstClause (nodeWords g (s .nodes));
+      hand = s .hand;
+    }
 
 -- edge e and node n, as the table holds them
 unfoldable pub edgeIn : List ℕ → ℕ → Edge
@@ -47,7 +53,7 @@ nodeIn g n = guard (ltb n 128) N.Root (nodeOf (getD g (1024 + n) 0))
 -- the clause that first added node n
 unfoldable pub firstIn : List ℕ → ℕ → ℕ
 unfolding guard
-firstIn g n = guard (ltb n 128) 65535 (firstOf (getD g (1024 + n) 0))
+firstIn g n = guard (ltb n 128) 65535 (firstClause (getD g (1024 + n) 0))
 
 -- what a read past the last edge gives
 abbrev pub noEdge : Edge
@@ -62,7 +68,7 @@ pub record Stored (g : List ℕ) (s : Size) : Type 0 where
   pub nodes-most : s .nodes ≤ 128
   pub edges-most : s .edges ≤ 1024
   pub root : getD g 1024 0 ≡ 17179607040
-  pub word : (i : ℕ) → i < s .nodes → wordOf (nodeOf (getD g (1024 + i) 0)) + 262144 * firstOf (getD g (1024 + i) 0) ≡ getD g (1024 + i) 0
+  pub word : (i : ℕ) → i < s .nodes → wordOf (nodeOf (getD g (1024 + i) 0)) + 262144 * firstClause (getD g (1024 + i) 0) ≡ getD g (1024 + i) 0
   pub no-node : (i : ℕ) → s .nodes ≤ i → i < 128 → getD g (1024 + i) 0 ≡ 0
   pub packed : (e : ℕ) → e < s .edges → edgeWord (edgeOf (getD g e 0)) ≡ getD g e 0 % 72057594037927936
   pub no-edge : (e : ℕ) → s .edges ≤ e → e < 1024 → getD g e 0 % 72057594037927936 ≡ 0
@@ -85,7 +91,25 @@ taken s i = record { nodes = s .nodes; edges = s .edges; hand = i }
 pub taken-growing : (g : List ℕ) (s : Size) (i : ℕ) → Growing g s → Growing g (taken s i)
 taken-growing g s i P =
     let S = P .stored in
-    record { stored = record { long = S .long; some = S .some; nodes-most = S .nodes-most; edges-most = S .edges-most; root = S .root; word = S .word; no-node = S .no-node; packed = S .packed; no-edge = S .no-edge; source = S .source; target = S .target; direct = S .direct }; two = P .two; second = P .second; unlike = P .unlike }
+    record {
+      stored = record {
+        long = S .long;
+        some = S .some;
+        nodes-most = S .nodes-most;
+        edges-most = S .edges-most;
+        root = S .root;
+        word = S .word;
+        no-node = S .no-node;
+        packed = S .packed;
+        no-edge = S .no-edge;
+        source = S .source;
+        target = S .target;
+        direct = S .direct;
+      };
+      two = P .two;
+      second = P .second;
+      unlike = P .unlike;
+    }
 
 pub taken-graph : (g : List ℕ) (s : Size) (i : ℕ) → graphIn g (taken s i) ≡ handing i (graphIn g s)
 unfolding graphIn
@@ -136,9 +160,9 @@ module _ (g : List ℕ) (s : Size) (S : Stored g s) where
   unfolding graphIn firstIn guard
   first-in n h =
       rw (lt-ltb n 128 (omega (arith, S .nodes-most)), guard)
-      (sym (getD-default (map firstOf (nodeWords g (s .nodes))) n 65535 0 (rw length-map (rw (length-take-le (s .nodes) (drop 1024 g) nodes-wide) h))
-      ∙ List·getD-map firstOf (nodeWords g (s .nodes)) n 0
-      ∙ ap firstOf (getD-take (s .nodes) (drop 1024 g) n 0 h ∙ getD-drop 1024 g n 0)))
+      (sym (getD-default (map firstClause (nodeWords g (s .nodes))) n 65535 0 (rw length-map (rw (length-take-le (s .nodes) (drop 1024 g) nodes-wide) h))
+      ∙ List·getD-map firstClause (nodeWords g (s .nodes)) n 0
+      ∙ ap firstClause (getD-take (s .nodes) (drop 1024 g) n 0 h ∙ getD-drop 1024 g n 0)))
 
   pub edge-in : (e : ℕ) → e < s .edges → edgeIn g e ≡ getD (graphIn g s .edges) e noEdge
   unfolding graphIn edgeIn
@@ -183,7 +207,8 @@ number-fits g s n =
 -- ---- one word read, and what it tells; w is what the read gave
 
 module _ (g : List ℕ) (e w : ℕ) (q : w ≡ getD g e 0) where
-  pub edge-read : (k : ConflictEdge) → k ≡ weightOf (w / 65536 % 256) (w / 16777216 % 65536) → record { source = w % 256; target = w / 256 % 256; weight = k; clause = w / 1099511627776 % 65536 } ≡ edgeIn g e
+  pub edge-read : (k : ConflictEdge) → k ≡ weightOf (w / 65536 % 256) (w / 16777216 % 65536)
+      → record { source = w % 256; target = w / 256 % 256; weight = k; clause = w / 1099511627776 % 65536 } ≡ edgeIn g e
   unfolding edgeIn
   edge-read k p = rw (p, q)
 
@@ -249,6 +274,20 @@ pub first-none : (g : List ℕ) (n : ℕ) → 128 ≤ n → 65535 ≡ firstIn g 
 unfolding firstIn guard
 first-none g n h = rw (le-ltb n 128 h, guard)
 
-pub ruleset reads = (first-read, first-none, edge-read, source-read, target-read, requires-read, requires-none-read, conflict-not-read, conflict-read, excluded-read, excluded-not-read, node-read, node-none)
+pub ruleset reads = (
+  first-read,
+  first-none,
+  edge-read,
+  source-read,
+  target-read,
+  requires-read,
+  requires-none-read,
+  conflict-not-read,
+  conflict-read,
+  excluded-read,
+  excluded-not-read,
+  node-read,
+  node-none,
+)
 
 pub ruleset kind-reads = (solvable-read, solvable-none, unresolved-read, unresolved-none)

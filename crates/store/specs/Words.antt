@@ -36,8 +36,8 @@ abbrev pub nodeOf : ℕ → ConflictNode
 nodeOf w = byKind (w % 4) (w / 4 % 65536)
 
 -- the clause that first added it
-abbrev pub firstOf : ℕ → ℕ
-firstOf w = w / 262144 % 65536
+abbrev pub firstClause : ℕ → ℕ
+firstClause w = w / 262144 % 65536
 
 -- ---- edges: source + 256 target + 65536 tag + 16777216 number + 1099511627776 clause
 
@@ -57,13 +57,13 @@ abbrev pub tagOf : ConflictEdge → ℕ
 tagOf (W.Requires q) = 0
 tagOf (W.Conflict c) = causeTag c
 
-abbrev pub numberOf : ConflictEdge → ℕ
-numberOf (W.Requires q) = q
-numberOf (W.Conflict c) = causeNumber c
+abbrev pub edgeNumber : ConflictEdge → ℕ
+edgeNumber (W.Requires q) = q
+edgeNumber (W.Conflict c) = causeNumber c
 
 -- tag and number as one number
 abbrev pub weightWord : ConflictEdge → ℕ
-weightWord w = tagOf w + 256 * numberOf w
+weightWord w = tagOf w + 256 * edgeNumber w
 
 abbrev pub weightOf : ℕ → ℕ → ConflictEdge
 weightOf zero n = W.Requires n
@@ -125,11 +125,11 @@ word-by (suc (suc zero)) n h l = omega arith
 word-by (suc (suc (suc k))) n h l = omega arith
 
 -- a word is that of its node with its clause: then it is that of its node without it
-pub low-word : (v : ℕ) → wordOf (nodeOf v) + 262144 * firstOf v ≡ v → wordOf (nodeOf v) ≡ v % 262144
+pub low-word : (v : ℕ) → wordOf (nodeOf v) + 262144 * firstClause v ≡ v → wordOf (nodeOf v) ≡ v % 262144
 low-word v e =
     let h : wordOf (nodeOf v) < 262144 = word-by (v % 4) (v / 4 % 65536) (omega arith) (omega arith) in
-    let z : (wordOf (nodeOf v) + 262144 * firstOf v) % 262144 ≡ v % 262144 = ap (λ (n : ℕ). n % 262144) e in
-    let y : (wordOf (nodeOf v) + 262144 * firstOf v) % 262144 ≡ wordOf (nodeOf v) = low (wordOf (nodeOf v)) (firstOf v) h in
+    let z : (wordOf (nodeOf v) + 262144 * firstClause v) % 262144 ≡ v % 262144 = ap (λ (n : ℕ). n % 262144) e in
+    let y : (wordOf (nodeOf v) + 262144 * firstClause v) % 262144 ≡ wordOf (nodeOf v) = low (wordOf (nodeOf v)) (firstClause v) h in
     sym y ∙ z
   where
     low : (a b : ℕ) → a < 262144 → (a + 262144 * b) % 262144 ≡ a
@@ -137,7 +137,7 @@ low-word v e =
 
 -- a node's word and a clause, apart again
 module _ (a c : ℕ) (h : a < 262144) (l : c < 65536) where
-  pub first-back : firstOf (a + 262144 * c) ≡ c
+  pub first-back : firstClause (a + 262144 * c) ≡ c
   first-back = let z : (a + 262144 * c) / 262144 ≡ c = omega arith in rw z (omega arith)
 
   pub low-back : (a + 262144 * c) % 262144 ≡ a
@@ -163,7 +163,7 @@ same-word x v h e =
 
 -- ---- the round trip of an edge
 
-weight-back : (w : ConflictEdge) → weightOf (tagOf w) (numberOf w) ≡ w
+weight-back : (w : ConflictEdge) → weightOf (tagOf w) (edgeNumber w) ≡ w
 weight-back (W.Requires q) = refl
 weight-back (W.Conflict (C.Locked s)) = refl
 weight-back (W.Conflict (C.Constrains v)) = refl
@@ -210,15 +210,16 @@ module _ (s t g n c : ℕ) (hs : s < 256) (ht : t < 256) (hg : g ≤ 4) (hn : n 
       rw (u2 (g + 256 * n + 16777216 * c), z) (omega arith)
 
 -- v, what a call gave for the weight
-pub edge-back : (e : Edge) (v : ℕ) → v ≡ weightWord (e .weight) → e .source < 256 → e .target < 256 → numberOf (e .weight) < 65536 → e .clause < 65536 → edgeOf (e .source + 256 * e .target + 65536 * (v + 16777216 * e .clause)) ≡ e
+pub edge-back : (e : Edge) (v : ℕ) → v ≡ weightWord (e .weight) → e .source < 256 → e .target < 256 → edgeNumber (e .weight) < 65536 → e .clause < 65536
+    → edgeOf (e .source + 256 * e .target + 65536 * (v + 16777216 * e .clause)) ≡ e
 edge-back e v q hs ht hn hc =
     rw q
     (simp (
-      f0 (e .source) (e .target) (tagOf (e .weight)) (numberOf (e .weight)) (e .clause) hs ht (tag-le (e .weight)) hn hc,
-      f1 (e .source) (e .target) (tagOf (e .weight)) (numberOf (e .weight)) (e .clause) hs ht (tag-le (e .weight)) hn hc,
-      f2 (e .source) (e .target) (tagOf (e .weight)) (numberOf (e .weight)) (e .clause) hs ht (tag-le (e .weight)) hn hc,
-      f3 (e .source) (e .target) (tagOf (e .weight)) (numberOf (e .weight)) (e .clause) hs ht (tag-le (e .weight)) hn hc,
-      f4 (e .source) (e .target) (tagOf (e .weight)) (numberOf (e .weight)) (e .clause) hs ht (tag-le (e .weight)) hn hc,
+      f0 (e .source) (e .target) (tagOf (e .weight)) (edgeNumber (e .weight)) (e .clause) hs ht (tag-le (e .weight)) hn hc,
+      f1 (e .source) (e .target) (tagOf (e .weight)) (edgeNumber (e .weight)) (e .clause) hs ht (tag-le (e .weight)) hn hc,
+      f2 (e .source) (e .target) (tagOf (e .weight)) (edgeNumber (e .weight)) (e .clause) hs ht (tag-le (e .weight)) hn hc,
+      f3 (e .source) (e .target) (tagOf (e .weight)) (edgeNumber (e .weight)) (e .clause) hs ht (tag-le (e .weight)) hn hc,
+      f4 (e .source) (e .target) (tagOf (e .weight)) (edgeNumber (e .weight)) (e .clause) hs ht (tag-le (e .weight)) hn hc,
       weight-back,
     ))
 
@@ -291,7 +292,7 @@ pub record CauseWord (c : ConflictCause) (r : ℕ) : Type 0 where
 
 pub record WeightWord (w : ConflictEdge) (r : ℕ) : Type 0 where
   pub is : r ≡ weightWord w
-  pub fits : numberOf w < 65536
+  pub fits : edgeNumber w < 65536
   pub small : r < 16777216
 
 pub record NodeWord (x : ConflictNode) (r : ℕ) : Type 0 where
@@ -336,10 +337,28 @@ pub record EdgeWord (e : Edge) (r : ℕ) : Type 0 where
   pub small : r < 72057594037927936
 
 -- v, what a call gave for the weight
-pub edge-packed : (e : Edge) (v : ℕ) → WeightWord (e .weight) v → e .source < 256 → e .target < 256 → e .clause < 65536 → EdgeWord e (e .source + 256 * e .target + 65536 * (v + 16777216 * e .clause))
-edge-packed e v q hs ht hc = record { is = ap (λ (n : ℕ). e .source + 256 * e .target + 65536 * (n + 16777216 * e .clause)) (q .is); back = edge-back e v (q .is) hs ht (q .fits) hc; small = omega (arith, q .small) }
+pub edge-packed : (e : Edge) (v : ℕ) → WeightWord (e .weight) v → e .source < 256 → e .target < 256 → e .clause < 65536
+    → EdgeWord e (e .source + 256 * e .target + 65536 * (v + 16777216 * e .clause))
+edge-packed e v q hs ht hc =
+    record {
+      is = ap (λ (n : ℕ). e .source + 256 * e .target + 65536 * (n + 16777216 * e .clause)) (q .is);
+      back = edge-back e v (q .is) hs ht (q .fits) hc;
+      small = omega (arith, q .small);
+    }
 
-pub ruleset packs = (cause-locked, cause-constrains, cause-forbid, cause-excluded, weight-requires, weight-conflict, word-root, word-solvable, word-unresolved, word-excluded, edge-packed)
+pub ruleset packs = (
+  cause-locked,
+  cause-constrains,
+  cause-forbid,
+  cause-excluded,
+  weight-requires,
+  weight-conflict,
+  word-root,
+  word-solvable,
+  word-unresolved,
+  word-excluded,
+  edge-packed,
+)
 
 -- ---- a word taken apart, arm by arm
 

@@ -8,6 +8,7 @@ ghost use Rattle.store.specs.Numbers.{numberOf};
 ghost use Rattle.store.specs.Table.{graphIn, Stored};
 use crate::ConflictNode;
 use crate::Edge;
+use crate::GraphWords;
 use crate::Size;
 use crate::edge_word;
 use crate::enter;
@@ -16,7 +17,7 @@ use crate::find_node;
 use crate::node_word;
 
 // The place of word w among the nodes, or their count: by the direct table, where it has an entry.
-fn find_settled(g: &[u64; 1152], s: Size, w: u64) -> usize
+fn find_settled(g: &GraphWords, s: Size, w: u64) -> usize
     requires { ⌜ Stored (now g) s ⌝ }
     ensures { λ r. ⌜ r ≡ findOf (now (g .entry)) (s .nodes) w ⌝ }
 {
@@ -34,7 +35,7 @@ fn find_settled(g: &[u64; 1152], s: Size, w: u64) -> usize
 }
 
 // The number of the node that stands for x, or the count of nodes where none does.
-pub fn place_of(g: &[u64; 1152], s: Size, x: ConflictNode) -> usize
+pub fn place_of(g: &GraphWords, s: Size, x: ConflictNode) -> usize
     requires { ⌜ Stored (now g) s ⌝ }
     ensures { λ r. ⌜ r ≡ numberOf (graphIn (now (g .entry)) s .nodes) x ⌝ }
 {
@@ -43,7 +44,7 @@ pub fn place_of(g: &[u64; 1152], s: Size, x: ConflictNode) -> usize
 }
 
 // One more node, which was not there.
-pub fn push_node(g: &mut [u64; 1152], s: Size, x: ConflictNode) -> Size
+pub fn push_node(g: &mut GraphWords, s: Size, x: ConflictNode) -> Size
     requires { ⌜ Stored (now g) s ⌝ }
     requires { ⌜ (s .nodes < 128) × (s .nodes ≤ numberOf (graphIn (now g) s .nodes) x) ⌝ }
     ensures { λ r. ⌜ (graphIn (now (g .exit)) r ≡ withNode (graphIn (now (g .entry)) s) x) × Stored (now (g .exit)) r ⌝ }
@@ -61,7 +62,7 @@ pub fn push_node(g: &mut [u64; 1152], s: Size, x: ConflictNode) -> Size
 }
 
 // One more edge, the newest.
-pub fn push_edge(g: &mut [u64; 1152], s: Size, e: Edge) -> Size
+pub fn push_edge(g: &mut GraphWords, s: Size, e: Edge) -> Size
     requires { ⌜ Stored (now g) s ⌝ }
     requires { ⌜ s .edges < 1024 ⌝ }
     requires { ⌜ (e .source < 128) × (e .target < s .nodes) ⌝ }

@@ -9,6 +9,7 @@ ghost use Rattle.store.specs.Table.{graphIn, Growing, addedIn, sizeOf};
 use crate::ConflictEdge;
 use crate::ConflictNode;
 use crate::Edge;
+use crate::GraphWords;
 use crate::Size;
 use crate::edge_word;
 use crate::entry_at;
@@ -18,7 +19,7 @@ use crate::small;
 use basis::wide16;
 
 // One more than the number of the node of solvable c, by the direct table; 0 where that has none, or no entry for c.
-fn known(g: &[u64; 1152], c: u16) -> u64
+fn known(g: &GraphWords, c: u16) -> u64
     ensures { λ r. ⌜ (r ≡ knownAt (now (g .entry)) c) × (r < 256) ⌝ }
 {
     if c < 512 {
@@ -29,7 +30,7 @@ fn known(g: &[u64; 1152], c: u16) -> u64
 }
 
 // The edge; whether there was no room.
-fn put_edge(g: &mut [u64; 1152], s: Size, e: Edge) -> bool
+fn put_edge(g: &mut GraphWords, s: Size, e: Edge) -> bool
     requires { ⌜ Growing (now g) s ⌝ }
     requires { ⌜ (e .source < 128) × (e .target < s .nodes) ⌝ }
     ensures { λ r. ⌜ addedIn (now (g .exit)) (edgeBy s r) ≡ addEdgeIn (graphIn (now (g .entry)) s) e ⌝ }
@@ -46,10 +47,11 @@ fn put_edge(g: &mut [u64; 1152], s: Size, e: Edge) -> bool
 }
 
 // The link to a solvable whose node may have to be added.
-fn link_new(g: &mut [u64; 1152], s: Size, source: u8, c: u16, q: u16) -> usize
+fn link_new(g: &mut GraphWords, s: Size, source: u8, c: u16, q: u16) -> usize
     requires { ⌜ Growing (now g) s ⌝ }
     requires { ⌜ source < 128 ⌝ }
-    ensures { λ r. ⌜ addedIn (now (g .exit)) (linkedBy s r) ≡ addTarget (graphIn (now (g .entry)) s) source (ConflictNode.Solvable c) (ConflictEdge.Requires q) ⌝ }
+    ensures { λ r. ⌜ addedIn (now (g .exit)) (linkedBy s r) ≡ addTarget (graphIn (now (g .entry)) s) source (ConflictNode.Solvable c)
+        (ConflictEdge.Requires q) ⌝ }
     ensures { λ r. ⌜ Growing (now (g .exit)) (sizeOf (linkedBy s r)) × (r ≤ 3) ⌝ }
 {
     let j = put_node(g, s, ConflictNode::Solvable(c));
@@ -77,10 +79,11 @@ fn link_new(g: &mut [u64; 1152], s: Size, source: u8, c: u16, q: u16) -> usize
 }
 
 // The link from node `source` to solvable c: how many nodes it added, 0 or 1, and 2 more where there was no room.
-pub fn link_from(g: &mut [u64; 1152], s: Size, source: u8, c: u16, q: u16) -> usize
+pub fn link_from(g: &mut GraphWords, s: Size, source: u8, c: u16, q: u16) -> usize
     requires { ⌜ Growing (now g) s ⌝ }
     requires { ⌜ source < 128 ⌝ }
-    ensures { λ r. ⌜ addedIn (now (g .exit)) (linkedBy s r) ≡ addTarget (graphIn (now (g .entry)) s) source (ConflictNode.Solvable c) (ConflictEdge.Requires q) ⌝ }
+    ensures { λ r. ⌜ addedIn (now (g .exit)) (linkedBy s r) ≡ addTarget (graphIn (now (g .entry)) s) source (ConflictNode.Solvable c)
+        (ConflictEdge.Requires q) ⌝ }
     ensures { λ r. ⌜ Growing (now (g .exit)) (sizeOf (linkedBy s r)) × (r ≤ 3) ⌝ }
 {
     let k = known(g, c);

@@ -17,6 +17,18 @@ ghost use Rattle.store.specs.Adding.{addTarget};
 ghost use Rattle.store.specs.Direct.{entryAt, entered, more, putAt};
 ghost use Rattle.store.specs.Table.{graphIn, edgeIn, nodeIn, firstIn, Stored, Growing, addedIn, sizeOf, placeOf};
 
+// A number for each node.
+pub type PerNode = [u16; 128];
+
+// Working words, lent to one pass after another; each says how many it takes.
+pub type Scratch = [u64; 1280];
+
+// Chains over a graph: of each node's edges; while it is built, of what building remembers.
+pub type ChainWords = [u16; 3456];
+
+// A graph: 128 words for its nodes, then one an edge.
+pub type GraphWords = [u64; 1152];
+
 // A node (conflict.rs: `ConflictNode`), with the number of the solvable or reason.
 pub enum ConflictNode {
     Root,
@@ -104,7 +116,7 @@ fn edge_word(e: Edge) -> u64
 }
 
 // Edge e, with the default edge where the table holds none.
-pub fn edge_at(g: &[u64; 1152], e: usize) -> Edge
+pub fn edge_at(g: &GraphWords, e: usize) -> Edge
     ensures { λ r. ⌜ r ≡ edgeIn (now (g .entry)) e ⌝ }
 {
     let w = basis::get64(g, e);
@@ -117,20 +129,20 @@ pub fn edge_at(g: &[u64; 1152], e: usize) -> Edge
     }
 }
 
-pub fn source_at(g: &[u64; 1152], e: usize) -> usize
+pub fn source_at(g: &GraphWords, e: usize) -> usize
     ensures { λ r. ⌜ (r ≡ edgeIn (now (g .entry)) e .source) × (r < 256) ⌝ }
 {
     (basis::get64(g, e) % 256) as usize
 }
 
-pub fn target_at(g: &[u64; 1152], e: usize) -> usize
+pub fn target_at(g: &GraphWords, e: usize) -> usize
     ensures { λ r. ⌜ (r ≡ edgeIn (now (g .entry)) e .target) × (r < 256) ⌝ }
 {
     (basis::get64(g, e) / 256 % 256) as usize
 }
 
 // One more than the requirement's number, or 0 for a conflict: conflict.rs's `try_requires` as one number.
-pub fn requires_at(g: &[u64; 1152], e: usize) -> u64
+pub fn requires_at(g: &GraphWords, e: usize) -> u64
     ensures { λ r. ⌜ (r ≡ requirementCode (edgeIn (now (g .entry)) e .weight)) × (r ≤ 65536) ⌝ }
 {
     let w = basis::get64(g, e);
@@ -139,7 +151,7 @@ pub fn requires_at(g: &[u64; 1152], e: usize) -> u64
     if t == 0 { n + 1 } else { 0 }
 }
 
-pub fn conflict_at(g: &[u64; 1152], e: usize) -> bool
+pub fn conflict_at(g: &GraphWords, e: usize) -> bool
     ensures { λ r. ⌜ r ≡ isConflict (edgeIn (now (g .entry)) e .weight) ⌝ }
 {
     let w = basis::get64(g, e);
@@ -147,7 +159,7 @@ pub fn conflict_at(g: &[u64; 1152], e: usize) -> bool
     if t == 0 { false } else { true }
 }
 
-pub fn excluded_at(g: &[u64; 1152], e: usize) -> bool
+pub fn excluded_at(g: &GraphWords, e: usize) -> bool
     ensures { λ r. ⌜ r ≡ isExcluded (edgeIn (now (g .entry)) e .weight) ⌝ }
 {
     let w = basis::get64(g, e);
@@ -155,7 +167,8 @@ pub fn excluded_at(g: &[u64; 1152], e: usize) -> bool
     if 3 < t { true } else { false }
 }
 
-fn node_word(x: ConflictNode) -> u64
+// The word that stands for a node, whatever its clause: what other tables may keep of it.
+pub fn node_word(x: ConflictNode) -> u64
     ensures { λ r. ⌜ NodeWord x r ⌝ }
 {
     match x {
@@ -178,7 +191,7 @@ fn node_of(kind: u64, number: u16) -> ConflictNode
 }
 
 // Node n; the root where the table has no place n.
-pub fn node_at(g: &[u64; 1152], n: usize) -> ConflictNode
+pub fn node_at(g: &GraphWords, n: usize) -> ConflictNode
     ensures { λ r. ⌜ r ≡ nodeIn (now (g .entry)) n ⌝ }
 {
     if n < 128 {
@@ -189,7 +202,7 @@ pub fn node_at(g: &[u64; 1152], n: usize) -> ConflictNode
 }
 
 // Node n is a solvable.
-pub fn solvable_at(g: &[u64; 1152], n: usize) -> bool
+pub fn solvable_at(g: &GraphWords, n: usize) -> bool
     ensures { λ r. ⌜ r ≡ isSolvable (nodeIn (now (g .entry)) n) ⌝ }
 {
     if n < 128 {
@@ -200,7 +213,7 @@ pub fn solvable_at(g: &[u64; 1152], n: usize) -> bool
 }
 
 // Node n is unresolved.
-pub fn unresolved_at(g: &[u64; 1152], n: usize) -> bool
+pub fn unresolved_at(g: &GraphWords, n: usize) -> bool
     ensures { λ r. ⌜ r ≡ isUnresolved (nodeIn (now (g .entry)) n) ⌝ }
 {
     if n < 128 {
@@ -211,7 +224,7 @@ pub fn unresolved_at(g: &[u64; 1152], n: usize) -> bool
 }
 
 // The clause that first added node n; 65,535 for the root, for unresolved, and where the table has no place n.
-pub fn first_at(g: &[u64; 1152], n: usize) -> u16
+pub fn first_at(g: &GraphWords, n: usize) -> u16
     ensures { λ r. ⌜ r ≡ firstIn (now (g .entry)) n ⌝ }
 {
     if n < 128 {
@@ -223,7 +236,7 @@ pub fn first_at(g: &[u64; 1152], n: usize) -> u16
 
 // Root is node 0, unresolved node 1, both with clause 65,535 (at 2^18), since none added them. The table is blank, as a caller's fresh
 // array is.
-pub fn start(g: &mut [u64; 1152]) -> Size
+pub fn start(g: &mut GraphWords) -> Size
     requires { ⌜ now g ≡ replicate 1152 0 ⌝ }
     ensures { λ r. ⌜ (graphIn (now (g .exit)) r ≡ startGraph) × Growing (now (g .exit)) r ⌝ }
 {
@@ -237,7 +250,7 @@ pub fn start(g: &mut [u64; 1152]) -> Size
 }
 
 // The place of word w among the first k nodes, or k; a node's clause is not looked at.
-fn find_node(g: &[u64; 1152], k: usize, w: u64) -> usize
+fn find_node(g: &GraphWords, k: usize, w: u64) -> usize
     requires { ⌜ (length (now g) ≡ 1152) × (k ≤ 128) ⌝ }
     ensures { λ r. ⌜ r ≡ findOf (now (g .entry)) k w ⌝ }
 {
@@ -252,7 +265,7 @@ fn find_node(g: &[u64; 1152], k: usize, w: u64) -> usize
 }
 
 // Entry k of the direct table.
-fn entry_at(g: &[u64; 1152], k: usize) -> u64
+fn entry_at(g: &GraphWords, k: usize) -> u64
     ensures { λ r. ⌜ (r ≡ entryAt (now (g .entry)) k) × (r < 256) ⌝ }
 {
     basis::get64(g, k) / 72057594037927936
@@ -260,7 +273,7 @@ fn entry_at(g: &[u64; 1152], k: usize) -> u64
 
 // The place of word w among the nodes, or their count. Root is node 0 and unresolved node 1 while the graph grows; solvables and reasons
 // below 512, which are all that a file can name, have an entry in the direct table.
-fn find(g: &[u64; 1152], s: Size, w: u64) -> usize
+fn find(g: &GraphWords, s: Size, w: u64) -> usize
     requires { ⌜ Growing (now g) s ⌝ }
     ensures { λ r. ⌜ r ≡ findOf (now (g .entry)) (s .nodes) w ⌝ }
 {
@@ -281,7 +294,7 @@ fn find(g: &[u64; 1152], s: Size, w: u64) -> usize
 }
 
 // The entry of word w in the direct table becomes n, where it has one.
-fn enter(g: &mut [u64; 1152], w: u64, n: u64)
+fn enter(g: &mut GraphWords, w: u64, n: u64)
     requires { ⌜ n < 256 ⌝ }
     ensures { λ _. ⌜ now (g .exit) ≡ entered (now (g .entry)) w n ⌝ }
 {
@@ -297,7 +310,7 @@ fn enter(g: &mut [u64; 1152], w: u64, n: u64)
 }
 
 // The node's number, a new one where it is not there yet; 128 where there is no room.
-fn put_node(g: &mut [u64; 1152], s: Size, x: ConflictNode) -> usize
+fn put_node(g: &mut GraphWords, s: Size, x: ConflictNode) -> usize
     requires { ⌜ Growing (now g) s ⌝ }
     ensures { λ r. ⌜ addedIn (now (g .exit)) (putAt s r) ≡ addNodeIn (graphIn (now (g .entry)) s) x ⌝ }
     ensures { λ r. ⌜ Growing (now (g .exit)) (sizeOf (putAt s r)) × (placeOf (putAt s r) < sizeOf (putAt s r) .nodes) ⌝ }
@@ -326,7 +339,7 @@ fn more(k: usize, i: usize) -> usize
 }
 
 // The node's number, a new one where it is not there yet (conflict.rs: `add_node`).
-pub fn add_node(g: &mut [u64; 1152], s: Size, x: ConflictNode) -> Put
+pub fn add_node(g: &mut GraphWords, s: Size, x: ConflictNode) -> Put
     requires { ⌜ Growing (now g) s ⌝ }
     ensures { λ r. ⌜ addedIn (now (g .exit)) r ≡ addNodeIn (graphIn (now (g .entry)) s) x ⌝ }
     ensures { λ r. ⌜ Growing (now (g .exit)) (sizeOf r) × (placeOf r < sizeOf r .nodes) ⌝ }
@@ -346,7 +359,7 @@ pub fn add_node(g: &mut [u64; 1152], s: Size, x: ConflictNode) -> Put
     )
 }
 
-fn add_edge(g: &mut [u64; 1152], s: Size, e: Edge) -> Put
+fn add_edge(g: &mut GraphWords, s: Size, e: Edge) -> Put
     requires { ⌜ Growing (now g) s ⌝ }
     requires { ⌜ (e .source < 128) × (e .target < s .nodes) ⌝ }
     ensures { λ r. ⌜ addedIn (now (g .exit)) r ≡ addEdgeIn (graphIn (now (g .entry)) s) e ⌝ }
@@ -377,7 +390,7 @@ fn small(i: usize) -> u8
 }
 
 // The target, then the edge from node `source`.
-fn link_to(g: &mut [u64; 1152], s: Size, source: u8, y: ConflictNode, w: ConflictEdge) -> Put
+fn link_to(g: &mut GraphWords, s: Size, source: u8, y: ConflictNode, w: ConflictEdge) -> Put
     requires { ⌜ Growing (now g) s ⌝ }
     requires { ⌜ source < 128 ⌝ }
     ensures { λ r. ⌜ addedIn (now (g .exit)) r ≡ addTarget (graphIn (now (g .entry)) s) source y w ⌝ }
@@ -404,7 +417,7 @@ fn link_to(g: &mut [u64; 1152], s: Size, source: u8, y: ConflictNode, w: Conflic
 }
 
 // Both ends, the source first, then the edge.
-pub fn link(g: &mut [u64; 1152], s: Size, x: ConflictNode, y: ConflictNode, w: ConflictEdge) -> Put
+pub fn link(g: &mut GraphWords, s: Size, x: ConflictNode, y: ConflictNode, w: ConflictEdge) -> Put
     requires { ⌜ Growing (now g) s ⌝ }
     ensures { λ r. ⌜ addedIn (now (g .exit)) r ≡ addLinkIn (graphIn (now (g .entry)) s) x y w ⌝ }
     ensures { λ r. ⌜ Growing (now (g .exit)) (sizeOf r) ⌝ }
@@ -424,7 +437,7 @@ pub fn link(g: &mut [u64; 1152], s: Size, x: ConflictNode, y: ConflictNode, w: C
 }
 
 // No edge leads to node 1.
-fn spared(g: &[u64; 1152], m: usize) -> bool
+fn spared(g: &GraphWords, m: usize) -> bool
     ensures { λ r. ⌜ r ≡ allBelow (spares (now (g .entry))) m ⌝ }
 {
     let mut i: usize = 0;
@@ -454,7 +467,7 @@ fn renumbered_word(w: u64, last: u64) -> u64
     s + 256 * t + 65536 * (w / 65536)
 }
 
-fn renumber_all(g: &mut [u64; 1152], m: usize, last: u64)
+fn renumber_all(g: &mut GraphWords, m: usize, last: u64)
     requires { ⌜ m ≤ 1024 ⌝ }
     ensures { λ _. ⌜ now (g .exit) ≡ renumberTo last (now (g .entry)) m ⌝ }
 {
@@ -468,7 +481,7 @@ fn renumber_all(g: &mut [u64; 1152], m: usize, last: u64)
 }
 
 // Node 1 goes, and node `last` takes its number, in the direct table and at the ends of the m edges too (petgraph: `remove_node`).
-fn remove(g: &mut [u64; 1152], last: usize, m: usize)
+fn remove(g: &mut GraphWords, last: usize, m: usize)
     requires { ⌜ (last < 128) × (m ≤ 1024) ⌝ }
     ensures { λ _. ⌜ now (g .exit) ≡ removed (now (g .entry)) last m ⌝ }
 {
@@ -480,7 +493,7 @@ fn remove(g: &mut [u64; 1152], last: usize, m: usize)
 }
 
 // Unresolved goes if no edge leads to it, and the last node takes number 1.
-pub fn settle(g: &mut [u64; 1152], s: Size) -> Size
+pub fn settle(g: &mut GraphWords, s: Size) -> Size
     requires { ⌜ Growing (now g) s ⌝ }
     ensures { λ r. ⌜ (graphIn (now (g .exit)) r ≡ settle (graphIn (now (g .entry)) s)) × Stored (now (g .exit)) r ⌝ }
 {

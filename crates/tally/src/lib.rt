@@ -1,5 +1,7 @@
 // The counts of a graph that a season's report adds up (document 02, order 8), from the plan before an edition reads it and the labels' table.
 use basis::get16;
+use store::PerNode;
+use store::Scratch;
 use store::Size;
 ghost use mathlib.Core.Path.{_≡_};
 ghost use Prim.Native.Nat.{_≤_};
@@ -22,14 +24,14 @@ fn wide(x: usize) -> u64
 }
 
 // Node i is labelled missing.
-fn lacks(marks: &[u16; 128], i: usize) -> bool
+fn lacks(marks: &PerNode, i: usize) -> bool
     ensures { λ r. ⌜ r ≡ missAt (now (marks .entry)) i ⌝ }
 {
     1 < get16(marks, i)
 }
 
 // Node i is the first member of a group.
-fn leads(p: &[u64; 1280], i: usize) -> bool
+fn leads(p: &Scratch, i: usize) -> bool
     ensures { λ r. ⌜ r ≡ leadsIn (now (p .entry)) i ⌝ }
 {
     if !plan::merged(p, i) {
@@ -47,7 +49,7 @@ fn bump(c: usize, t: bool) -> usize
 }
 
 // How many of the first n nodes are labelled missing.
-fn count_missing(marks: &[u16; 128], n: usize) -> usize
+fn count_missing(marks: &PerNode, n: usize) -> usize
     requires { ⌜ n ≤ 128 ⌝ }
     ensures { λ r. ⌜ r ≡ passing (missAt (now (marks .entry))) n 0 ⌝ }
 {
@@ -62,7 +64,7 @@ fn count_missing(marks: &[u16; 128], n: usize) -> usize
 }
 
 // How many groups the first n nodes have.
-fn count_groups(p: &[u64; 1280], n: usize) -> usize
+fn count_groups(p: &Scratch, n: usize) -> usize
     requires { ⌜ n ≤ 128 ⌝ }
     ensures { λ r. ⌜ r ≡ passing (leadsIn (now (p .entry))) n 0 ⌝ }
 {
@@ -89,7 +91,7 @@ pub fn none() -> Counts
 }
 
 // The counts of the graph whose plan is p and whose labels are `marks`.
-pub fn count(p: &[u64; 1280], marks: &[u16; 128], s: Size) -> Counts
+pub fn count(p: &Scratch, marks: &PerNode, s: Size) -> Counts
     requires { ⌜ s .nodes ≤ 128 ⌝ }
     ensures { λ r. ⌜ r ≡ countsIn (now (p .entry)) (now (marks .entry)) s ⌝ }
 {

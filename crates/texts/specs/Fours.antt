@@ -13,10 +13,10 @@ use borrow.Author.Tests.{lt-ltb, le-ltb, ltb-false}
 use borrow.Rule.Slice.PartMut.{putMid}
 use Rattle.basis.specs.Members.{split}
 use Rattle.texts.specs.Indent.{older}
-use Rattle.texts.specs.Marks.{digit, bit}
+use Rattle.texts.specs.MarkBits.{digit, bit}
 use Rattle.texts.specs.Wrote.{Wrote}
 use Rattle.texts.specs.Laws.Wrote.{behind}
-use Rattle.texts.specs.Pieces.{bytesOf, pairWord, pairBytes, Laid, Near, laid-near, near-more}
+use Rattle.texts.specs.Pieces.{bytesOf, pairWord, pairBytes, BytesLaid, Near, laid-near, near-more}
 use Rattle.texts.specs.Shown.{levelsFrom, levels-least}
 use Rattle.texts.specs.Small.{pair-is, front-two, size-two}
 
@@ -161,19 +161,19 @@ module _ (ws : List ℕ) (i k c : ℕ) (o : List ℕ) where
   two-room h g r =
       let e = step-two k c h g in let l : 3 * 2 ≤ length (levelsFrom ws i 2) = levels-least ws i 2 in let q = rw (← e) at r in omega arith
 
-  pub one-near : {bs d : List ℕ} {r : ℕ} → Laid (older (bit ws i)) bs o d r → k < 2 → Near (levelsFrom ws i (fewOf k c)) o d r
+  pub one-near : {bs d : List ℕ} {r : ℕ} → BytesLaid (older (bit ws i)) bs o d r → k < 2 → Near (levelsFrom ws i (fewOf k c)) o d r
   unfolding levelsFrom
   one-near v h = rw (← step-one k c h, append-nil) (laid-near v)
 
-  two-levels : {bs d : List ℕ} {r : ℕ} → Laid (older (bit ws i) ++ older (bit ws (i + 1))) bs o d r → Near (levelsFrom ws i 2) o d r
+  two-levels : {bs d : List ℕ} {r : ℕ} → BytesLaid (older (bit ws i) ++ older (bit ws (i + 1))) bs o d r → Near (levelsFrom ws i 2) o d r
   unfolding levelsFrom
   two-levels v = rw append-nil (laid-near v)
 
-  pub few-near : {bs d : List ℕ} {r : ℕ} → Laid (older (bit ws i) ++ older (bit ws (i + 1))) bs o d r → k < 4 → 2 ≤ k
+  pub few-near : {bs d : List ℕ} {r : ℕ} → BytesLaid (older (bit ws i) ++ older (bit ws (i + 1))) bs o d r → k < 4 → 2 ≤ k
       → Near (levelsFrom ws i (fewOf k c)) o d r
   few-near v h g = rw (← step-few k c h g) (two-levels v)
 
-  pub two-near : {bs d : List ℕ} {r : ℕ} → Laid (older (bit ws i) ++ older (bit ws (i + 1))) bs o d r → 16 ≤ c → 4 ≤ k
+  pub two-near : {bs d : List ℕ} {r : ℕ} → BytesLaid (older (bit ws i) ++ older (bit ws (i + 1))) bs o d r → 16 ≤ c → 4 ≤ k
       → Near (levelsFrom ws i (fewOf k c)) o d r
   two-near v h g = rw (← step-two k c h g) (two-levels v)
 

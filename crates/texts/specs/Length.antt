@@ -14,8 +14,8 @@ use lib.Dec.{eqb, lit<}
 use mir.Syntax.{w64}
 use mir.Val.{Fits}
 use Rattle.texts.specs.Indent.{older, deepest, above, indent}
-use Rattle.texts.specs.Marks.{digit, bit, marksAt}
-use Rattle.texts.specs.Shown.{firstOf, aboveText, next, own-of, own-none, deepest-size}
+use Rattle.texts.specs.MarkBits.{digit, bit, marksAt}
+use Rattle.texts.specs.Shown.{shownFirst, aboveText, next, own-of, own-none, deepest-size}
 
 -- how many marks are last
 unfoldable pub lastCount : List Bool → ℕ
@@ -92,21 +92,21 @@ unfolding older
 older-most true = omega arith
 older-most false = omega arith
 
-above-none : (top : Bool) (ws : List ℕ) → length (aboveText top ws (firstOf top)) ≡ 0
-unfolding aboveText above marksAt firstOf
+above-none : (top : Bool) (ws : List ℕ) → length (aboveText top ws (shownFirst top)) ≡ 0
+unfolding aboveText above marksAt shownFirst
 above-none true ws = refl
 above-none false ws = refl
 
 above-length : (top : Bool) (ws : List ℕ) (k : ℕ)
-    → (length (aboveText top ws (firstOf top + k)) + 2 * lastCount (marksAt ws (firstOf top + k)) ≡ 5 * k + 2 * lastCount (marksAt ws (firstOf top)))
-    × (length (aboveText top ws (firstOf top + k)) ≤ 5 * k)
+    → (length (aboveText top ws (shownFirst top + k)) + 2 * lastCount (marksAt ws (shownFirst top + k)) ≡ 5 * k + 2 * lastCount (marksAt ws (shownFirst top)))
+    × (length (aboveText top ws (shownFirst top + k)) ≤ 5 * k)
 unfolding marksAt
 above-length top ws zero =
-    let z : firstOf top + 0 ≡ firstOf top = omega arith in
+    let z : shownFirst top + 0 ≡ shownFirst top = omega arith in
     (rw z (omega (arith, above-none top ws)), rw z (omega (arith, above-none top ws)))
 above-length top ws (suc k) =
-    let i = firstOf top + k in
-    let z : firstOf top + suc k ≡ suc (firstOf top + k) = omega arith in
+    let i = shownFirst top + k in
+    let z : shownFirst top + suc k ≡ suc (shownFirst top + k) = omega arith in
     let ih = above-length top ws k in
     let g : length (aboveText top ws (suc i)) ≡ length (aboveText top ws i) + length (older (bit ws i)) =
     ap length (next top ws i (omega arith)) ∙ length-append (aboveText top ws i) (older (bit ws i)) in (
@@ -116,29 +116,29 @@ above-length top ws (suc k) =
 
 -- ---- ways out of `length_of`; f is what `first` gave, a and s count the last marks above the line and those not shown
 
-length-is : (top : Bool) (ws : List ℕ) (c f : ℕ) → f < c → f ≡ firstOf top
+length-is : (top : Bool) (ws : List ℕ) (c f : ℕ) → f < c → f ≡ shownFirst top
     → (length (indent top (marksAt ws c)) + 2 * lastCount (marksAt ws (c - 1)) ≡ 5 * (c - 1 - f) + 7 + 2 * lastCount (marksAt ws f))
     × (length (indent top (marksAt ws c)) ≤ 5 * (c - 1 - f) + 7)
 length-is top ws c f h e =
     let m = bit ws (c - 1) in
     let t = aboveText top ws (c - 1) in
-    let z : firstOf top + (c - 1 - f) ≡ c - 1 = omega arith in
+    let z : shownFirst top + (c - 1 - f) ≡ c - 1 = omega arith in
     let g = rw z at (above-length top ws (c - 1 - f)) in
     let l : length (indent top (marksAt ws c)) ≡ length t + 7 =
     ap length (own-of top ws c f h e) ∙ length-append t (deepest m) ∙ ap (λ (n : ℕ). length t + n) (deepest-size m) in
     (rw (l, e) (omega (arith, g .0)), rw l (omega (arith, g .1)))
 
-pub length-none : (top : Bool) (ws : List ℕ) (c f : ℕ) → c ≤ f → f ≡ firstOf top → 0 ≡ length (indent top (marksAt ws c))
+pub length-none : (top : Bool) (ws : List ℕ) (c f : ℕ) → c ≤ f → f ≡ shownFirst top → 0 ≡ length (indent top (marksAt ws c))
 length-none top ws c f h e = rw (own-none top ws (c) (omega arith))
 
-pub length-less : (top : Bool) (ws : List ℕ) (c f a s : ℕ) → f < c → f ≡ firstOf top → a ≡ lastCount (marksAt ws (c - 1))
+pub length-less : (top : Bool) (ws : List ℕ) (c f a s : ℕ) → f < c → f ≡ shownFirst top → a ≡ lastCount (marksAt ws (c - 1))
     → s ≡ lastCount (marksAt ws f) → 2 * a ≤ 5 * (c - 1 - f) + 7 + 2 * s
 length-less top ws c f a s h e p q = omega (arith, length-is top ws c f h e .0)
 
-pub length-some : (top : Bool) (ws : List ℕ) (c f a s : ℕ) → f < c → f ≡ firstOf top → a ≡ lastCount (marksAt ws (c - 1))
+pub length-some : (top : Bool) (ws : List ℕ) (c f a s : ℕ) → f < c → f ≡ shownFirst top → a ≡ lastCount (marksAt ws (c - 1))
     → s ≡ lastCount (marksAt ws f) → 5 * (c - 1 - f) + 7 + 2 * s - 2 * a ≡ length (indent top (marksAt ws c))
 length-some top ws c f a s h e p q = omega (arith, length-is top ws c f h e .0)
 
-pub length-most : (top : Bool) (ws : List ℕ) (c f a s : ℕ) → f < c → f ≡ firstOf top → a ≡ lastCount (marksAt ws (c - 1))
+pub length-most : (top : Bool) (ws : List ℕ) (c f a s : ℕ) → f < c → f ≡ shownFirst top → a ≡ lastCount (marksAt ws (c - 1))
     → s ≡ lastCount (marksAt ws f) → c ≤ 4160 → 5 * (c - 1 - f) + 7 + 2 * s - 2 * a ≤ 20802
 length-most top ws c f a s h e p q l = omega (arith, length-is top ws c f h e .0, length-is top ws c f h e .1)

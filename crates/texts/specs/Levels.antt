@@ -11,7 +11,8 @@ use lib.Seq.{getD-set-same, getD-set-other, drop-drop, drop-append-seam}
 use lib.Dec.{eqb, ltb}
 use borrow.Author.Tests.{eqb-true, eqb-false, ltb-true, ltb-false, lt-ltb, le-ltb, eq-eqb, ne-eqb}
 use Rattle.basis.specs.Members.{split}
-use Rattle.texts.specs.Marks.{digit, bit, marksAt, marksOf, pushed, lastSet, upper, keptOf, marked, putAt, lastAt, levelCount, levelWords, digit-same, digit-low}
+use Rattle.texts.specs.MarkBits.{digit, bit, marksAt, marksIn, pushed, lastSet, upper, keptOf, marked, putAt, lastAt, levelCount, levelWords, digit-same}
+use Rattle.texts.specs.MarkBits.{digit-low}
 use Rattle.texts.specs.declared.Indenter.{Indenter}
 
 -- ---- words
@@ -57,24 +58,24 @@ marks-drop ws (suc d) (suc n) = let z : suc n - suc d ≡ n - d = omega arith in
 
 -- ---- ways out
 
-pub marks-count : (x : Indenter) → length (marksOf x) ≡ x .count
-unfolding marksOf
+pub marks-count : (x : Indenter) → length (marksIn x) ≡ x .count
+unfolding marksIn
 marks-count x = marks-length (x .levels) (x .count)
 
-pub push-full : (x : Indenter) (m : Bool) → 4160 ≤ x .count → marksOf x ≡ pushed m (marksOf x)
+pub push-full : (x : Indenter) (m : Bool) → 4160 ≤ x .count → marksIn x ≡ pushed m (marksIn x)
 unfolding pushed
 push-full x m h = rw (marks-count, le-ltb (x .count) 4160 h)
 
 pub push-more : (x : Indenter) (w : ℕ) (m : Bool) → w ≡ marked (getD (x .levels) (x .count / 64) 0) (x .count % 64) m
     → length (x .levels) ≡ 65 → x .count < 4160
-    → marksOf (record { levels = set (x .levels) (x .count / 64) w; count = x .count + 1; top = x .top }) ≡ pushed m (marksOf x)
-unfolding marksOf pushed
+    → marksIn (record { levels = set (x .levels) (x .count / 64) w; count = x .count + 1; top = x .top }) ≡ pushed m (marksIn x)
+unfolding marksIn pushed
 push-more x w m e l h =
     let k : x .count / 64 < length (x .levels) = omega arith in
     rw (marks-length, lt-ltb (x .count) 4160 h, e, add-one) (marks-stored (x .levels) (x .count) m k)
 
-pub last-none : (x : Indenter) → x .count ≡ 0 → marksOf x ≡ lastSet (marksOf x)
-unfolding marksOf marksAt
+pub last-none : (x : Indenter) → x .count ≡ 0 → marksIn x ≡ lastSet (marksIn x)
+unfolding marksIn marksAt
 last-none x e = rw e
 
 last-at : (ws : List ℕ) (n w : ℕ) → w ≡ marked (getD ws ((n - 1) / 64) 0) ((n - 1) % 64) true → length ws ≡ 65
@@ -88,16 +89,16 @@ last-at ws (suc n) w e l z h =
 
 pub last-some : (x : Indenter) (w : ℕ) → w ≡ marked (getD (x .levels) ((x .count - 1) / 64) 0) ((x .count - 1) % 64) true
     → length (x .levels) ≡ 65 → (x .count ≡ 0 → ⊥) → x .count ≤ 4160
-    → marksOf (record { levels = set (x .levels) ((x .count - 1) / 64) w; count = x .count; top = x .top }) ≡ lastSet (marksOf x)
-unfolding marksOf
+    → marksIn (record { levels = set (x .levels) ((x .count - 1) / 64) w; count = x .count; top = x .top }) ≡ lastSet (marksIn x)
+unfolding marksIn
 last-some x w e l z h = last-at (x .levels) (x .count) w e l z h
 
-back-whole : (x : Indenter) (l : ℕ) → x .count ≤ l → marksOf x ≡ upper l (marksOf x)
+back-whole : (x : Indenter) (l : ℕ) → x .count ≤ l → marksIn x ≡ upper l (marksIn x)
 unfolding upper
-back-whole x l h = let z : length (marksOf x) - l ≡ 0 = omega (arith, marks-count x) in rw z
+back-whole x l h = let z : length (marksIn x) - l ≡ 0 = omega (arith, marks-count x) in rw z
 
-back-cut : (x : Indenter) (l : ℕ) → l < x .count → marksOf (record { levels = x .levels; count = l; top = x .top }) ≡ upper l (marksOf x)
-unfolding marksOf upper
+back-cut : (x : Indenter) (l : ℕ) → l < x .count → marksIn (record { levels = x .levels; count = l; top = x .top }) ≡ upper l (marksIn x)
+unfolding marksIn upper
 back-cut x l h =
     let e : x .count - (x .count - l) ≡ l = omega arith in
     rw (marks-length, marks-drop, e)
@@ -110,22 +111,22 @@ pub kept-no : (count l : ℕ) → count ≤ l → count ≡ keptOf count l
 unfolding keptOf
 kept-no count l h = rw (le-ltb l count h)
 
-kept-marks : (x : Indenter) (l : ℕ) → marksOf (record { levels = x .levels; count = keptOf (x .count) l; top = x .top }) ≡ upper l (marksOf x)
+kept-marks : (x : Indenter) (l : ℕ) → marksIn (record { levels = x .levels; count = keptOf (x .count) l; top = x .top }) ≡ upper l (marksIn x)
 kept-marks x l =
     split (ltb l (x .count))
     (λ q. let h : l < x .count = ltb-true l (x .count) q in rw (← kept-yes (x .count) l h) (back-cut x l h))
     (λ q. let h : x .count ≤ l = ltb-false l (x .count) q in rw (← kept-no (x .count) l h) (back-whole x l h))
 
 at-full : (x : Indenter) (l n : ℕ) (m : Bool) → n ≡ keptOf (x .count) l → n ≤ x .count → 4160 ≤ n → x .count ≤ 4160
-    → marksOf x ≡ pushed m (upper l (marksOf x))
+    → marksIn x ≡ pushed m (upper l (marksIn x))
 at-full x l n m e k g h =
     let q : keptOf (x .count) l ≡ x .count = omega arith in
-    let r : marksOf x ≡ upper l (marksOf x) = rw q at (kept-marks x l) in
+    let r : marksIn x ≡ upper l (marksIn x) = rw q at (kept-marks x l) in
     rw (← r) (push-full x m (omega arith))
 
 at-more : (x : Indenter) (l n w : ℕ) (m : Bool) → w ≡ marked (getD (x .levels) (n / 64) 0) (n % 64) m → n ≡ keptOf (x .count) l
     → length (x .levels) ≡ 65 → n < 4160
-    → marksOf (record { levels = set (x .levels) (n / 64) w; count = n + 1; top = x .top }) ≡ pushed m (upper l (marksOf x))
+    → marksIn (record { levels = set (x .levels) (n / 64) w; count = n + 1; top = x .top }) ≡ pushed m (upper l (marksIn x))
 at-more x l n w m e q s h =
     rw (← kept-marks x l, ← q) (push-more (record { levels = x .levels; count = n; top = x .top }) w m e s h)
 
@@ -186,7 +187,7 @@ lentAt ws c = record { levels = ws; count = c; top = true }
 
 module _ (ws : List ℕ) (c l n : ℕ) (m : Bool) (e : n ≡ keptOf c l) where
   pub level-full : 4160 ≤ n → n ≤ c → c ≤ 4160 → marksAt ws c ≡ pushed m (upper l (marksAt ws c))
-  unfolding marksOf
+  unfolding marksIn
   level-full g k h = at-full (lentAt ws c) l n m e k g h
 
   pub count-full : 4160 ≤ n → c ≡ levelCount c l
@@ -203,7 +204,7 @@ module _ (ws : List ℕ) (c l n : ℕ) (m : Bool) (e : n ≡ keptOf c l) where
 
   module _ (w : ℕ) (q : w ≡ marked (getD ws (n / 64) 0) (n % 64) m) (g : n < 4160) where
     pub level-more : length ws ≡ 65 → marksAt (set ws (n / 64) w) (n + 1) ≡ pushed m (upper l (marksAt ws c))
-    unfolding marksOf
+    unfolding marksIn
     level-more s = at-more (lentAt ws c) l n w m q e s g
 
     pub words-more : set ws (n / 64) w ≡ levelWords ws c l m

@@ -1,6 +1,6 @@
 pub mod Wrote
 pub mod Indent
-pub mod Marks
+pub mod MarkBits
 pub mod Levels
 pub mod Pieces
 pub mod Shown

@@ -11,7 +11,7 @@ use lib.Seq.{take-all, take-length, drop-length, take-append-add, take-append-le
 use borrow.Rule.Slice.PartMut.{putMid}
 use Rattle.basis.specs.Quote.{utf8}
 use Rattle.texts.specs.Indent.{older, deepest, above, indent}
-use Rattle.texts.specs.Marks.{bit, marksAt}
+use Rattle.texts.specs.MarkBits.{bit, marksAt}
 use Rattle.texts.specs.Wrote.{over, Wrote}
 
 -- the third byte of "└" and of "├"
@@ -36,7 +36,7 @@ unfolding older
 pairBytes a b = take 10 (older a ++ older b ++ utf8 "    ")
 
 -- bytes bs were written, of which u count
-pub record Laid (u bs room left : List ℕ) (r : ℕ) : Type 0 where
+pub record BytesLaid (u bs room left : List ℕ) (r : ℕ) : Type 0 where
   pub count : r ≡ length u
   pub front : take (length u) bs ≡ u
   pub short : length u ≤ length bs
@@ -63,7 +63,7 @@ put-back d e t n h f =
     rw (f, x, append-nil)
 
 -- what is laid is near
-pub laid-near : {u bs o d : List ℕ} {r : ℕ} → Laid u bs o d r → Near u o d r
+pub laid-near : {u bs o d : List ℕ} {r : ℕ} → BytesLaid u bs o d r → Near u o d r
 laid-near {u} {bs} {o} {d} {r} v =
     let ru : r ≡ length u = v .count in
     let s : length u ≤ length bs = v .short in
@@ -120,7 +120,8 @@ near-last {t} {u} {o} {d} {e} {n} {m} w v h =
     let sm : length d ≡ length o = w .same in
     let j : n + length u ≡ n + 7 + (length u - 7) = omega arith in
     let old : drop (length u) x ≡ drop (length t + length u) o =
-    drop-drop (length u) n d ∙ rw (← nt, j) (sym (drop-drop (length u - 7) (n + 7) d) ∙ ap (λ (y : List ℕ). drop (length u - 7) y) (w .rest) ∙ drop-drop (length u - 7) (n + 7) o) in
+    drop-drop (length u) n d ∙ rw (← nt, j) (sym (drop-drop (length u - 7) (n + 7) d) ∙ ap (λ (y : List ℕ). drop (length u - 7) y) (w .rest)
+    ∙ drop-drop (length u - 7) (n + 7) o) in
     record {
       count = rw (nt, v .count, length-append);
       leaves = rw (g, length-append, old) (sym (append-assoc t u (drop (length t + length u) o)));

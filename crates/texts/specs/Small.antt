@@ -7,15 +7,15 @@ use native.Mathlib.Omega.{arith}
 use lib.ListN.{length, take, length-append}
 use Rattle.texts.specs.Indent.{older, deepest}
 use Rattle.texts.specs.Wrote.{Wrote}
-use Rattle.texts.specs.Pieces.{cornerOf, bytesOf, pairWord, pairBytes, Laid}
-use Rattle.texts.specs.Shown.{firstOf}
+use Rattle.texts.specs.Pieces.{cornerOf, bytesOf, pairWord, pairBytes, BytesLaid}
+use Rattle.texts.specs.Shown.{shownFirst}
 
-pub first-yes : (t : Bool) → t ≡ true → 0 ≡ firstOf t
-unfolding firstOf
+pub first-yes : (t : Bool) → t ≡ true → 0 ≡ shownFirst t
+unfolding shownFirst
 first-yes t e = rw e
 
-pub first-no : (t : Bool) → t ≡ false → 1 ≡ firstOf t
-unfolding firstOf
+pub first-no : (t : Bool) → t ≡ false → 1 ≡ shownFirst t
+unfolding shownFirst
 first-no t e = rw e
 
 pub corner-yes : (m : Bool) → m ≡ true → 148 ≡ cornerOf m
@@ -86,7 +86,7 @@ size-two false true = (omega arith, omega arith)
 size-two false false = (omega arith, omega arith)
 
 pub laid-two : (a b x y : Bool) {o d : List ℕ} {r p q : ℕ} → a ≡ x → b ≡ y → Wrote (pairBytes a b) o d r
-    → p ≡ length (older a) → q ≡ length (older b) → Laid (older x ++ older y) (pairBytes x y) o d (p + q)
+    → p ≡ length (older a) → q ≡ length (older b) → BytesLaid (older x ++ older y) (pairBytes x y) o d (p + q)
 laid-two a b x y e f w s t =
     rw (← e, ← f)
     (record {
@@ -109,7 +109,7 @@ size-one true = (omega arith, omega arith)
 size-one false = (omega arith, omega arith)
 
 pub laid-one : (a x : Bool) {o d : List ℕ} {r p : ℕ} → a ≡ x → Wrote (pairBytes a true) o d r → p ≡ length (older a)
-    → Laid (older x) (pairBytes x true) o d p
+    → BytesLaid (older x) (pairBytes x true) o d p
 laid-one a x e w s =
     rw (← e)
     (record { count = s; front = front-one a; short = size-one a .0; slack = size-one a .1; leaves = w .leaves; fits = w .fits })

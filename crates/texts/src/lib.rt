@@ -14,7 +14,7 @@ ghost use Prim.Native.Nat.{_≤_};
 ghost use lib.ListN.{length};
 ghost use Rattle.texts.specs.Wrote.{Wrote};
 ghost use Rattle.texts.specs.Indent.{indent};
-ghost use Rattle.texts.specs.Marks.{marksOf, pushed, lastSet, putAt, lastAt};
+ghost use Rattle.texts.specs.MarkBits.{marksIn, pushed, lastSet, putAt, lastAt};
 
 // The levels above a line, as `Indenter` of conflict.rs: a bit a level, set for `ChildOrder::Last`; `top` is its
 // `top_level_indent`. Pushing hands back a new one, and the old stays usable.
@@ -27,7 +27,7 @@ pub struct Indenter {
 impl Indenter {
     pub fn push_level(self) -> Indenter
         requires { ⌜ self .count ≤ 4160 ⌝ }
-        ensures { λ r. ⌜ (marksOf r ≡ pushed false (marksOf self)) × (r .top ≡ self .top) × (r .count ≤ 4160) ⌝ }
+        ensures { λ r. ⌜ (marksIn r ≡ pushed false (marksIn self)) × (r .top ≡ self .top) × (r .count ≤ 4160) ⌝ }
         ensures { λ r. ⌜ r ≡ putAt self (self .count) false ⌝ }
     {
         self.push_level_with_order(false)
@@ -36,7 +36,7 @@ impl Indenter {
     // With 4,160 levels held, none is pushed: the deepest text takes 4,159.
     pub fn push_level_with_order(self, last: bool) -> Indenter
         requires { ⌜ self .count ≤ 4160 ⌝ }
-        ensures { λ r. ⌜ (marksOf r ≡ pushed last (marksOf self)) × (r .top ≡ self .top) × (r .count ≤ 4160) ⌝ }
+        ensures { λ r. ⌜ (marksIn r ≡ pushed last (marksIn self)) × (r .top ≡ self .top) × (r .count ≤ 4160) ⌝ }
         ensures { λ r. ⌜ r ≡ putAt self (self .count) last ⌝ }
     {
         let n = self.count;
@@ -53,7 +53,7 @@ impl Indenter {
     // Without a level, which conflict.rs never meets, nothing is changed.
     pub fn set_last(self) -> Indenter
         requires { ⌜ self .count ≤ 4160 ⌝ }
-        ensures { λ r. ⌜ (marksOf r ≡ lastSet (marksOf self)) × (r .top ≡ self .top) × (r .count ≡ self .count) ⌝ }
+        ensures { λ r. ⌜ (marksIn r ≡ lastSet (marksIn self)) × (r .top ≡ self .top) × (r .count ≡ self .count) ⌝ }
         ensures { λ r. ⌜ r ≡ lastAt self ⌝ }
     {
         let n = self.count;
@@ -70,7 +70,7 @@ impl Indenter {
     // How many bytes `get_indent` writes.
     pub fn indent_length(self) -> usize
         requires { ⌜ self .count ≤ 4160 ⌝ }
-        ensures { λ r. ⌜ (r ≡ length (indent (self .top) (marksOf self))) × (r ≤ 20802) ⌝ }
+        ensures { λ r. ⌜ (r ≡ length (indent (self .top) (marksIn self))) × (r ≤ 20802) ⌝ }
     {
         length_of(&self.levels, self.count, self.top)
     }
@@ -78,8 +78,8 @@ impl Indenter {
     // The text before a line, at the start of the room.
     pub fn get_indent(self, out: &mut [u8]) -> usize
         requires { ⌜ self .count ≤ 4160 ⌝ }
-        requires { ⌜ length (indent (self .top) (marksOf self)) ≤ length (now out) ⌝ }
-        ensures { λ r. ⌜ Wrote (indent (self .top) (marksOf self)) (now (out .entry)) (now (out .exit)) r ⌝ }
+        requires { ⌜ length (indent (self .top) (marksIn self)) ≤ length (now out) ⌝ }
+        ensures { λ r. ⌜ Wrote (indent (self .top) (marksIn self)) (now (out .entry)) (now (out .exit)) r ⌝ }
     {
         put_indent(out, &self.levels, self.count, self.top)
     }

@@ -3,7 +3,7 @@ ghost use mathlib.Core.Path.{_≡_};
 ghost use Prim.Native.Nat.{_%_, _^_, _<_, _≤_};
 ghost use lib.Count.{ones};
 ghost use lib.ListN.{length};
-ghost use Rattle.texts.specs.Marks.{bit, marked, marksAt, pushed, upper, keptOf, levelCount, levelWords};
+ghost use Rattle.texts.specs.MarkBits.{bit, marked, marksAt, pushed, upper, keptOf, levelCount, levelWords};
 ghost use Rattle.texts.specs.Length.{lastCount};
 
 // The mark of level i.
@@ -68,7 +68,8 @@ pub fn kept(count: usize, level: usize) -> usize
 pub fn put_level(levels: &mut [u64; 65], count: usize, level: usize, last: bool) -> usize
     requires { ⌜ (count ≤ 4160) × (length (now levels) ≡ 65) ⌝ }
     ensures { λ r. ⌜ (r ≡ levelCount count level) × (now (levels .exit) ≡ levelWords (now (levels .entry)) count level last) ⌝ }
-    ensures { λ r. ⌜ (marksAt (now (levels .exit)) r ≡ pushed last (upper level (marksAt (now (levels .entry)) count))) × (r ≤ 4160) × (length (now (levels .exit)) ≡ 65) ⌝ }
+    ensures { λ r. ⌜ (marksAt (now (levels .exit)) r ≡ pushed last (upper level (marksAt (now (levels .entry)) count))) × (r ≤ 4160)
+        × (length (now (levels .exit)) ≡ 65) ⌝ }
 {
     let n = kept(count, level);
     if 4160 <= n {

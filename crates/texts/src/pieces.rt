@@ -10,14 +10,14 @@ ghost use Prim.Native.Nat.{_+_, _<_, _≤_};
 ghost use lib.ListN.{length};
 ghost use Rattle.texts.specs.Wrote.{Wrote};
 ghost use Rattle.texts.specs.Indent.{older, deepest, indent};
-ghost use Rattle.texts.specs.Marks.{bit, marksAt};
-ghost use Rattle.texts.specs.Pieces.{bytesOf, cornerOf, pairWord, pairBytes, Laid, Near};
-ghost use Rattle.texts.specs.Shown.{firstOf, aboveText, levelsFrom};
+ghost use Rattle.texts.specs.MarkBits.{bit, marksAt};
+ghost use Rattle.texts.specs.Pieces.{bytesOf, cornerOf, pairWord, pairBytes, BytesLaid, Near};
+ghost use Rattle.texts.specs.Shown.{shownFirst, aboveText, levelsFrom};
 ghost use Rattle.texts.specs.Fours.{pairWords, pairWidths, pairText, fourText, byteText, codeIn, byteIn, fewOf, stepOf};
 
 // The first level that is shown: the top one is skipped without the option.
 fn first(top: bool) -> usize
-    ensures { λ r. ⌜ (r ≡ firstOf top) × (r ≤ 1) ⌝ }
+    ensures { λ r. ⌜ (r ≡ shownFirst top) × (r ≤ 1) ⌝ }
 {
     if top { 0 } else { 1 }
 }
@@ -91,7 +91,9 @@ fn width(last: bool) -> usize
 fn put_two(out: &mut [u8], levels: &[u64; 65], i: usize) -> usize
     requires { ⌜ i + 1 < 4160 ⌝ }
     requires { ⌜ 10 ≤ length (now out) ⌝ }
-    ensures { λ r. ⌜ Laid (older (bit (now (levels .entry)) i) ++ older (bit (now (levels .entry)) (i + 1))) (pairBytes (bit (now (levels .entry)) i) (bit (now (levels .entry)) (i + 1))) (now (out .entry)) (now (out .exit)) r ⌝ }
+    ensures { λ r. ⌜ BytesLaid (older (bit (now (levels .entry)) i)
+        ++ older (bit (now (levels .entry)) (i + 1))) (pairBytes (bit (now (levels .entry)) i) (bit (now (levels .entry)) (i + 1))) (now (out .entry))
+        (now (out .exit)) r ⌝ }
     ensures { λ r. ⌜ r ≤ 10 ⌝ }
 {
     let a = mark(levels, i);
@@ -104,7 +106,7 @@ fn put_two(out: &mut [u8], levels: &[u64; 65], i: usize) -> usize
 fn put_one(out: &mut [u8], levels: &[u64; 65], i: usize) -> usize
     requires { ⌜ i < 4160 ⌝ }
     requires { ⌜ 10 ≤ length (now out) ⌝ }
-    ensures { λ r. ⌜ Laid (older (bit (now (levels .entry)) i)) (pairBytes (bit (now (levels .entry)) i) true) (now (out .entry)) (now (out .exit)) r ⌝ }
+    ensures { λ r. ⌜ BytesLaid (older (bit (now (levels .entry)) i)) (pairBytes (bit (now (levels .entry)) i) true) (now (out .entry)) (now (out .exit)) r ⌝ }
     ensures { λ r. ⌜ r ≤ 5 ⌝ }
 {
     let a = mark(levels, i);
@@ -270,7 +272,7 @@ fn put_above(
     n: usize,
 ) -> usize
     requires { ⌜ (now words ≡ pairWords) × (now widths ≡ pairWidths) ⌝ }
-    requires { ⌜ (firstOf top ≤ n) × (n < 4160) ⌝ }
+    requires { ⌜ (shownFirst top ≤ n) × (n < 4160) ⌝ }
     requires { ⌜ length (aboveText top (now levels) n) + 7 ≤ length (now out) ⌝ }
     ensures { λ r. ⌜ Near (aboveText top (now (levels .entry)) n) (now (out .entry)) (now (out .exit)) r ⌝ }
 {

@@ -12,7 +12,7 @@ ghost use lib.ListN.{length};
 ghost use Rattle.salvage.specs.Lent.{salvageAnswer, salvageRoom, salvageList};
 ghost use Rattle.season.specs.Words.{joinWords};
 ghost use Rattle.settings.specs.Change.{changeOf, roomOf};
-ghost use Rattle.settings.specs.Settings.{readOf};
+ghost use Rattle.settings.specs.Settings.{settingsOf};
 ghost use Rattle.texts.specs.Wrote.{over};
 ghost use Rattle.wall.specs.Lent.{tgfCounts, tgfNodes, tgfEdges};
 ghost use Rattle.wall.specs.Read.{readText};
@@ -125,7 +125,7 @@ pub extern "C" fn urzulempa_salvage(file: &[u8], room: &mut [u8], list: &mut [u1
 // length, 18 or 3 for a record, the place; the three settings are 0 then.
 #[no_mangle]
 pub extern "C" fn urzulempa_settings_read(file: &[u8], version: u64) -> Settings
-    ensures { λ r. ⌜ r ≡ readOf version (now (file .entry)) ⌝ }
+    ensures { λ r. ⌜ r ≡ settingsOf version (now (file .entry)) ⌝ }
 {
     settings::read(file, version)
 }

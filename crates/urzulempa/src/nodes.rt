@@ -4,14 +4,15 @@ ghost use mathlib.Core.Path.{_≡_};
 ghost use lib.ListN.{length};
 ghost use Rattle.calls.specs.Nodes.{nodesAnswer, nodesLeft};
 use calls::Answer;
-use entries::NodeEntry;
-use entries::fill;
-use nodelist::node_words;
+use lists::entries::NodeEntry;
+use lists::entries::fill;
+use lists::nodes::node_words;
 
 // Refusals 1 to 9, 10 where the list is short, else one entry a node; entries past the last node stay.
 #[no_mangle]
 pub extern "C" fn urzulempa_nodes(file: &[u8], list: &mut [NodeEntry]) -> Answer
-    ensures { λ r. ⌜ (r ≡ nodesAnswer (now (file .entry)) (length (now (list .entry)))) × (now (list .exit) ≡ nodesLeft (now (file .entry)) (now (list .entry))) ⌝ }
+    ensures { λ r. ⌜ (r ≡ nodesAnswer (now (file .entry)) (length (now (list .entry))))
+        × (now (list .exit) ≡ nodesLeft (now (file .entry)) (now (list .entry))) ⌝ }
 {
     let room = list.len();
     let mut words = [0; 128];

@@ -3,10 +3,10 @@
 ghost use mathlib.Core.Path.{_≡_};
 ghost use lib.ListN.{length};
 ghost use Rattle.calls.specs.WhatIf.{whatIfAnswer, whatIfLeft};
-use asking::ask_words;
 use calls::Answer;
-use entries::NodeEntry;
-use entries::fill;
+use lists::asked::ask_words;
+use lists::entries::NodeEntry;
+use lists::entries::fill;
 
 // What if this one were excluded too: the file's refusals 1 to 9, 4 for a solvable or reason that can't be asked about, 8 where the
 // exclusion has no room, 17 for a cycle, 10 where the list is short, else one entry a node; entries past the last node stay.
@@ -17,7 +17,8 @@ pub extern "C" fn urzulempa_what_if(
     reason: u64,
     list: &mut [NodeEntry],
 ) -> Answer
-    ensures { λ r. ⌜ (r ≡ whatIfAnswer (now (file .entry)) solvable reason (length (now (list .entry)))) × (now (list .exit) ≡ whatIfLeft (now (file .entry)) solvable reason (now (list .entry))) ⌝ }
+    ensures { λ r. ⌜ (r ≡ whatIfAnswer (now (file .entry)) solvable reason (length (now (list .entry))))
+        × (now (list .exit) ≡ whatIfLeft (now (file .entry)) solvable reason (now (list .entry))) ⌝ }
 {
     let room = list.len();
     let mut words = [0; 128];

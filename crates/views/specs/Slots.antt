@@ -42,17 +42,26 @@ module _ (file ix : List ℕ) (l : Loaded file ix) where
   next-candidate k r e =
       split (ltb k 1024)
       (λ t. rw t at e ∙ l .candidates .link k (ltb-true k 1024 t))
-      (λ t. rw t at e ∙ link-past (candidateKey (tablesOf file)) 256 (length (tablesOf file .candidates)) k (omega (arith, ltb-false k 1024 t, loaded-valid file ix l .within Candidates)))
+      (λ t. rw t at e ∙ link-past (candidateKey (tablesOf file)) 256 (length (tablesOf file .candidates)) k (omega (
+        arith,
+        ltb-false k 1024 t,
+        loaded-valid file ix l .within Candidates,
+      )))
 
   pub next-partner : (k r : ℕ) → r ≡ placed 9408 1024 ix k → r ≡ nextPartner (tablesOf file) k
   unfolding placed nextPartner
   next-partner k r e =
       split (ltb k 1024)
       (λ t. rw t at e ∙ l .partners .link k (ltb-true k 1024 t))
-      (λ t. rw t at e ∙ link-past (partnerKey (tablesOf file)) 3072 (length (tablesOf file .clauses)) k (omega (arith, ltb-false k 1024 t, loaded-valid file ix l .within Clauses)))
+      (λ t. rw t at e ∙ link-past (partnerKey (tablesOf file)) 3072 (length (tablesOf file .clauses)) k (omega (
+        arith,
+        ltb-false k 1024 t,
+        loaded-valid file ix l .within Clauses,
+      )))
 
   -- the heads of one kind of key, from m on
-  heads : (m k r : ℕ) → m ≤ 2048 → r ≡ placed (6336 + m) 1024 ix k → r ≡ cond (ltb k 1024) (oldest (partnerKey (tablesOf file)) 0 (length (tablesOf file .clauses)) (m + k)) 0
+  heads : (m k r : ℕ) → m ≤ 2048 → r ≡ placed (6336 + m) 1024 ix k
+      → r ≡ cond (ltb k 1024) (oldest (partnerKey (tablesOf file)) 0 (length (tablesOf file .clauses)) (m + k)) 0
   unfolding placed
   heads m k r h e =
       split (ltb k 1024)
@@ -79,27 +88,42 @@ module _ (file ix : List ℕ) (l : Loaded file ix) where
 
   pub candidate-head-small : (k r : ℕ) → r ≡ placed 5056 256 ix k → r ≤ 1024
   unfolding firstCandidate
-  candidate-head-small k r e = rw (first-candidate k k r e refl) (head-small (ltb k 256) (candidateKey (tablesOf file)) (length (tablesOf file .candidates)) k (loaded-valid file ix l .within Candidates))
+  candidate-head-small k r e =
+      rw (first-candidate k k r e refl) (head-small (ltb k 256) (candidateKey (tablesOf file)) (length (tablesOf file .candidates)) k
+      (loaded-valid file ix l .within Candidates))
 
   pub candidate-link-small : (k r : ℕ) → r ≡ placed 5312 1024 ix k → r ≤ 1024
   unfolding nextCandidate
-  candidate-link-small k r e = omega (arith, next-candidate k r e, loaded-valid file ix l .within Candidates, link-le (candidateKey (tablesOf file)) 256 (length (tablesOf file .candidates)) k)
+  candidate-link-small k r e =
+      omega (
+        arith,
+        next-candidate k r e,
+        loaded-valid file ix l .within Candidates,
+        link-le (candidateKey (tablesOf file)) 256 (length (tablesOf file .candidates)) k,
+      )
 
   pub partner-link-small : (k r : ℕ) → r ≡ placed 9408 1024 ix k → r ≤ 1024
   unfolding nextPartner
-  partner-link-small k r e = omega (arith, next-partner k r e, loaded-valid file ix l .within Clauses, link-le (partnerKey (tablesOf file)) 3072 (length (tablesOf file .clauses)) k)
+  partner-link-small k r e =
+      omega (arith, next-partner k r e, loaded-valid file ix l .within Clauses, link-le (partnerKey (tablesOf file)) 3072 (length (tablesOf file .clauses)) k)
 
   pub gate-small : (k r : ℕ) → r ≡ placed 6336 1024 ix k → r ≤ 1024
   unfolding firstGate
-  gate-small k r e = rw (first-gate k k r e refl) (head-small (ltb k 1024) (partnerKey (tablesOf file)) (length (tablesOf file .clauses)) k (loaded-valid file ix l .within Clauses))
+  gate-small k r e =
+      rw (first-gate k k r e refl) (head-small (ltb k 1024) (partnerKey (tablesOf file)) (length (tablesOf file .clauses)) k
+      (loaded-valid file ix l .within Clauses))
 
   pub parent-small : (k r : ℕ) → r ≡ placed 7360 1024 ix k → r ≤ 1024
   unfolding firstParent
-  parent-small k r e = rw (first-parent k k r e refl) (head-small (ltb k 1024) (partnerKey (tablesOf file)) (length (tablesOf file .clauses)) (1024 + k) (loaded-valid file ix l .within Clauses))
+  parent-small k r e =
+      rw (first-parent k k r e refl) (head-small (ltb k 1024) (partnerKey (tablesOf file)) (length (tablesOf file .clauses)) (1024
+      + k) (loaded-valid file ix l .within Clauses))
 
   pub excluded-small : (k r : ℕ) → r ≡ placed 8384 1024 ix k → r ≤ 1024
   unfolding firstExcluded
-  excluded-small k r e = rw (first-excluded k k r e refl) (head-small (ltb k 1024) (partnerKey (tablesOf file)) (length (tablesOf file .clauses)) (2048 + k) (loaded-valid file ix l .within Clauses))
+  excluded-small k r e =
+      rw (first-excluded k k r e refl) (head-small (ltb k 1024) (partnerKey (tablesOf file)) (length (tablesOf file .clauses)) (2048
+      + k) (loaded-valid file ix l .within Clauses))
 
 -- ---- an origin, by b and c of its record
 
@@ -184,9 +208,22 @@ module _ (r : Rec) (k : ℕ) (e : k ≡ r .kind) where
       unfolding clauseIn
       clause-excluded-by h = rw (← e, h, p, q, s)
 
-  pub clause-learnt : (k ≡ 16 → ⊥) → (k ≡ 17 → ⊥) → (k ≡ 19 → ⊥) → (k ≡ 20 → ⊥) → (k ≡ 21 → ⊥) → (k ≡ 22 → ⊥) → (k ≡ 23 → ⊥) → (k ≡ 24 → ⊥) → (k ≡ 25 → ⊥) → C.Learnt ≡ clauseIn r
+  pub clause-learnt : (k ≡ 16 → ⊥) → (k ≡ 17 → ⊥) → (k ≡ 19 → ⊥) → (k ≡ 20 → ⊥) → (k ≡ 21 → ⊥) → (k ≡ 22 → ⊥) → (k ≡ 23 → ⊥) → (k ≡ 24 → ⊥) → (k ≡ 25 → ⊥)
+      → C.Learnt ≡ clauseIn r
   unfolding clauseIn
-  clause-learnt h16 h17 h19 h20 h21 h22 h23 h24 h25 = rw (← e, ne-eqb k 16 h16, ne-eqb k 17 h17, ne-eqb k 19 h19, ne-eqb k 20 h20, ne-eqb k 21 h21, ne-eqb k 22 h22, ne-eqb k 23 h23, ne-eqb k 24 h24, ne-eqb k 25 h25)
+  clause-learnt h16 h17 h19 h20 h21 h22 h23 h24 h25 =
+      rw (
+        ← e,
+        ne-eqb k 16 h16,
+        ne-eqb k 17 h17,
+        ne-eqb k 19 h19,
+        ne-eqb k 20 h20,
+        ne-eqb k 21 h21,
+        ne-eqb k 22 h22,
+        ne-eqb k 23 h23,
+        ne-eqb k 24 h24,
+        ne-eqb k 25 h25,
+      )
 
 module _ (file ix : List ℕ) (l : Loaded file ix) (i j : ℕ) (p : j ≡ recordNo 4032 1024 ix i) where
   its-record : at (recordsOf file) j ≡ at (tablesOf file .clauses) i

@@ -70,7 +70,8 @@ unfolding linkOf
 link-le key keys m k = split (ltb (key k) keys) (λ t. rw t (oldest-le key (m - suc k) (suc k) m (key k) refl)) (λ t. rw t (omega arith))
 
 -- a value of each item, and what is left after one
-valuesFrom-step : (f key : ℕ → ℕ) (keys m x y z : ℕ) → 0 < x → y ≡ f (x - 1) → z ≡ linkOf key keys m (x - 1) → map f (itemsFrom key keys m x) ≡ y ∷ map f (itemsFrom key keys m z)
+valuesFrom-step : (f key : ℕ → ℕ) (keys m x y z : ℕ) → 0 < x → y ≡ f (x - 1) → z ≡ linkOf key keys m (x - 1)
+    → map f (itemsFrom key keys m x) ≡ y ∷ map f (itemsFrom key keys m z)
 valuesFrom-step f key keys m zero y z h p q = absurd (not-suc-le-zero h)
 valuesFrom-step f key keys m (suc k) y z h p q =
     let e : suc k - 1 ≡ k = sub-one (suc k) in
@@ -103,7 +104,8 @@ filter-none p (r ∷ rs) h = rw (h 0 (omega arith), filter) (filter-none p rs (�
 -- the whole chain of key n, where p is what the key says of a record, and nothing passes where there is no chain
 module _ (k : Rec → ℕ) (keys : ℕ) (rs : List Rec) (f : Rec → ℕ) (p : Rec → Bool) where
   values-start : (inside : Bool) (n : ℕ)
-      → (inside ≡ true → n < keys) → (inside ≡ true → (i : ℕ) → i < length rs → eqb (k (at rs i)) n ≡ p (at rs i)) → (inside ≡ false → (i : ℕ) → i < length rs → p (at rs i) ≡ false)
+      → (inside ≡ true → n < keys) → (inside ≡ true → (i : ℕ) → i < length rs → eqb (k (at rs i)) n ≡ p (at rs i))
+      → (inside ≡ false → (i : ℕ) → i < length rs → p (at rs i) ≡ false)
       → map (λ i. f (at rs i)) (itemsFrom (λ i. k (at rs i)) keys (length rs) (cond inside (oldest (λ i. k (at rs i)) 0 (length rs) n) 0)) ≡ map f (filter p rs)
   values-start true n a b c =
       ap (map (λ i. f (at rs i))) (items-start (λ i. k (at rs i)) keys (length rs) n (a refl))
@@ -133,14 +135,44 @@ candidatesFrom T x = map (candidateAt T) (itemsFrom (candidateKey T) 256 (length
 module _ (T : Tables) where
   candidate-names : (k : ℕ) (s : Shape) → shapeOf k ≡ some s → s .table ≡ Candidates → s .a ≡ S.Names Requirements
   candidate-names =
-      each-kind (λ o. (s : Shape) → o ≡ some s → s .table ≡ Candidates → s .a ≡ S.Names Requirements)
-      (λ s e h. cc, (λ s e h. cc, (λ s e h. cc, (λ s e h. cc, (λ s e h. cc, (λ s e h. cc, (λ s e h. cc, (λ s e h. cc, (λ s e h. cc, (λ s e h. cc, (λ s e h. cc, (λ s e h. cc, (λ s e h. cc, (λ s e h. cc, (λ s e h. cc, (λ s e h. cc, (λ s e h. cc, (λ s e h. cc, tt))))))))))))))))))
+      each-kind (λ o. (s : Shape) → o ≡ some s → s .table ≡ Candidates → s .a ≡ S.Names Requirements) (
+        λ s e h. cc,
+        (
+          λ s e h. cc,
+          (
+            λ s e h. cc,
+            (
+              λ s e h. cc,
+              (
+                λ s e h. cc,
+                (
+                  λ s e h. cc,
+                  (
+                    λ s e h. cc,
+                    (
+                      λ s e h. cc,
+                      (
+                        λ s e h. cc,
+                        (
+                          λ s e h. cc,
+                          (λ s e h. cc, (λ s e h. cc, (λ s e h. cc, (λ s e h. cc, (λ s e h. cc, (λ s e h. cc, (λ s e h. cc, (λ s e h. cc, tt)))))))),
+                        ),
+                      ),
+                    ),
+                  ),
+                ),
+              ),
+            ),
+          ),
+        ),
+      )
       (λ s e h. cc)
 
   candidate-small : Valid T → (i : ℕ) → i < length (T .candidates) → at (T .candidates) i .a < 256
   candidate-small v i h =
       let s : Sound T Candidates i (at (T .candidates) i) = v .sound Candidates i h in
-      let a : at (T .candidates) i .a < length (T .requirements) = rw (candidate-names (at (T .candidates) i .kind) (s .shape) (s .known) (s .mine)) at (s .right-a) in
+      let a : at (T .candidates) i .a < length (T .requirements) = rw (candidate-names (at (T .candidates) i .kind) (s .shape) (s .known) (s .mine)) at
+      (s .right-a) in
       omega (arith, v .within Requirements)
 
   pub candidates-start : (q r : ℕ) → Valid T → r ≡ firstCandidate T q → candidatesFrom T r ≡ candidatesOf T q
@@ -239,11 +271,18 @@ module _ (r : Rec) (w : Small r) (v : ℕ) (h : v < 1024) where
       (λ k. rw (c, k))
       (λ k. split (eqb (r .kind) 23)
       (λ m. rw (c, k, m) (ne-eqb (1024 + r .b) v (λ z. omega arith)))
-      (λ m. split (eqb (r .kind) 24) (λ n. rw (c, k, m, n) (ne-eqb (2048 + r .b) v (λ z. omega arith))) (λ n. rw (c, k, m, n) (ne-eqb 3072 v (λ z. omega arith))))))
+      (λ m. split (eqb (r .kind) 24) (λ n. rw (c, k, m, n) (ne-eqb (2048 + r .b) v (λ z. omega arith))) (λ n. rw (
+        c,
+        k,
+        m,
+        n,
+      ) (ne-eqb 3072 v (λ z. omega arith))))))
       (λ c. rw c (ne-eqb 3072 v (λ z. omega arith)))
 
   same-eqb : (m a b : ℕ) → eqb (m + a) (m + b) ≡ eqb a b
-  same-eqb m a b = split (eqb a b) (λ t. rw t (eq-eqb (m + a) (m + b) (ap (λ (x : ℕ). m + x) (eqb-true a b t)))) (λ t. rw t (ne-eqb (m + a) (m + b) (λ z. eqb-false a b t (omega arith))))
+  same-eqb m a b =
+      split (eqb a b) (λ t. rw t (eq-eqb (m + a) (m + b) (ap (λ (x : ℕ). m + x) (eqb-true a b t)))) (λ t.
+      rw t (ne-eqb (m + a) (m + b) (λ z. eqb-false a b t (omega arith))))
 
   other-kind : (m n : ℕ) → eqb (r .kind) m ≡ true → eqb m n ≡ false → eqb (r .kind) n ≡ false
   other-kind m n k e = rw (eqb-true (r .kind) m k) e
@@ -256,7 +295,12 @@ module _ (r : Rec) (w : Small r) (v : ℕ) (h : v < 1024) where
       (λ k. rw (c, k, other-kind 25 23 k refl) (ne-eqb (r .a) (1024 + v) (λ z. omega (arith, w .any-a (eqb-true (r .kind) 25 k)))))
       (λ k. split (eqb (r .kind) 23)
       (λ m. rw (c, k, m) (same-eqb 1024 (r .b) v))
-      (λ m. split (eqb (r .kind) 24) (λ n. rw (c, k, m, n) (ne-eqb (2048 + r .b) (1024 + v) (λ z. omega arith))) (λ n. rw (c, k, m, n) (ne-eqb 3072 (1024 + v) (λ z. omega arith))))))
+      (λ m. split (eqb (r .kind) 24) (λ n. rw (c, k, m, n) (ne-eqb (2048 + r .b) (1024 + v) (λ z. omega arith))) (λ n. rw (
+        c,
+        k,
+        m,
+        n,
+      ) (ne-eqb 3072 (1024 + v) (λ z. omega arith))))))
       (λ c. rw c (ne-eqb 3072 (1024 + v) (λ z. omega arith)))
 
   excluded-key : eqb (keyIn r) (2048 + v) ≡ (inCore r && (eqb (r .kind) 24 && eqb (r .b) v))
@@ -284,7 +328,9 @@ module _ (T : Tables) where
       (values-start keyIn 3072 (T .clauses) (λ g. g .b) (λ g. inCore g && (eqb (g .kind) 25 && eqb (g .a) v)) (ltb v 1024) v
       (λ t. omega (arith, ltb-true v 1024 t))
       (λ t i h. gate-key (at (T .clauses) i) (clause-small T w i h) v (ltb-true v 1024 t))
-      (λ t i h. nobody (inCore (at (T .clauses) i)) (eqb (at (T .clauses) i .kind) 25) (eqb (at (T .clauses) i .a) v) (λ k. ne-eqb (at (T .clauses) i .a) v (λ z. let l : 1024 ≤ v = ltb-false v 1024 t in omega (arith, clause-small T w i h .any-a (eqb-true (at (T .clauses) i .kind) 25 k))))))
+      (λ t i h. nobody (inCore (at (T .clauses) i)) (eqb (at (T .clauses) i .kind) 25) (eqb (at (T .clauses) i .a) v) (λ k.
+      ne-eqb (at (T .clauses) i .a) v (λ z. let l : 1024 ≤ v = ltb-false v 1024 t in
+      omega (arith, clause-small T w i h .any-a (eqb-true (at (T .clauses) i .kind) 25 k))))))
 
   pub parents-start : (v r : ℕ) → Valid T → r ≡ firstParent T v → auxFrom T r ≡ auxPartners T 23 v
   unfolding firstParent auxFrom auxPartners
@@ -293,7 +339,9 @@ module _ (T : Tables) where
       (values-start keyIn 3072 (T .clauses) (λ g. g .a) (λ g. inCore g && (eqb (g .kind) 23 && eqb (g .b) v)) (ltb v 1024) (1024 + v)
       (λ t. omega (arith, ltb-true v 1024 t))
       (λ t i h. parent-key (at (T .clauses) i) (clause-small T w i h) v (ltb-true v 1024 t))
-      (λ t i h. nobody (inCore (at (T .clauses) i)) (eqb (at (T .clauses) i .kind) 23) (eqb (at (T .clauses) i .b) v) (λ k. ne-eqb (at (T .clauses) i .b) v (λ z. let l : 1024 ≤ v = ltb-false v 1024 t in omega (arith, clause-small T w i h .parent-b (eqb-true (at (T .clauses) i .kind) 23 k))))))
+      (λ t i h. nobody (inCore (at (T .clauses) i)) (eqb (at (T .clauses) i .kind) 23) (eqb (at (T .clauses) i .b) v) (λ k.
+      ne-eqb (at (T .clauses) i .b) v (λ z. let l : 1024 ≤ v = ltb-false v 1024 t in
+      omega (arith, clause-small T w i h .parent-b (eqb-true (at (T .clauses) i .kind) 23 k))))))
 
   pub excluded-start : (v r : ℕ) → Valid T → r ≡ firstExcluded T v → auxFrom T r ≡ auxPartners T 24 v
   unfolding firstExcluded auxFrom auxPartners
@@ -302,7 +350,9 @@ module _ (T : Tables) where
       (values-start keyIn 3072 (T .clauses) (λ g. g .a) (λ g. inCore g && (eqb (g .kind) 24 && eqb (g .b) v)) (ltb v 1024) (2048 + v)
       (λ t. omega (arith, ltb-true v 1024 t))
       (λ t i h. excluded-key (at (T .clauses) i) (clause-small T w i h) v (ltb-true v 1024 t))
-      (λ t i h. nobody (inCore (at (T .clauses) i)) (eqb (at (T .clauses) i .kind) 24) (eqb (at (T .clauses) i .b) v) (λ k. ne-eqb (at (T .clauses) i .b) v (λ z. let l : 1024 ≤ v = ltb-false v 1024 t in omega (arith, clause-small T w i h .excluded-b (eqb-true (at (T .clauses) i .kind) 24 k))))))
+      (λ t i h. nobody (inCore (at (T .clauses) i)) (eqb (at (T .clauses) i .kind) 24) (eqb (at (T .clauses) i .b) v) (λ k.
+      ne-eqb (at (T .clauses) i .b) v (λ z. let l : 1024 ≤ v = ltb-false v 1024 t in
+      omega (arith, clause-small T w i h .excluded-b (eqb-true (at (T .clauses) i .kind) 24 k))))))
 
   pub gates-step : (x s y : ℕ) → 0 < x → s ≡ gateAt T (x - 1) → y ≡ nextPartner T (x - 1) → gatesFrom T x ≡ s ∷ gatesFrom T y
   unfolding nextPartner gatesFrom

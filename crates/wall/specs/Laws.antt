@@ -1,3 +1,10 @@
+pub mod Weights
+pub mod Texts
+pub mod Back
+pub mod Told
+pub mod Captions
+pub mod Writing
+pub mod Walk
 pub mod Numbers
 pub mod Labels
 pub mod Both

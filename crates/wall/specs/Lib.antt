@@ -1,6 +1,8 @@
+pub mod Laws
+pub mod Export
+pub mod ExportSteps
 pub mod Lines
 pub mod Read
 pub mod Lent
 pub mod Steps
-pub mod Laws
 pub mod Cases

@@ -9,9 +9,9 @@ use Rattle.wall.specs.declared.Part.{Part}
 use Rattle.wall.specs.declared.NodeLine.{NodeLine}
 use Rattle.wall.specs.declared.EdgeLine.{EdgeLine}
 use Rattle.wall.specs.declared.Seen.{Seen}
-use Rattle.wall.specs.Lines.{Label, Edge}
-use Rattle.wall.specs.Read.{Outcome, good, bad, edgesFrom, readText}
-use Rattle.wall.specs.Lent.{edgesIn}
+use Rattle.wall.specs.Lines.{Label, WallEdge}
+use Rattle.wall.specs.Read.{WallText, good, bad, edgesFrom, readText}
+use Rattle.wall.specs.Lent.{edgesRead}
 
 -- the text from a place on
 unfoldable pub rest : ℕ → List ℕ → List ℕ
@@ -32,7 +32,7 @@ labelOut text at r = elim (r .ok) [ true ↦ some (take (r .value) (rest at text
 unfoldable pub nodeOut : List ℕ → NodeLine → Option (Label × List ℕ)
 nodeOut text r = elim (r .ok) [ true ↦ some (take (r .size) (rest (r .begin) text), rest (r .next) text) | false ↦ none ]
 
-unfoldable pub edgeOut : List ℕ → EdgeLine → Option (Edge × List ℕ)
+unfoldable pub edgeOut : List ℕ → EdgeLine → Option (WallEdge × List ℕ)
 edgeOut text r =
     elim (r .ok) [
       | true ↦ some (record { source = r .source; target = r .target; label = take (r .size) (rest (r .begin) text) }, rest (r .next) text)
@@ -40,7 +40,7 @@ edgeOut text r =
     ]
 
 -- with i nodes and k edges counted before
-abbrev pub seenOf : ℕ → ℕ → Outcome → Seen
+abbrev pub seenOf : ℕ → ℕ → WallText → Seen
 seenOf i k (good ns es) = record { ok = true; bad = 0; nodes = i + length ns; edges = k + length es }
 seenOf i k (bad n) = record { ok = false; bad = n; nodes = 0; edges = 0 }
 
@@ -56,13 +56,13 @@ twoPut list at a b = set (set list at a) (at + 1) b
 
 -- r is the place of the # of a text with n nodes
 pub record HashAt (text : List ℕ) (n r : ℕ) : Type 0 where
-  pub edges : edgesFrom 1024 n (suc (suc n)) (rest (r + 2) text) ≡ good [] (edgesIn (readText text))
+  pub edges : edgesFrom 1024 n (suc (suc n)) (rest (r + 2) text) ≡ good [] (edgesRead (readText text))
   pub within : r + 2 ≤ length text
   pub near : r ≤ 6912
 
 -- the n edges of a text with m nodes stand from a place on
 pub record EdgesAt (text : List ℕ) (m from n : ℕ) : Type 0 where
-  pub edges : edgesFrom 1024 m (suc (suc m)) (rest from text) ≡ good [] (edgesIn (readText text))
-  pub count : length (edgesIn (readText text)) ≡ n
+  pub edges : edgesFrom 1024 m (suc (suc m)) (rest from text) ≡ good [] (edgesRead (readText text))
+  pub count : length (edgesRead (readText text)) ≡ n
   pub within : from ≤ length text
   pub near : from ≤ 6914

@@ -3,10 +3,10 @@ ghost use mathlib.Core.Path.{_≡_};
 ghost use Prim.Native.Nat.{_≤_};
 ghost use Rattle.wall.specs.Read.{readText};
 ghost use Rattle.wall.specs.Steps.{seenOf, edgesSeen};
-use super::Seen;
-use super::lines::edge_at;
-use super::lines::hash_at;
-use super::lines::node_at;
+use crate::Seen;
+use crate::lines::edge_at;
+use crate::lines::hash_at;
+use crate::lines::node_at;
 
 // The edges between m nodes, to the end of the text.
 fn count_edges(text: &[u8], from: usize, m: usize) -> Seen

@@ -5,11 +5,11 @@ ghost use Prim.Native.Nat.{_+_, _*_, _<_, _≤_};
 ghost use lib.ListN.{length, set};
 ghost use lib.Seq.{sets};
 ghost use Rattle.wall.specs.Read.{readText};
-ghost use Rattle.wall.specs.Lent.{isGood, labelsIn, edgesIn, nodeSpots, nodesEnd, edgeSpots};
+ghost use Rattle.wall.specs.Lent.{isGood, labelsIn, edgesRead, nodeSpots, nodesEnd, edgeSpots};
 ghost use Rattle.wall.specs.Steps.{twoPut, HashAt, EdgesAt};
-use super::EdgeLine;
-use super::lines::edge_at;
-use super::lines::node_at;
+use crate::EdgeLine;
+use crate::lines::edge_at;
+use crate::lines::node_at;
 
 // Stores a 32-bit number; past the end it does nothing.
 fn put32(t: &mut [u32], at: usize, v: u32)
@@ -80,7 +80,7 @@ pub fn fill_nodes(text: &[u8], n: usize, nodes: &mut [u32]) -> usize
 pub fn fill_edges(text: &[u8], from: usize, m: usize, n: usize, edges: &mut [u32])
     requires { ⌜ EdgesAt (now text) m from n ⌝ }
     requires { ⌜ n ≤ 1024 ⌝ }
-    ensures { λ _. ⌜ now (edges .exit) ≡ sets (now (edges .entry)) 0 (edgeSpots from (edgesIn (readText (now (text .entry))))) ⌝ }
+    ensures { λ _. ⌜ now (edges .exit) ≡ sets (now (edges .entry)) 0 (edgeSpots from (edgesRead (readText (now (text .entry))))) ⌝ }
 {
     let mut at = from;
     let mut k: usize = 0;

@@ -1,9 +1,13 @@
 // The text of the wall display (document 02, order 14), read back: Trivial Graph Format. First the whole text is judged and counted,
 // and nothing that was lent is written; then the lists are filled.
 mod count;
+pub mod export;
+mod export_lines;
 mod fill;
 mod lines;
+mod numbers;
 mod parts;
+mod walk;
 
 use count::count;
 use fill::fill_edges;

@@ -2,18 +2,18 @@
 ghost use mathlib.Core.Path.{_≡_};
 ghost use Prim.Native.Nat.{_+_, _<_, _≤_};
 ghost use lib.ListN.{length};
-ghost use Rattle.wall.specs.Read.{nodeAt, endAt, edgeAt, hashAt};
+ghost use Rattle.wall.specs.Read.{nodeLineAt, endAt, edgeAt, hashAt};
 ghost use Rattle.wall.specs.Steps.{rest, behind, numberOut, nodeOut, edgeOut, hashOut};
-use super::EdgeLine;
-use super::NodeLine;
-use super::Part;
-use super::parts::label_at;
-use super::parts::number_at;
+use crate::EdgeLine;
+use crate::NodeLine;
+use crate::Part;
+use crate::parts::label_at;
+use crate::parts::number_at;
 use basis::byte;
 
 // The line of node i.
 pub fn node_at(text: &[u8], at: usize, i: usize) -> NodeLine
-    ensures { λ r. ⌜ nodeOut (now (text .entry)) r ≡ nodeAt i (rest at (now (text .entry))) ⌝ }
+    ensures { λ r. ⌜ nodeOut (now (text .entry)) r ≡ nodeLineAt i (rest at (now (text .entry))) ⌝ }
     ensures { λ r. ⌜ (r .next ≤ length (now (text .entry))) × (r .next ≤ at + 54) × (r .begin ≤ at + 4) × (r .size ≤ 49) ⌝ }
     ensures { λ r. ⌜ r .next ≡ behind (r .ok) (r .begin) (r .size) ⌝ }
 {
@@ -70,7 +70,8 @@ fn end_at(text: &[u8], at: usize, m: usize) -> Part
 // The line of an edge among m nodes.
 pub fn edge_at(text: &[u8], at: usize, m: usize) -> EdgeLine
     ensures { λ r. ⌜ edgeOut (now (text .entry)) r ≡ edgeAt m (rest at (now (text .entry))) ⌝ }
-    ensures { λ r. ⌜ (r .next ≤ length (now (text .entry))) × (r .next ≤ at + 58) × (r .begin ≤ at + 8) × (r .size ≤ 49) × (r .source < 1000) × (r .target < 1000) ⌝ }
+    ensures { λ r. ⌜ (r .next ≤ length (now (text .entry))) × (r .next ≤ at + 58) × (r .begin ≤ at + 8) × (r .size ≤ 49) × (r .source < 1000)
+        × (r .target < 1000) ⌝ }
     ensures { λ r. ⌜ r .next ≡ behind (r .ok) (r .begin) (r .size) ⌝ }
 {
     let p = end_at(text, at, m);

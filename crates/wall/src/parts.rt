@@ -4,7 +4,7 @@ ghost use Prim.Native.Nat.{_+_, _<_, _≤_};
 ghost use lib.ListN.{length};
 ghost use Rattle.wall.specs.Read.{numberOn, numberAt, labelIn, labelAt};
 ghost use Rattle.wall.specs.Steps.{rest, behind, numberOut, labelOut};
-use super::Part;
+use crate::Part;
 use basis::byte;
 use basis::wide;
 

@@ -27,7 +27,7 @@ unfoldable pub named : Graph → List Arc
 named G = map (standsFor (G .nodes)) (G .edges)
 
 -- "the same nodes, edges": what one graph has the other has, and none of it twice
-pub record Alike (H G : Graph) : Type 0 where
+pub record GraphsAlike (H G : Graph) : Type 0 where
   pub once-on : Distinct (H .nodes)
   pub once-back : Distinct (G .nodes)
   pub nodes-on : (x : ConflictNode) → In x (H .nodes) → In x (G .nodes)
@@ -35,8 +35,8 @@ pub record Alike (H G : Graph) : Type 0 where
   pub edges : named H ≡ named G
 
 -- "the same nodes, edges and labels": of two nodes that stand for the same, each label is the same, and the clause that first added them
-pub record Same (H G : Graph) : Type 0 where
-  pub alike : Alike H G
+pub record SameGraph (H G : Graph) : Type 0 where
+  pub alike : GraphsAlike H G
   pub installables : (m j : ℕ) → m < length (H .nodes) → j < length (G .nodes) → nodeAt H m ≡ nodeAt G j → installable H m ≡ installable G j
   pub missings : (m j : ℕ) → m < length (H .nodes) → j < length (G .nodes) → nodeAt H m ≡ nodeAt G j → missing H m ≡ missing G j
   pub firsts : (m j : ℕ) → m < length (H .nodes) → j < length (G .nodes) → nodeAt H m ≡ nodeAt G j → firstAt H m ≡ firstAt G j

@@ -24,8 +24,8 @@ abbrev pub hasNode : List ConflictNode → ConflictNode → Bool
 hasNode ns x = any (sameNode x) ns
 
 -- "A reason that already has a node uses it"; a new one stands at the end
-abbrev pub withNode : List ConflictNode → ConflictNode → List ConflictNode
-withNode ns x = elim (hasNode ns x) [ true ↦ ns | false ↦ snoc ns x ]
+abbrev pub nodesWith : List ConflictNode → ConflictNode → List ConflictNode
+nodesWith ns x = elim (hasNode ns x) [ true ↦ ns | false ↦ snoc ns x ]
 
 -- "the new node's clause is the number of clauses", which is c
 abbrev pub withFirst : List ConflictNode → ConflictNode → List ℕ → ℕ → List ℕ
@@ -39,7 +39,7 @@ newEdge ns c s r = record { source = numberOf ns (N.Solvable s); target = number
 unfoldable pub asked : Graph → ℕ → ℕ → ℕ → Graph
 asked G c s r =
     record {
-      nodes = withNode (G .nodes) (N.Excluded r);
+      nodes = nodesWith (G .nodes) (N.Excluded r);
       edges = snoc (G .edges) (newEdge (G .nodes) c s r);
       firsts = withFirst (G .nodes) (N.Excluded r) (G .firsts) c;
       hand = c;
@@ -56,8 +56,8 @@ abbrev pub goneCount : Graph → ℕ
 goneCount G = cond (isUnresolved (nodeAt G 1)) 0 1
 
 -- "8 as in the build, unresolved counted": no node 129 and no edge 1,025, the nodes as the build counts them before unresolved may go
-abbrev pub fits : Graph → ℕ → Bool
-fits G r = leb (length (withNode (G .nodes) (N.Excluded r)) + goneCount G) 128 && ltb (length (G .edges)) 1024
+abbrev pub fitsGraph : Graph → ℕ → Bool
+fitsGraph G r = leb (length (nodesWith (G .nodes) (N.Excluded r)) + goneCount G) 128 && ltb (length (G .edges)) 1024
 
 -- "17 as in order 9": "place the lowest node on one"
 abbrev pub unlessCycle : Option ℕ → Outcome → Outcome
@@ -70,7 +70,7 @@ unfoldable pub questionOf : Tables → Graph → ℕ → ℕ → Outcome
 unfolding asked cycleOf
 questionOf T G s r =
     cond (known T G s r)
-    (cond (fits G r)
+    (cond (fitsGraph G r)
     (unlessCycle (cycleOf G) (drawn (asked G (length (T .clauses)) s r)))
     (refused 8 (length (T .clauses))))
     (refused 4 0)

@@ -8,14 +8,14 @@ use Rattle.store.specs.Graph.{Graph}
 use Rattle.store.specs.Table.{graphIn}
 use Rattle.store.specs.Exact.{size-one, table-one}
 use Rattle.links.specs.Build.{Chains, chainsOf}
-use Rattle.labels.specs.Marks.{marksOf}
+use Rattle.labels.specs.Marks.{labelBits}
 use Rattle.graph.specs.declared.Made.{Made}
 use Rattle.graph.specs.declared.Made.the-variants as M
 use Rattle.graph.specs.Graphs.{Outcome, drawn, refused}
 
 -- X is what the question gives; g₀, w₀ and m₀ are the graph's table, its chains and the marks before, g, w and ms after
 abbrev pub Leaves : Outcome → List ℕ → List ℕ → List ℕ → List ℕ → List ℕ → List ℕ → Made → Type 0
-Leaves X g₀ w₀ m₀ g w ms (M.Whole s) = (X ≡ drawn (graphIn g s)) × (Chains g s w) × (w ≡ chainsOf g s w₀) × (ms ≡ marksOf (graphIn g s))
+Leaves X g₀ w₀ m₀ g w ms (M.Whole s) = (X ≡ drawn (graphIn g s)) × (Chains g s w) × (w ≡ chainsOf g s w₀) × (ms ≡ labelBits (graphIn g s))
 Leaves X g₀ w₀ m₀ g w ms (M.Refused k p) = (X ≡ refused k p) × (g ≡ g₀) × (w ≡ w₀) × (ms ≡ m₀)
 
 pub record Asks (X : Outcome) (g₀ w₀ m₀ g w ms : List ℕ) (r : Made) : Type 0 where
@@ -29,7 +29,7 @@ module _ (X : Outcome) (g₀ w₀ m₀ g w ms h v ns : List ℕ) where
       let q : graphIn g s ≡ graphIn h t = cc in
       let a : s ≡ t = size-one g h s t (L .1 .stored) (N .1 .stored) q in
       let b : g ≡ h = table-one g h s t (L .1 .stored) (N .1 .stored) q in
-      (ap M.Whole a, b, L .2 ∙ rw (a, b) (sym (N .2)), L .3 ∙ ap marksOf q ∙ sym (N .3))
+      (ap M.Whole a, b, L .2 ∙ rw (a, b) (sym (N .2)), L .3 ∙ ap labelBits q ∙ sym (N .3))
 
   one-leaves : (r q : Made) → Leaves X g₀ w₀ m₀ g w ms r → Leaves X g₀ w₀ m₀ h v ns q → (r ≡ q) × (g ≡ h) × (w ≡ v) × (ms ≡ ns)
   one-leaves (M.Whole s) (M.Whole t) L N = both s t L N
@@ -41,5 +41,6 @@ module _ (X : Outcome) (g₀ w₀ m₀ g w ms h v ns : List ℕ) where
       let b : p ≡ i = cc in
       (cc, L .1 ∙ sym (N .1), L .2 ∙ sym (N .2), L .3 ∙ sym (N .3))
 
-pub asks-one : (X : Outcome) (g₀ w₀ m₀ g w ms h v ns : List ℕ) (r q : Made) → Asks X g₀ w₀ m₀ g w ms r → Asks X g₀ w₀ m₀ h v ns q → (r ≡ q) × (g ≡ h) × (w ≡ v) × (ms ≡ ns)
+pub asks-one : (X : Outcome) (g₀ w₀ m₀ g w ms h v ns : List ℕ) (r q : Made) → Asks X g₀ w₀ m₀ g w ms r → Asks X g₀ w₀ m₀ h v ns q → (r ≡ q) × (g ≡ h) × (w ≡ v)
+    × (ms ≡ ns)
 asks-one X g₀ w₀ m₀ g w ms h v ns r q A B = one-leaves X g₀ w₀ m₀ g w ms h v ns r q (A .leaves) (B .leaves)

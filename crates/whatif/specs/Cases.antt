@@ -15,10 +15,10 @@ use Rattle.store.specs.declared.Edge.{Edge}
 use Rattle.store.specs.Graph.{Graph, settle, out, into}
 use Rattle.labels.specs.Order.{through, visit, postorder}
 use Rattle.labels.specs.Labels.{targets, orderOf, canInstall, isLacking, passing, installables, missings}
-use Rattle.labels.specs.Marks.{instAt, missAt, anew, marksOf}
+use Rattle.labels.specs.Marks.{instAt, missAt, anew, labelBits}
 use Rattle.cycles.specs.Cycles.{onCycle, cycleOf}
 use Rattle.graph.specs.Graphs.{Outcome, drawn, refused}
-use Rattle.whatif.specs.Asked.{asked, questionOf, fits, goneCount}
+use Rattle.whatif.specs.Asked.{asked, questionOf, fitsGraph, goneCount}
 use Rattle.whatif.specs.Alike.{named}
 use Rattle.whatif.specs.Relabel.{touched, turn, turns, relabel, stored}
 
@@ -28,7 +28,18 @@ abbrev blank : Rec
 blank = record { kind = 0; first = 0; a = 0; b = 0; c = 0; text = [] }
 
 abbrev tables : Tables
-tables = record { names = []; solvables = replicate 8 blank; versionSets = []; requirements = []; candidates = []; reasons = replicate 2 blank; variables = []; assigned = []; clauses = replicate 9 blank }
+tables =
+    record {
+      names = [];
+      solvables = replicate 8 blank;
+      versionSets = [];
+      requirements = [];
+      candidates = [];
+      reasons = replicate 2 blank;
+      variables = [];
+      assigned = [];
+      clauses = replicate 9 blank;
+    }
 
 abbrev requires : ℕ → ℕ → ℕ → Edge
 requires n t q = record { source = n; target = t; weight = W.Requires q; clause = q }
@@ -38,7 +49,13 @@ excludes n t c = record { source = n; target = t; weight = W.Conflict C.Excluded
 
 -- the root needs solvable 5, and solvable 7; nothing leads to unresolved
 abbrev core : Graph
-core = record { nodes = N.Root ∷ N.UnresolvedDependency ∷ N.Solvable 5 ∷ N.Solvable 7 ∷ []; edges = requires 0 2 0 ∷ requires 0 3 1 ∷ []; firsts = 65535 ∷ 65535 ∷ 0 ∷ 1 ∷ []; hand = 1 }
+core =
+    record {
+      nodes = N.Root ∷ N.UnresolvedDependency ∷ N.Solvable 5 ∷ N.Solvable 7 ∷ [];
+      edges = requires 0 2 0 ∷ requires 0 3 1 ∷ [];
+      firsts = 65535 ∷ 65535 ∷ 0 ∷ 1 ∷ [];
+      hand = 1;
+    }
 
 -- asked about 5: the excluded node stands at the end, not at the place that unresolved left, and both are the new clause's
 abbrev here : Graph
@@ -70,22 +87,24 @@ same-edges = refl
 
 -- ---- labels: the root and 5 lose theirs, 7 keeps it
 
-pub marks-before : take 4 (marksOf (settle core)) ≡ 1 ∷ 1 ∷ 1 ∷ 0 ∷ []
-unfolding settle asked marksOf installables missings passing canInstall isLacking orderOf postorder visit through targets out into
+pub marks-before : take 4 (labelBits (settle core)) ≡ 1 ∷ 1 ∷ 1 ∷ 0 ∷ []
+unfolding settle asked labelBits installables missings passing canInstall isLacking orderOf postorder visit through targets out into
 marks-before = refl
 
 -- only the chosen package relabelled would leave the root's 1
-pub marks-after : take 4 (marksOf here) ≡ 0 ∷ 1 ∷ 0 ∷ 0 ∷ []
-unfolding settle asked marksOf installables missings passing canInstall isLacking orderOf postorder visit through targets out into
+pub marks-after : take 4 (labelBits here) ≡ 0 ∷ 1 ∷ 0 ∷ 0 ∷ []
+unfolding settle asked labelBits installables missings passing canInstall isLacking orderOf postorder visit through targets out into
 marks-after = refl
 
-pub relabelled : relabel here 2 (orderOf here) (marksOf (settle core)) ≡ marksOf here
-unfolding relabel turns turn touched anew instAt missAt settle asked marksOf installables missings passing canInstall isLacking orderOf postorder visit through targets out into
+pub relabelled : relabel here 2 (orderOf here) (labelBits (settle core)) ≡ labelBits here
+unfolding relabel turns turn touched anew instAt missAt settle asked labelBits installables missings passing canInstall isLacking orderOf postorder visit
+    through targets out into
 relabelled = refl
 
 -- node 7, number 1, and the reason are not stored to
-pub stores : take 4 (stored here 2 (orderOf here) (marksOf (settle core))) ≡ 1 ∷ 0 ∷ 1 ∷ 0 ∷ []
-unfolding stored turns turn touched anew instAt missAt settle asked marksOf installables missings passing canInstall isLacking orderOf postorder visit through targets out into
+pub stores : take 4 (stored here 2 (orderOf here) (labelBits (settle core))) ≡ 1 ∷ 0 ∷ 1 ∷ 0 ∷ []
+unfolding stored turns turn touched anew instAt missAt settle asked labelBits installables missings passing canInstall isLacking orderOf postorder visit through
+    targets out into
 stores = refl
 
 -- from marks that are wrong, 99 for every node, those two keep what they had: every label rewritten would not
@@ -119,7 +138,8 @@ told (drawn G) = 0 ∷ 0 ∷ []
 told (refused k p) = k ∷ p ∷ []
 
 -- 4: no ninth solvable, no third reason, a solvable without a node; "place 0"
-pub unknown : map told (questionOf tables (settle core) 8 0 ∷ questionOf tables (settle core) 5 2 ∷ questionOf tables (settle core) 6 0 ∷ questionOf tables (settle core) 5 0 ∷ []) ≡ (4 ∷ 0 ∷ []) ∷ (4 ∷ 0 ∷ []) ∷ (4 ∷ 0 ∷ []) ∷ (0 ∷ 0 ∷ []) ∷ []
+pub unknown : map told (questionOf tables (settle core) 8 0 ∷ questionOf tables (settle core) 5 2 ∷ questionOf tables (settle core) 6 0
+    ∷ questionOf tables (settle core) 5 0 ∷ []) ≡ (4 ∷ 0 ∷ []) ∷ (4 ∷ 0 ∷ []) ∷ (4 ∷ 0 ∷ []) ∷ (0 ∷ 0 ∷ []) ∷ []
 unfolding settle questionOf asked cycleOf onCycle
 unknown = refl
 
@@ -143,6 +163,11 @@ unfolding questionOf asked cycleOf onCycle
 known-first = refl
 
 -- 17 at the lowest node on the cycle, by the graph that was built
-pub cyclic : told (questionOf tables (record { nodes = N.Root ∷ N.Solvable 5 ∷ N.Solvable 7 ∷ []; edges = requires 0 1 0 ∷ requires 1 2 1 ∷ requires 2 1 2 ∷ []; firsts = []; hand = 0 }) 5 0) ≡ 17 ∷ 1 ∷ []
+pub cyclic : told (questionOf tables (record {
+  nodes = N.Root ∷ N.Solvable 5 ∷ N.Solvable 7 ∷ [];
+  edges = requires 0 1 0 ∷ requires 1 2 1 ∷ requires 2 1 2 ∷ [];
+  firsts = [];
+  hand = 0;
+}) 5 0) ≡ 17 ∷ 1 ∷ []
 unfolding questionOf asked cycleOf onCycle
 cyclic = refl

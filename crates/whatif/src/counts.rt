@@ -5,9 +5,10 @@ ghost use lib.ListN.{length};
 ghost use lib.Dec.{ltb};
 ghost use Rattle.records.specs.Read.{tablesOf};
 ghost use Rattle.index.specs.Index.{Loaded};
+use index::Slots;
 
 // The number of clauses, which is the number that one more would get.
-pub fn clauses(file: &[u8], ix: &[u16; 10432]) -> usize
+pub fn clauses(file: &[u8], ix: &Slots) -> usize
     requires { ⌜ Loaded (now file) (now ix) ⌝ }
     ensures { λ r. ⌜ (r ≡ length (tablesOf (now (file .entry)) .clauses)) × (r ≤ 1024) ⌝ }
 {
@@ -22,7 +23,7 @@ pub fn clauses(file: &[u8], ix: &[u16; 10432]) -> usize
     1024
 }
 
-pub fn is_reason(file: &[u8], ix: &[u16; 10432], r: usize) -> bool
+pub fn is_reason(file: &[u8], ix: &Slots, r: usize) -> bool
     requires { ⌜ Loaded (now file) (now ix) ⌝ }
     ensures { λ b. ⌜ b ≡ ltb r (length (tablesOf (now (file .entry)) .reasons)) ⌝ }
 {

@@ -4,12 +4,13 @@ ghost use Prim.Native.Nat.{_<_, _≤_};
 ghost use lib.ListN.{length};
 ghost use Rattle.store.specs.declared.ConflictNode.the-variants.{Excluded};
 ghost use Rattle.store.specs.Table.{graphIn, Stored};
-ghost use Rattle.whatif.specs.Asked.{withNode};
+ghost use Rattle.whatif.specs.Asked.{nodesWith};
 ghost use Rattle.whatif.specs.Laws.Exclusion.{withReason, askedFrom};
 use store::ConflictCause;
 use store::ConflictEdge;
 use store::ConflictNode;
 use store::Edge;
+use store::GraphWords;
 use store::Size;
 
 fn small(i: usize) -> u8
@@ -20,9 +21,9 @@ fn small(i: usize) -> u8
 }
 
 // "A reason that already has a node uses it"; a new one stands at the end.
-fn with_reason(g: &mut [u64; 1152], s: Size, reason: u16) -> Size
+fn with_reason(g: &mut GraphWords, s: Size, reason: u16) -> Size
     requires { ⌜ Stored (now g) s ⌝ }
-    requires { ⌜ length (withNode (graphIn (now g) s .nodes) (Excluded reason)) ≤ 128 ⌝ }
+    requires { ⌜ length (nodesWith (graphIn (now g) s .nodes) (Excluded reason)) ≤ 128 ⌝ }
     ensures { λ r. ⌜ (graphIn (now (g .exit)) r ≡ withReason (graphIn (now (g .entry)) s) reason) × Stored (now (g .exit)) r ⌝ }
 {
     let b = store::behind::place_of(g, s, ConflictNode::Excluded(reason));
@@ -33,10 +34,10 @@ fn with_reason(g: &mut [u64; 1152], s: Size, reason: u16) -> Size
 }
 
 // From node a, by clause n.
-pub fn exclude(g: &mut [u64; 1152], s: Size, a: usize, reason: u16, n: u16) -> Size
+pub fn exclude(g: &mut GraphWords, s: Size, a: usize, reason: u16, n: u16) -> Size
     requires { ⌜ Stored (now g) s ⌝ }
     requires { ⌜ a < s .nodes ⌝ }
-    requires { ⌜ length (withNode (graphIn (now g) s .nodes) (Excluded reason)) ≤ 128 ⌝ }
+    requires { ⌜ length (nodesWith (graphIn (now g) s .nodes) (Excluded reason)) ≤ 128 ⌝ }
     requires { ⌜ s .edges < 1024 ⌝ }
     ensures { λ r. ⌜ (graphIn (now (g .exit)) r ≡ askedFrom (graphIn (now (g .entry)) s) n a reason) × Stored (now (g .exit)) r ⌝ }
 {

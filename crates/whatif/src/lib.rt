@@ -18,10 +18,14 @@ ghost use Rattle.whatif.specs.Asks.{Asks};
 ghost use Rattle.whatif.specs.Laws.Asks.{Placed, After, Passing};
 use crate::tests::Test;
 use graph::Made;
+use index::Slots;
+use store::ChainWords;
+use store::GraphWords;
+use store::PerNode;
 use store::Size;
 
 // The exclusion and the chains anew.
-fn place(g: &mut [u64; 1152], s: Size, ls: &mut [u16; 3456], a: usize, reason: u16, n: u16) -> Size
+fn place(g: &mut GraphWords, s: Size, ls: &mut ChainWords, a: usize, reason: u16, n: u16) -> Size
     requires { ⌜ Chains (now g) s (now ls) ⌝ }
     requires { ⌜ Passing (graphIn (now g) s) a reason ⌝ }
     ensures { λ r. ⌜ Placed (graphIn (now (g .entry)) s) n a reason (now (ls .entry)) (now (g .exit)) (now (ls .exit)) r ⌝ }
@@ -32,7 +36,7 @@ fn place(g: &mut [u64; 1152], s: Size, ls: &mut [u16; 3456], a: usize, reason: u
 }
 
 // The labels anew of the graph with the exclusion.
-fn mark(g: &[u64; 1152], s: Size, ls: &[u16; 3456], marks: &mut [u16; 128], a: usize)
+fn mark(g: &GraphWords, s: Size, ls: &ChainWords, marks: &mut PerNode, a: usize)
     requires { ⌜ Chains (now g) s (now ls) ⌝ }
     ensures { λ _. ⌜ now (marks .exit) ≡ relabel (graphIn (now (g .entry)) s) a (orderOf (graphIn (now (g .entry)) s)) (now (marks .entry)) ⌝ }
 {
@@ -46,10 +50,10 @@ fn mark(g: &[u64; 1152], s: Size, ls: &[u16; 3456], marks: &mut [u16; 128], a: u
 
 // The labels of the graph as it is, then the exclusion, then the labels that it changes.
 fn exclude(
-    g: &mut [u64; 1152],
+    g: &mut GraphWords,
     s: Size,
-    ls: &mut [u16; 3456],
-    marks: &mut [u16; 128],
+    ls: &mut ChainWords,
+    marks: &mut PerNode,
     a: usize,
     reason: u16,
     n: u16,
@@ -69,11 +73,11 @@ fn exclude(
 // nothing changed.
 pub fn ask(
     file: &[u8],
-    ix: &[u16; 10432],
-    g: &mut [u64; 1152],
+    ix: &Slots,
+    g: &mut GraphWords,
     s: Size,
-    ls: &mut [u16; 3456],
-    marks: &mut [u16; 128],
+    ls: &mut ChainWords,
+    marks: &mut PerNode,
     solvable: u64,
     reason: u64,
 ) -> Made
@@ -81,7 +85,8 @@ pub fn ask(
     requires { ⌜ Chains (now g) s (now ls) ⌝ }
     requires { ⌜ graphOf (tablesOf (now file)) ≡ drawn (graphIn (now g) s) ⌝ }
     requires { ⌜ Blank (now marks) ⌝ }
-    ensures { λ r. ⌜ Asks (questionOf (tablesOf (now (file .entry))) (graphIn (now (g .entry)) s) solvable reason) (now (g .entry)) (now (ls .entry)) (now (marks .entry)) (now (g .exit)) (now (ls .exit)) (now (marks .exit)) r ⌝ }
+    ensures { λ r. ⌜ Asks (questionOf (tablesOf (now (file .entry))) (graphIn (now (g .entry)) s) solvable reason) (now (g .entry)) (now (ls .entry))
+        (now (marks .entry)) (now (g .exit)) (now (ls .exit)) (now (marks .exit)) r ⌝ }
 {
     let x = tests::tested(file, ix, g, s, ls, solvable, reason);
     match x {

@@ -8,13 +8,16 @@ ghost use Rattle.store.specs.Table.{graphIn};
 ghost use Rattle.links.specs.Build.{Chains};
 ghost use Rattle.labels.specs.Labels.{orderOf};
 ghost use Rattle.labels.specs.Marks.{anew};
-ghost use Rattle.labels.specs.Frames.{Listed};
+ghost use Rattle.labels.specs.Frames.{Posted};
 ghost use Rattle.whatif.specs.Relabel.{touched, relabel, stored};
-ghost use Rattle.whatif.specs.Laws.Again.{leadsUp, Turned};
+ghost use Rattle.whatif.specs.Laws.Again.{leadsUp, MarkTurned};
+use store::ChainWords;
+use store::GraphWords;
+use store::PerNode;
 use store::Size;
 
 // An edge leads from n to a node with a 1.
-fn leads_up(g: &[u64; 1152], s: Size, ls: &[u16; 3456], up: &[u16; 128], n: usize) -> bool
+fn leads_up(g: &GraphWords, s: Size, ls: &ChainWords, up: &PerNode, n: usize) -> bool
     requires { ⌜ Chains (now g) s (now ls) ⌝ }
     requires { ⌜ n < s .nodes ⌝ }
     ensures { λ r. ⌜ r ≡ leadsUp (graphIn (now (g .entry)) s) (now (up .entry)) n ⌝ }
@@ -32,14 +35,7 @@ fn leads_up(g: &[u64; 1152], s: Size, ls: &[u16; 3456], up: &[u16; 128], n: usiz
     false
 }
 
-fn is_touched(
-    g: &[u64; 1152],
-    s: Size,
-    ls: &[u16; 3456],
-    up: &[u16; 128],
-    a: usize,
-    n: usize,
-) -> bool
+fn is_touched(g: &GraphWords, s: Size, ls: &ChainWords, up: &PerNode, a: usize, n: usize) -> bool
     requires { ⌜ Chains (now g) s (now ls) ⌝ }
     requires { ⌜ n < s .nodes ⌝ }
     ensures { λ r. ⌜ r ≡ touched (graphIn (now (g .entry)) s) a (now (up .entry)) n ⌝ }
@@ -52,11 +48,11 @@ fn is_touched(
 
 // The one store to the marks.
 fn store_up(
-    g: &[u64; 1152],
+    g: &GraphWords,
     s: Size,
-    ls: &[u16; 3456],
-    marks: &mut [u16; 128],
-    up: &mut [u16; 128],
+    ls: &ChainWords,
+    marks: &mut PerNode,
+    up: &mut PerNode,
     a: usize,
     n: usize,
 )
@@ -72,17 +68,17 @@ fn store_up(
 }
 
 fn turn_to(
-    g: &[u64; 1152],
+    g: &GraphWords,
     s: Size,
-    ls: &[u16; 3456],
-    marks: &mut [u16; 128],
-    up: &mut [u16; 128],
+    ls: &ChainWords,
+    marks: &mut PerNode,
+    up: &mut PerNode,
     a: usize,
     n: usize,
 )
     requires { ⌜ Chains (now g) s (now ls) ⌝ }
     requires { ⌜ n < s .nodes ⌝ }
-    ensures { λ _. ⌜ Turned (graphIn (now (g .entry)) s) a n (now (marks .entry)) (now (up .entry)) (now (marks .exit)) (now (up .exit)) ⌝ }
+    ensures { λ _. ⌜ MarkTurned (graphIn (now (g .entry)) s) a n (now (marks .entry)) (now (up .entry)) (now (marks .exit)) (now (up .exit)) ⌝ }
 {
     let t = is_touched(g, s, ls, up, a, n);
     if t {
@@ -94,16 +90,16 @@ fn turn_to(
 // Along the post-order of the graph asked for; a is the chosen package's number, and `up` a table of zeros. Whatever the marks are, no
 // other is stored to.
 pub fn relabel(
-    g: &[u64; 1152],
+    g: &GraphWords,
     s: Size,
-    ls: &[u16; 3456],
-    marks: &mut [u16; 128],
-    up: &mut [u16; 128],
-    order: &[u16; 128],
+    ls: &ChainWords,
+    marks: &mut PerNode,
+    up: &mut PerNode,
+    order: &PerNode,
     count: usize,
     a: usize,
 )
-    requires { ⌜ Listed (now g) s (now ls) (now order) count ⌝ }
+    requires { ⌜ Posted (now g) s (now ls) (now order) count ⌝ }
     requires { ⌜ now up ≡ replicate 128 0 ⌝ }
     ensures { λ _. ⌜ now (marks .exit) ≡ relabel (graphIn (now (g .entry)) s) a (orderOf (graphIn (now (g .entry)) s)) (now (marks .entry)) ⌝ }
     ensures { λ _. ⌜ now (up .exit) ≡ stored (graphIn (now (g .entry)) s) a (orderOf (graphIn (now (g .entry)) s)) (now (marks .entry)) ⌝ }

@@ -8,10 +8,13 @@ ghost use Rattle.index.specs.Index.{Loaded};
 ghost use Rattle.store.specs.Table.{graphIn, Stored};
 ghost use Rattle.links.specs.Build.{Chains};
 ghost use Rattle.graph.specs.Graphs.{graphOf, drawn};
-ghost use Rattle.whatif.specs.Asked.{goneCount, fits};
+ghost use Rattle.whatif.specs.Asked.{goneCount, fitsGraph};
 ghost use Rattle.whatif.specs.Laws.Tests.{chosenOf, graphTest, testOf};
 use crate::counts;
+use index::Slots;
+use store::ChainWords;
 use store::ConflictNode;
+use store::GraphWords;
 use store::Size;
 
 // A refusal with its place; or the chosen package's node and the number of clauses.
@@ -36,7 +39,7 @@ fn clause_number(n: usize) -> u16
 }
 
 // 1 where unresolved has gone.
-fn gone(g: &[u64; 1152], s: Size) -> usize
+fn gone(g: &GraphWords, s: Size) -> usize
     requires { ⌜ Stored (now g) s ⌝ }
     ensures { λ r. ⌜ (r ≡ goneCount (graphIn (now (g .entry)) s)) × (r ≤ 1) ⌝ }
 {
@@ -53,9 +56,9 @@ fn with_one(n: usize, b: usize) -> usize
 }
 
 // Node 129 and edge 1,025 would not be added, unresolved counted.
-fn has_room(g: &[u64; 1152], s: Size, reason: u16) -> bool
+fn has_room(g: &GraphWords, s: Size, reason: u16) -> bool
     requires { ⌜ Stored (now g) s ⌝ }
-    ensures { λ r. ⌜ r ≡ fits (graphIn (now (g .entry)) s) reason ⌝ }
+    ensures { λ r. ⌜ r ≡ fitsGraph (graphIn (now (g .entry)) s) reason ⌝ }
 {
     let b = store::behind::place_of(g, s, ConflictNode::Excluded(reason));
     let k = gone(g, s);
@@ -70,14 +73,7 @@ fn has_room(g: &[u64; 1152], s: Size, reason: u16) -> bool
 }
 
 // The chosen package's node; the count of nodes for an unknown solvable or reason, or a solvable without a node.
-fn chosen(
-    file: &[u8],
-    ix: &[u16; 10432],
-    g: &[u64; 1152],
-    s: Size,
-    solvable: u16,
-    reason: u16,
-) -> usize
+fn chosen(file: &[u8], ix: &Slots, g: &GraphWords, s: Size, solvable: u16, reason: u16) -> usize
     requires { ⌜ Loaded (now file) (now ix) ⌝ }
     requires { ⌜ Stored (now g) s ⌝ }
     requires { ⌜ graphOf (tablesOf (now file)) ≡ drawn (graphIn (now g) s) ⌝ }
@@ -94,10 +90,10 @@ fn chosen(
 // 8, then 17, for a package that has a node, at a.
 fn tested_graph(
     file: &[u8],
-    ix: &[u16; 10432],
-    g: &[u64; 1152],
+    ix: &Slots,
+    g: &GraphWords,
     s: Size,
-    ls: &[u16; 3456],
+    ls: &ChainWords,
     a: usize,
     reason: u16,
 ) -> Test
@@ -123,10 +119,10 @@ fn tested_graph(
 // 4, then 8 and 17.
 pub fn tested(
     file: &[u8],
-    ix: &[u16; 10432],
-    g: &[u64; 1152],
+    ix: &Slots,
+    g: &GraphWords,
     s: Size,
-    ls: &[u16; 3456],
+    ls: &ChainWords,
     solvable: u64,
     reason: u64,
 ) -> Test

@@ -8,7 +8,7 @@ use lib.Dec.{leb, eqb}
 use Rattle.records.specs.Shapes.{recOf}
 use Rattle.records.specs.Tables.{noTables}
 use Rattle.records.specs.Read.{Reading, good, bad, readFrom}
-use Rattle.pieces.specs.Pieces.{pieces, joined}
+use Rattle.reader.specs.Pieces.{pieces, joined}
 use Rattle.writing.specs.declared.Written.{Written}
 use Rattle.writing.specs.Arranged.{rowsOf, arranged}
 
@@ -19,16 +19,16 @@ pub data File : Type 0 where
 
 -- "Tables whose file would get 3 to 6 get that refusal, its place in that file", and so does an unknown kind its 2; then
 -- "1 when the file would pass 65,536 bytes"
-abbrev pub judged : Reading → List (List ℕ) → File
-judged (bad n i) ys = refused n i
-judged (good T) ys = cond (leb (32 * length ys) 65536) (written (joined ys)) (refused 1 0)
+abbrev pub judgedFile : Reading → List (List ℕ) → File
+judgedFile (bad n i) ys = refused n i
+judgedFile (good T) ys = cond (leb (32 * length ys) 65536) (written (joined ys)) (refused 1 0)
 
 -- "A `rows_len` that is no multiple of 32 is 1, place 0, before all others"
 unfoldable pub writeOf : List ℕ → File
 unfolding pieces arranged
 writeOf rows =
     cond (eqb (length rows % 32) 0)
-    (judged (readFrom (map recOf (arranged (rowsOf rows))) 0 noTables) (arranged (rowsOf rows)))
+    (judgedFile (readFrom (map recOf (arranged (rowsOf rows))) 0 noTables) (arranged (rowsOf rows)))
     (refused 1 0)
 
 -- a refusal's number and place: "nothing written"

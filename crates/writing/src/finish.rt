@@ -3,15 +3,15 @@ use crate::Turn;
 use crate::Work;
 use crate::Written;
 use crate::refusal;
-use pieces::paste_bytes;
+use reader::pieces::paste_bytes;
 ghost use mathlib.Core.Path.{_≡_};
 ghost use lib.ListN.{length};
-ghost use Rattle.writing.specs.Pass.{Laid, Concluded};
+ghost use Rattle.writing.specs.Pass.{FileLaid, Concluded};
 
 // The records of `out` that w counts: "1 when the file would pass 65,536 bytes, then 10 when it doesn't fit".
 fn finish(w: Work, out: &[u8], room: &mut [u8]) -> Written
     requires { ⌜ length (now out) ≡ 65536 ⌝ }
-    ensures { λ r. ⌜ Laid (w .place) (now (out .entry)) (now (room .entry)) r (now (room .exit)) ⌝ }
+    ensures { λ r. ⌜ FileLaid (w .place) (now (out .entry)) (now (room .entry)) r (now (room .exit)) ⌝ }
 {
     let p = w.place;
     if 2048 < p {

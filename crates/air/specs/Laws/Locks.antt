@@ -20,7 +20,7 @@ use Rattle.records.specs.Views.{clauseOf, coreAt}
 use Rattle.index.specs.Index.{Loaded}
 use Rattle.index.specs.Promise.{Valid}
 use Rattle.index.specs.Found.{loaded-valid}
-use Rattle.reach.specs.Queue.{lowestOf}
+use Rattle.links.specs.Queue.{lowestOf}
 use Rattle.air.specs.Profile.{isLock, lockAt, firstLock}
 
 -- ---- one clause

@@ -19,7 +19,7 @@ use Rattle.machine.specs.Machine.{Plan, Op, requirement, candidate, Entry, entr
 use Rattle.machine.specs.Bound.{segment}
 use Rattle.machine.specs.Halts.{stop-on}
 use Rattle.machine.specs.Never.{Child, Up, UpOp, Came, came-start, came-turn}
-use Rattle.plan.specs.Plan.{Shown, isMerged, groupOf, isInstallable, runInstallable, noCandidates, offered, dedup, kidsOf, sorted, popped, planOf}
+use Rattle.plan.specs.Plan.{Shown, mergedShown, groupOf, isInstallable, runInstallable, noCandidates, offered, dedup, kidsOf, sorted, popped, planOf}
 use Rattle.machine.specs.Laws.Silent.{Silent}
 
 -- ---- any plan: 11 closes a cycle
@@ -96,7 +96,7 @@ module _ (S : Shown) where
   in-dedup (m ∷ ns) seen n i =
       split (has m seen)
       (λ t. inr (in-dedup ns seen n (rw (t, dedup) at i)))
-      (λ t. either (rw (t, dedup) at i) (λ e. inl e) (λ j. inr (in-dedup ns (cond (isMerged S m) (groupOf S m ++ seen) seen) n j)))
+      (λ t. either (rw (t, dedup) at i) (λ e. inl e) (λ j. inr (in-dedup ns (cond (mergedShown S m) (groupOf S m ++ seen) seen) n j)))
 
   in-offered : (r : Run) (n : ℕ) → In n (offered S r) → In n (r .to)
   in-offered r n i =

@@ -13,7 +13,7 @@ use Rattle.store.specs.declared.Size.{Size}
 use Rattle.store.specs.Graph.{Graph}
 use Rattle.store.specs.Table.{graphIn, Stored, nodes-count}
 use Rattle.links.specs.Build.{Chains}
-use Rattle.reach.specs.Queue.{lowestOf}
+use Rattle.links.specs.Queue.{lowestOf}
 use Rattle.cycles.specs.Cycles.{cycleOf}
 use Rattle.air.specs.declared.Profile.{Profile}
 use Rattle.air.specs.declared.Profile.the-variants.{Passed, Refused}

@@ -14,14 +14,14 @@ use Rattle.records.specs.Tables.{Tables}
 use Rattle.records.specs.Read.{Reading, good, bad, readOf}
 use Rattle.index.specs.Promise.{Valid, promise}
 use Rattle.store.specs.Graph.{Graph}
-use Rattle.reach.specs.Paths.{Way, Whole}
+use Rattle.links.specs.Paths.{Way, GraphWhole}
 use Rattle.labels.specs.Ordered.{Acyclic}
 use Rattle.labels.specs.Laws.Paths.{way-leads}
 use Rattle.labels.specs.Labels.{targets, canInstall, isLacking, installable, missing, hasUnresolved}
 use Rattle.cycles.specs.Cycles.{cycleOf}
 use Rattle.cycles.specs.Laws.Found.{none-free, found-way, found-least}
 use Rattle.graph.specs.Graphs.{Outcome, drawn, refused, graphOf}
-use Rattle.settled.specs.Settled.{sound, drawn-installable, drawn-missing}
+use Rattle.shape.specs.Settled.{sound, drawn-installable, drawn-missing}
 use Rattle.machine.specs.Units.{Result}
 use Rattle.machine.specs.Edition.{edited}
 use Rattle.machine.specs.Laws.Silent.{Silent, never-eleven, whole-done}
@@ -109,7 +109,7 @@ module _ (file : List ℕ) (opt : ℕ) (T : Tables) (G : Graph) (x : Drawn 1 fil
   valid : Valid T
   valid = promise file T (x .tables)
 
-  whole : Whole G
+  whole : GraphWhole G
   whole = let s = sound T valid G (x .graph) in record { some = s .some; ends = s .ends }
 
   acyclic : Taken T G → Acyclic (targets G)

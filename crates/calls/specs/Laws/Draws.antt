@@ -22,7 +22,7 @@ use Rattle.graph.specs.Files.{Makes}
 use Rattle.graph.specs.Laws.Files.{makes-good, makes-graph, makes-refused}
 use Rattle.machine.specs.Units.{Result}
 use Rattle.texts.specs.Wrote.{over}
-use Rattle.drawing.specs.declared.Answer as Drawn
+use Rattle.drawing.specs.declared.PenAnswer as Drawn
 use Rattle.drawing.specs.Draw.{drawnOf}
 use Rattle.drawing.specs.Graphviz.{drawShown, answerIn}
 use Rattle.drawing.specs.Same.{Given, optionOf}
@@ -37,17 +37,21 @@ pub draws-plain : (t : Bool) (T : Tables) (G : Graph) (leads : List ℕ) → t �
 unfolding Given
 draws-plain t T G leads e = rw e tt
 
-pub draws-given : (t : Bool) (T : Tables) (g : List ℕ) (s : Size) (w leads l : List ℕ) → leads ≡ leadsTo (titleOf (nameOf T) (graphIn g s)) (graphIn g s) (s .nodes) l → Chains g s w → length l ≡ 128 → Given t T (graphIn g s) leads
+pub draws-given : (t : Bool) (T : Tables) (g : List ℕ) (s : Size) (w leads l : List ℕ)
+    → leads ≡ leadsTo (titleOf (nameOf T) (graphIn g s)) (graphIn g s) (s .nodes) l → Chains g s w → length l ≡ 128 → Given t T (graphIn g s) leads
 unfolding Given leadOf
 draws-given false T g s w leads l e C h = tt
 draws-given true T g s w leads l e C h =
     record {
       lead = λ j i.
           ap (λ (x : List ℕ). getD x j 0) e
-          ∙ leads-at (titleOf (nameOf T) (graphIn g s)) (graphIn g s) (s .nodes) l (omega (arith, C .stored .nodes-most)) j (omega (arith, nodes-count g s (C .stored)));
+          ∙ leads-at (titleOf (nameOf T) (graphIn g s)) (graphIn g s) (s .nodes) l (omega (arith, C .stored .nodes-most)) j (omega (
+            arith,
+            nodes-count g s (C .stored),
+          ));
     }
 
-pub draws-answer : (x : Answer) (d : Drawn.Answer) (R : Result) → x ≡ drawingAs d → d ≡ answerIn R → x ≡ resultAnswer R
+pub draws-answer : (x : Answer) (d : Drawn.PenAnswer) (R : Result) → x ≡ drawingAs d → d ≡ answerIn R → x ≡ resultAnswer R
 draws-answer x d R q e = q ∙ ap drawingAs e
 
 -- m is what the file makes
@@ -66,10 +70,12 @@ module _ (file ix g w : List ℕ) (m : Made) (R : Makes file ix g w m) (opt room
   pub bytes-refused-room : (b : List ℕ) (k p : ℕ) → m ≡ M.Refused k p → b ≡ over (drawBytes opt room file .text) b
   bytes-refused-room b k p e = rw (unread k p e)
 
-  pub bytes-whole : (x : Answer) (s : Size) → m ≡ M.Whole s → x ≡ resultAnswer (drawShown (drawnOf opt (tablesOf file) (graphIn g s)) room) → x ≡ resultAnswer (drawBytes opt room file)
+  pub bytes-whole : (x : Answer) (s : Size) → m ≡ M.Whole s → x ≡ resultAnswer (drawShown (drawnOf opt (tablesOf file) (graphIn g s)) room)
+      → x ≡ resultAnswer (drawBytes opt room file)
   bytes-whole x s e h = rw (whole s e) h
 
-  pub bytes-whole-room : (l b : List ℕ) (s : Size) → m ≡ M.Whole s → b ≡ over (drawShown (drawnOf opt (tablesOf file) (graphIn g s)) room .text) l → b ≡ over (drawBytes opt room file .text) l
+  pub bytes-whole-room : (l b : List ℕ) (s : Size) → m ≡ M.Whole s → b ≡ over (drawShown (drawnOf opt (tablesOf file) (graphIn g s)) room .text) l
+      → b ≡ over (drawBytes opt room file .text) l
   bytes-whole-room l b s e h = rw (whole s e) h
 
 -- the option
@@ -95,6 +101,6 @@ module _ (file : List ℕ) (opt room : ℕ) where
   unfolding drawFile
   file-bytes-room a b h q = rw (le-leb opt 1 h) (rw (option-is opt h) at q)
 
-pub answer-via : (d : Drawn.Answer) (a b c e f : ℕ) → a ≡ d .number → b ≡ d .place → c ≡ d .bytes → e ≡ d .units → f ≡ d .depth
+pub answer-via : (d : Drawn.PenAnswer) (a b c e f : ℕ) → a ≡ d .number → b ≡ d .place → c ≡ d .bytes → e ≡ d .units → f ≡ d .depth
     → _≡_ {A = Answer} (record { number = a; place = b; bytes = c; units = e; depth = f }) (drawingAs d)
 answer-via d a b c e f p q r s t = rw (p, q, r, s, t)

@@ -15,10 +15,10 @@ use Rattle.graph.specs.declared.Made.the-variants as M
 use Rattle.graph.specs.Graphs.{Outcome, drawn, refused, graphOf}
 use Rattle.graph.specs.Files.{outcomeBy, outcomeOf, Makes}
 use Rattle.graph.specs.Laws.Files.{makes-outcome}
-use Rattle.edgelist.specs.Edges.{edgesOver}
+use Rattle.lists.specs.Edges.{edgesOver}
 use Rattle.calls.specs.declared.Answer.{Answer}
 use Rattle.calls.specs.Answers.{refusalOf, outcomeAnswer, checkBy, checkOf}
-use Rattle.calls.specs.Edges.{listedAnswer, edgesIn, edgesInto, edgesBy, leavesBy, edgesAnswer, edgesLeft}
+use Rattle.calls.specs.Edges.{listedAnswer, edgesAsked, edgesInto, edgesBy, leavesBy, edgesAnswer, edgesLeft}
 
 -- a file that `urzulempa_check` refuses is refused alike, whatever the list
 pub edges-check : (file : List ℕ) (len : ℕ) → (checkOf file .number ≡ 0 → ⊥) → edgesAnswer file len ≡ checkOf file
@@ -39,13 +39,13 @@ module _ (g : List ℕ) (s : Size) (S : Stored g s) (l : List ℕ) where
   many : length (graphIn g s .edges) ≡ s .edges
   many = edges-count g s S
 
-  pub short-answer : (x : Answer) → length l < 5 * s .edges → x ≡ refusalOf 10 0 → x ≡ edgesIn (graphIn g s) (length l)
+  pub short-answer : (x : Answer) → length l < 5 * s .edges → x ≡ refusalOf 10 0 → x ≡ edgesAsked (graphIn g s) (length l)
   short-answer x h q = rw (many, lt-ltb (length l) (5 * s .edges) h) q
 
   pub short-list : length l < 5 * s .edges → l ≡ edgesInto (graphIn g s) l
   short-list h = rw (many, lt-ltb (length l) (5 * s .edges) h)
 
-  pub whole-answer : (x : Answer) → 5 * s .edges ≤ length l → x ≡ listedAnswer (s .edges) → x ≡ edgesIn (graphIn g s) (length l)
+  pub whole-answer : (x : Answer) → 5 * s .edges ≤ length l → x ≡ listedAnswer (s .edges) → x ≡ edgesAsked (graphIn g s) (length l)
   whole-answer x h q = rw (many, le-ltb (length l) (5 * s .edges) h) q
 
   pub whole-list : (k : List ℕ) → 5 * s .edges ≤ length l → k ≡ edgesOver (graphIn g s) l → k ≡ edgesInto (graphIn g s) l
@@ -64,7 +64,7 @@ module _ (file ix g w : List ℕ) (m : Made) (R : Makes file ix g w m) (l : List
   unfolding edgesLeft
   bytes-refused-list k p e = ap (λ (o : Outcome). leavesBy o l) (makes-outcome file ix g w m R (M.Refused k p) e)
 
-  pub bytes-whole : (x : Answer) (s : Size) → m ≡ M.Whole s → x ≡ edgesIn (graphIn g s) (length l) → x ≡ edgesAnswer file (length l)
+  pub bytes-whole : (x : Answer) (s : Size) → m ≡ M.Whole s → x ≡ edgesAsked (graphIn g s) (length l) → x ≡ edgesAnswer file (length l)
   unfolding edgesAnswer
   bytes-whole x s e h = h ∙ ap (λ (o : Outcome). edgesBy o (length l)) (makes-outcome file ix g w m R (M.Whole s) e)
 

@@ -9,11 +9,11 @@ use Rattle.basis.specs.Members.{split}
 use Rattle.records.specs.Read.{Reading, good, bad, readOf}
 use Rattle.graph.specs.Graphs.{Outcome, drawn, refused, graphOf}
 use Rattle.records.specs.Tables.{Tables}
-use Rattle.entries.specs.Entry.{fillTo, fill-entries}
-use Rattle.entries.specs.declared.NodeEntry.{NodeEntry}
-use Rattle.nodelist.specs.declared.Counted.{Counted}
-use Rattle.nodelist.specs.Nodes.{Nodes, entered, denied, nodesDrawn, nodesRead, nodesOf, countedBy, listedBy}
-use Rattle.nodelist.specs.Listed.{Listed, as-many, in-room, packed}
+use Rattle.lists.specs.Entry.{fillTo, fill-entries}
+use Rattle.lists.specs.declared.entries.NodeEntry.{NodeEntry}
+use Rattle.lists.specs.declared.nodes.Counted.{Counted}
+use Rattle.lists.specs.Nodes.{Nodes, entered, denied, nodesDrawn, nodesRead, nodesOf, countedBy, listedBy}
+use Rattle.lists.specs.Listed.{Listed, as-many, in-room, packed}
 use Rattle.calls.specs.Answers.{outcomeAnswer, checkBy, checkOf}
 use Rattle.calls.specs.Nodes.{nodesBy, nodesAnswer, nodesLeft, noWords, answerOf, NodesSaid}
 
@@ -41,7 +41,8 @@ answer-counted (entered es) len = split (ltb len (length es)) (λ t. rw (t, cond
 pub count-fits : (file : List ℕ) (room : ℕ) (r : Counted) (ws : List ℕ) → Listed (nodesOf file) room noWords r ws → (r .count ≤ room) × (r .count ≤ 128)
 count-fits file room r ws e = (in-room (nodesOf file) room noWords r ws e, e .few)
 
-pub exported : (file : List ℕ) (l : List NodeEntry) (r : Counted) (ws : List ℕ) (zs : List NodeEntry) → Listed (nodesOf file) (length l) noWords r ws → zs ≡ fillTo ws (r .count) l → NodesSaid file l (answerOf r) zs
+pub exported : (file : List ℕ) (l : List NodeEntry) (r : Counted) (ws : List ℕ) (zs : List NodeEntry) → Listed (nodesOf file) (length l) noWords r ws
+    → zs ≡ fillTo ws (r .count) l → NodesSaid file l (answerOf r) zs
 unfolding nodesAnswer nodesLeft
 exported file l r ws zs e p =
     let X : Nodes = nodesOf file in

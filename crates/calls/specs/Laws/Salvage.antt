@@ -11,7 +11,7 @@ use Rattle.graph.specs.Files.{outcomeBy, outcomeOf}
 use Rattle.salvage.specs.Lent.{salvageAnswer}
 use Rattle.salvage.specs.Laws.Repaired.{Sound}
 use Rattle.salvage.specs.Laws.Promises.{outIn, done-sound}
-use Rattle.salvaged.specs.Laws.Never.{sound-never}
+use Rattle.salvage.specs.Laws.Never.{sound-never}
 use Rattle.calls.specs.Answers.{outcomeAnswer, checkBy, checkOf}
 
 -- a sound file is done, or gets 8 or 9

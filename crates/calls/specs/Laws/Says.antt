@@ -16,7 +16,7 @@ use Rattle.store.specs.declared.Size.{Size}
 use Rattle.store.specs.Graph.{Graph}
 use Rattle.store.specs.Table.{graphIn, nodes-count}
 use Rattle.links.specs.Build.{Chains}
-use Rattle.labels.specs.Marks.{marksOf}
+use Rattle.labels.specs.Marks.{labelBits}
 use Rattle.groups.specs.Groups.{titleOf}
 use Rattle.groups.specs.Groups as Groups
 use Rattle.groups.specs.Leads.{leadsTo, leads-at}
@@ -33,10 +33,10 @@ use Rattle.plan.specs.Plan.{Shown, shownOf}
 use Rattle.plan.specs.Planned.{Planned}
 use Rattle.plan.specs.Marking.{readAs}
 use Rattle.plan.specs.Laws.Marking.{Reads, read-reads}
-use Rattle.measuring.specs.Exact.{PlanMade}
-use Rattle.measuring.specs.Assembly.{Labelled, marks-are, lead-group}
+use Rattle.planning.specs.Exact.{PlanMade}
+use Rattle.planning.specs.Assembly.{Labelled, marks-are, lead-group}
 use Rattle.lines.specs.Lines.{topOf}
-use Rattle.explanation.specs.declared.walk.Told.{Told}
+use Rattle.explanation.specs.declared.walk.WalkAnswer.{WalkAnswer}
 use Rattle.explanation.specs.Walk.{Ready}
 use Rattle.explanation.specs.Walk.{Answered}
 use Rattle.explanation.specs.Explain.{isEdition, explainEdition, explainTables, refusal}
@@ -63,7 +63,8 @@ unfolding leadsTo
 leads-length title G zero l = refl
 leads-length title G (suc k) l = simp length-set (leads-length title G k l)
 
-pub labelled : (T : Tables) (g : List ℕ) (s : Size) (w ms ld l : List ℕ) → ms ≡ marksOf (graphIn g s) → ld ≡ leadsTo (titleOf (nameOf T) (graphIn g s)) (graphIn g s) (s .nodes) l
+pub labelled : (T : Tables) (g : List ℕ) (s : Size) (w ms ld l : List ℕ) → ms ≡ labelBits (graphIn g s)
+    → ld ≡ leadsTo (titleOf (nameOf T) (graphIn g s)) (graphIn g s) (s .nodes) l
     → Chains g s w → length l ≡ 128 → Labelled T g s ms ld
 unfolding Groups.leadOf
 labelled T g s w ms ld l q e C h =
@@ -85,11 +86,12 @@ planned-as S p q k every h z l = record { before = p; plan = z; long = l; read =
 
 -- ---- a drawn graph
 
-pub told-via : (t : Told) (b c e f : ℕ) → b ≡ t .place → c ≡ t .bytes → e ≡ t .units → f ≡ t .depth
+pub told-via : (t : WalkAnswer) (b c e f : ℕ) → b ≡ t .place → c ≡ t .bytes → e ≡ t .units → f ≡ t .depth
     → _≡_ {A = Answer} (record { number = t .number; place = b; bytes = c; units = e; depth = f }) (toldAs t)
 told-via t b c e f p q r s = rw (p, q, r, s)
 
-pub walked : (T : Tables) (q k : List ℕ) (t : Bool) (out left : List ℕ) (a : Told) (r : Answer) → r ≡ toldAs a → Answered T q k t out left a → Walked T q k t out left r
+pub walked : (T : Tables) (q k : List ℕ) (t : Bool) (out left : List ℕ) (a : WalkAnswer) (r : Answer) → r ≡ toldAs a → Answered T q k t out left a
+    → Walked T q k t out left r
 walked T q k t out left a r u w = record { told = a; is = u; answered = w }
 
 option-top : (t : Bool) → topOf (optionOf t) ≡ t
@@ -134,15 +136,21 @@ module _ (file ix g : List ℕ) (s : Size) (L : Loaded file ix) (e : graphOf (ta
   whole-graphed = graphed (tablesOf file) (loaded-valid file ix L) (graphIn g s) e .0
 
   -- what is shown of the graph that a file draws is its explanation
-  pub whole-says : (every t : Bool) (out left : List ℕ) (r : Answer) → Shows (editionOf every) (tablesOf file) (graphIn g s) (optionOf t) out left r → Says (editionOf every) file (optionOf t) out left r
+  pub whole-says : (every t : Bool) (out left : List ℕ) (r : Answer) → Shows (editionOf every) (tablesOf file) (graphIn g s) (optionOf t) out left r
+      → Says (editionOf every) file (optionOf t) out left r
   whole-says every t out left r S =
       let d : Drawn (editionOf every) file (optionOf t) (tablesOf file) (graphIn g s) =
       record { edition = edition-is every; option = option-low t; tables = loaded-good file ix L; graph = e } in
-      record { text = S .text; is = drawn-file (editionOf every) file (optionOf t) (tablesOf file) (graphIn g s) d (length out) (resultBy r (S .text)) (S .is); room = S .room }
+      record {
+        text = S .text;
+        is = drawn-file (editionOf every) file (optionOf t) (tablesOf file) (graphIn g s) d (length out) (resultBy r (S .text)) (S .is);
+        room = S .room;
+      }
 
 -- ---- refusals write nothing
 
-nothing : (e : ℕ) (file : List ℕ) (opt : ℕ) (out : List ℕ) (k p : ℕ) → explainEdition e 0 file opt (length out) ≡ some (refusal k p) → Says e file opt out out (refusalOf k p)
+nothing : (e : ℕ) (file : List ℕ) (opt : ℕ) (out : List ℕ) (k p : ℕ) → explainEdition e 0 file opt (length out) ≡ some (refusal k p)
+    → Says e file opt out out (refusalOf k p)
 nothing e file opt out k p h = record { text = []; is = record { turns = 0; so = h }; room = refl }
 
 -- 12
@@ -164,23 +172,29 @@ says-later e file opt out r h q =
     unasked e file opt out r (rw (ne-eqb e 1 (λ z. omega arith), ne-eqb e 2 (λ z. omega arith))) q
 
 -- what reading leads to, before a turn is taken
-abbrev explainRead : ℕ → ℕ → ℕ → Reading → Option Result
-explainRead e opt room y = elim y [ bad k p ↦ some (refusal k p) | good T ↦ explainTables e 0 T opt room ]
+abbrev saysRead : ℕ → ℕ → ℕ → Reading → Option Result
+saysRead e opt room y = elim y [ bad k p ↦ some (refusal k p) | good T ↦ explainTables e 0 T opt room ]
 
 -- m is what the file makes
 module _ (file ix g w : List ℕ) (m : Made) (R : Makes file ix g w m) where
-  pub says-refused : (t every : Bool) (out : List ℕ) (r : Answer) (k p : ℕ) → m ≡ M.Refused k p → r ≡ refusalOf k p → Says (editionOf every) file (optionOf t) out out r
+  pub says-refused : (t every : Bool) (out : List ℕ) (r : Answer) (k p : ℕ) → m ≡ M.Refused k p → r ≡ refusalOf k p
+      → Says (editionOf every) file (optionOf t) out out r
   says-refused t every out r k p e h =
       rw h
       (nothing (editionOf every) file (optionOf t) out k p
       (rw (both-asked every t, explainEdition)
-      (makes-refused file ix g w m R (explainRead (editionOf every) (optionOf t) (length out)) (λ l i. some (refusal l i)) (λ l i. refl) (λ T l i z. rw (z, explainTables)) k p e)))
+      (makes-refused file ix g w m R (saysRead (editionOf every) (optionOf t) (length out)) (λ l i. some (refusal l i)) (λ l i. refl) (λ T l i z. rw (
+        z,
+        explainTables,
+      )) k p e)))
 
 -- ---- the edition and the option
 
-pub says-file : (e : ℕ) (file : List ℕ) (opt : ℕ) (out left : List ℕ) (r : Answer) → (e ≡ 0 → ⊥) → e ≤ 2 → opt ≤ 1 → Says (editionOf (eqb e 2)) file (optionOf (eqb opt 1)) out left r
+pub says-file : (e : ℕ) (file : List ℕ) (opt : ℕ) (out left : List ℕ) (r : Answer) → (e ≡ 0 → ⊥) → e ≤ 2 → opt ≤ 1
+    → Says (editionOf (eqb e 2)) file (optionOf (eqb opt 1)) out left r
     → Says e file opt out left r
-says-file e file opt out left r f h g S = subst (λ (o : ℕ). Says e file o out left r) (option opt g) (subst (λ (d : ℕ). Says d file (optionOf (eqb opt 1)) out left r) (edition e f h) S)
+says-file e file opt out left r f h g S =
+    subst (λ (o : ℕ). Says e file o out left r) (option opt g) (subst (λ (d : ℕ). Says d file (optionOf (eqb opt 1)) out left r) (edition e f h) S)
   where
     edition : (n : ℕ) → (n ≡ 0 → ⊥) → n ≤ 2 → editionOf (eqb n 2) ≡ n
     edition zero f l = absurd (f refl)

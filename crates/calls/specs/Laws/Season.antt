@@ -23,7 +23,7 @@ use Rattle.explanation.specs.Contract.{Drawn}
 use Rattle.explanation.specs.Laws.Contract.{file-demand, file-whole, file-less, file-answers}
 use Rattle.explanation.specs.Laws.Numbers.{bad-low, refused-low}
 use Rattle.season.specs.declared.Own.{Own}
-use Rattle.season.specs.Report.{Report, Joining, whole, wide, sum, files, join, empty, fits, joined, orKept}
+use Rattle.season.specs.Report.{Report, Joining, whole, wide, sum, files, join, empty, fitsWidths, joinedReports, orKept}
 use Rattle.season.specs.Season.{share, seasonFrom, season, NoWide, Known}
 use Rattle.season.specs.Words.{reportOf, wordsOf, joinBy, joinWords, shareWords}
 use Rattle.season.specs.Laws.Reports.{Full, join-full, empty-full, share-full, cut, files-season, count-season}
@@ -146,8 +146,15 @@ own-is : (x : Input) → (o : Own) × OwnIs x o
 own-is x =
     let y = file-answers (x .edition) (x .file) (x .option) (length (x .room)) in
     let z : Result = y .0 in
-    let a : Answer = record { number = z .number; place = z .place; bytes = z .bytes; units = z .units; depth = z .depth } in
-    (ownOf a (fileCounts (x .file)), record { left = over (z .text) (x .room); answer = a; says = record { text = z .text; is = y .1; room = refl }; is = refl })
+    let a : Answer = record { number = z .number; place = z .place; bytes = z .bytes; units = z .units; depth = z .depth } in (
+      ownOf a (fileCounts (x .file)),
+      record {
+        left = over (z .text) (x .room);
+        answer = a;
+        says = record { text = z .text; is = y .1; room = refl };
+        is = refl;
+      },
+    )
 
 pub owns-all : (xs : List Input) → (os : List Own) × Owns xs os
 owns-all [] = ([], tt)
@@ -207,39 +214,40 @@ module _ (x : Input) (o : Own) (S : OwnIs x o) (rep : Report) (f : Full rep) (us
   share-same : ownOf (entered .own) (fileCounts (x .file)) ≡ o
   share-same = ap (λ (a : Answer). ownOf a (fileCounts (x .file))) own-same ∙ sym (S .is)
 
-  call-words : us ≡ wordsOf (orKept rep (joined rep (share o)))
+  call-words : us ≡ wordsOf (orKept rep (joinedReports rep (share o)))
   call-words =
       entered .enters .report
       ∙ ap (λ (a : Own). joinWords (wordsOf rep) (shareWords a)) share-same
       ∙ join-words rep (share o) f (share-full o)
 
   -- the answer is the file's own, or "14 if a count would pass its width"
-  call-answer : r ≡ guard (fits (join rep (share o))) (refusalOf 14 0) (entered .own)
+  call-answer : r ≡ guard (fitsWidths (join rep (share o))) (refusalOf 14 0) (entered .own)
   call-answer =
       entered .enters .answer
       ∙ ap (λ (a : Own). joinBy (wordsOf rep) (shareWords a) (refusalOf 10 0) (refusalOf 14 0) (entered .own)) share-same
       ∙ by-fits rep (share o) f (share-full o) (refusalOf 10 0) (refusalOf 14 0) (entered .own)
 
   -- 14 exactly where it would, "report unchanged"
-  pub call-wide : fits (join rep (share o)) ≡ false → (r ≡ refusalOf 14 0) × (us ≡ wordsOf rep)
-  unfolding guard joined
+  pub call-wide : fitsWidths (join rep (share o)) ≡ false → (r ≡ refusalOf 14 0) × (us ≡ wordsOf rep)
+  unfolding guard joinedReports
   call-wide t =
-      let w : joined rep (share o) ≡ wide = rw (t, joined) in
+      let w : joinedReports rep (share o) ≡ wide = rw (t, joinedReports) in
       (call-answer ∙ rw t, call-words ∙ ap (λ (j : Joining). wordsOf (orKept rep j)) w)
 
-  pub call-whole : fits (join rep (share o)) ≡ true → (r ≡ S .answer) × (us ≡ wordsOf (join rep (share o)))
+  pub call-whole : fitsWidths (join rep (share o)) ≡ true → (r ≡ S .answer) × (us ≡ wordsOf (join rep (share o)))
   unfolding guard
   call-whole t = (call-answer ∙ rw t own-same, call-words ∙ ap (λ (j : Joining). wordsOf (orKept rep j)) (joined-yes rep (share o) t))
 
-  call-narrow : Narrow r → fits (join rep (share o)) ≡ true
-  call-narrow n = split (fits (join rep (share o))) (λ t. t) (λ t. absurd (n (ap (λ (a : Answer). a .number) (call-wide t .0))))
+  call-narrow : Narrow r → fitsWidths (join rep (share o)) ≡ true
+  call-narrow n = split (fitsWidths (join rep (share o))) (λ t. t) (λ t. absurd (n (ap (λ (a : Answer). a .number) (call-wide t .0))))
 
   call-joined : Narrow r → us ≡ wordsOf (join rep (share o))
   call-joined n = call-whole (call-narrow n) .1
 
 -- ---- all calls
 
-calls-from : (xs : List Input) (os : List Own) → Owns xs os → (rep : Report) → Full rep → (ws vs : List ℕ) (rs : List Answer) → ws ≡ wordsOf rep → Calls ws xs rs vs
+calls-from : (xs : List Input) (os : List Own) → Owns xs os → (rep : Report) → Full rep → (ws vs : List ℕ) (rs : List Answer) → ws ≡ wordsOf rep
+    → Calls ws xs rs vs
     → vs ≡ wordsOf (seasonFrom rep os)
 unfolding seasonFrom
 calls-from [] [] S rep f ws vs rs q (ended w) = q
@@ -247,10 +255,11 @@ calls-from [] (o ∷ os) S rep f ws vs rs q c = absurd S
 calls-from (x ∷ xs) [] S rep f ws vs rs q c = absurd S
 calls-from (x ∷ xs) (o ∷ os) S rep f ws vs rs q (called w us v left y ys r ts A c) =
     let B : Adds (x .edition) (x .file) (x .option) (wordsOf rep) us (x .room) left r = rw q at A in
-    calls-from xs os (S .1) (orKept rep (joined rep (share o))) (kept-full rep (share o) f (share-full o)) us vs ts
+    calls-from xs os (S .1) (orKept rep (joinedReports rep (share o))) (kept-full rep (share o) f (share-full o)) us vs ts
     (call-words x o (S .0) rep f us left r B) c
 
-calls-narrow : (xs : List Input) (os : List Own) → Owns xs os → (rep : Report) → Full rep → (ws vs : List ℕ) (rs : List Answer) → ws ≡ wordsOf rep → Calls ws xs rs vs
+calls-narrow : (xs : List Input) (os : List Own) → Owns xs os → (rep : Report) → Full rep → (ws vs : List ℕ) (rs : List Answer) → ws ≡ wordsOf rep
+    → Calls ws xs rs vs
     → All Narrow rs → NoWide rep os
 calls-narrow [] [] S rep f ws vs rs q c n = tt
 calls-narrow [] (o ∷ os) S rep f ws vs rs q c n = absurd S
@@ -265,7 +274,7 @@ calls-narrow (x ∷ xs) (o ∷ os) S rep f ws vs rs q (called w us v left y ys r
 season-full : (rep : Report) (os : List Own) → Full rep → Full (seasonFrom rep os)
 unfolding seasonFrom
 season-full rep [] f = f
-season-full rep (o ∷ os) f = season-full (orKept rep (joined rep (share o))) os (kept-full rep (share o) f (share-full o))
+season-full rep (o ∷ os) f = season-full (orKept rep (joinedReports rep (share o))) os (kept-full rep (share o) f (share-full o))
 
 no-file : noFile ≡ wordsOf empty
 unfolding wordsOf empty
@@ -298,7 +307,8 @@ module _ (xs : List Input) (rs : List Answer) (vs : List ℕ) (c : Calls noFile 
     season-deep = rw season-reads (season-deepest os season-narrow (owns-known xs os S))
 
 -- "a season cut into two reports joined gives the report of the whole .. the joining rule is for seasons without 14"
-module _ (xs ys : List Input) (rs ss ts : List Answer) (us vs ws : List ℕ) (a : Calls noFile xs rs us) (b : Calls noFile ys ss vs) (c : Calls noFile (xs ++ ys) ts ws)
+module _ (xs ys : List Input) (rs ss ts : List Answer) (us vs ws : List ℕ) (a : Calls noFile xs rs us) (b : Calls noFile ys ss vs)
+    (c : Calls noFile (xs ++ ys) ts ws)
     (m : All Narrow ss) (n : All Narrow ts) where
   pub season-cut : (joinAnswer us vs ≡ refusalOf 0 0) × (joinWords us vs ≡ ws)
   unfolding season guard
@@ -309,7 +319,7 @@ module _ (xs ys : List Input) (rs ss ts : List Answer) (us vs ws : List ℕ) (a 
       let u : us ≡ wordsOf (season (O .0)) = season-words xs rs us a (O .0) (O .1) in
       let v : vs ≡ wordsOf (season (P .0)) = season-words ys ss vs b (P .0) (P .1) in
       let w : ws ≡ wordsOf (season (O .0 ++ P .0)) = season-words (xs ++ ys) ts ws c (O .0 ++ P .0) A in
-      let h : joined (season (O .0)) (season (P .0)) ≡ whole (season (O .0 ++ P .0)) =
+      let h : joinedReports (season (O .0)) (season (P .0)) ≡ whole (season (O .0 ++ P .0)) =
       cut (O .0) (P .0) (season-narrow (xs ++ ys) ts ws c (O .0 ++ P .0) A n) (season-narrow ys ss vs b (P .0) (P .1) m) in
       let f : Full (season (O .0)) = season-full empty (O .0) empty-full in
       let g : Full (season (P .0)) = season-full empty (P .0) empty-full in (

@@ -16,7 +16,7 @@ use Rattle.store.specs.declared.Size.{Size}
 use Rattle.store.specs.Graph.{Graph}
 use Rattle.store.specs.Table.{graphIn}
 use Rattle.links.specs.Build.{Chains}
-use Rattle.labels.specs.Marks.{marksOf}
+use Rattle.labels.specs.Marks.{labelBits}
 use Rattle.graph.specs.declared.Made.{Made}
 use Rattle.graph.specs.declared.Made.the-variants as M
 use Rattle.graph.specs.Graphs.{drawn, graphOf}
@@ -29,7 +29,7 @@ use Rattle.plan.specs.Marking.{readAs}
 use Rattle.explanation.specs.Walk.{Ready}
 use Rattle.drawing.specs.Same.{optionOf}
 use Rattle.season.specs.declared.Own.{Own}
-use Rattle.season.specs.Report.{fits}
+use Rattle.season.specs.Report.{fitsWidths}
 use Rattle.season.specs.Season.{adds, share}
 use Rattle.season.specs.Words.{wordsOf, both, joinBy, joinNumber, joinWords, shareWords}
 use Rattle.tally.specs.declared.Counts.{Counts}
@@ -38,7 +38,8 @@ use Rattle.tally.specs.Laws.Counts.{counts-are}
 use Rattle.calls.specs.declared.Answer.{Answer}
 use Rattle.calls.specs.Answers.{refusalOf}
 use Rattle.calls.specs.Says.{Says, PlannedAs, Walked, editionOf}
-use Rattle.calls.specs.Laws.Says.{planned-as, whole-graphed, whole-ready, whole-shows, whole-says, says-refused, says-zeroth, says-later, says-option, says-file}
+use Rattle.calls.specs.Laws.Says.{planned-as, whole-graphed, whole-ready, whole-shows, whole-says, says-refused, says-zeroth, says-later, says-option}
+use Rattle.calls.specs.Laws.Says.{says-file}
 use Rattle.calls.specs.Season.{joinAnswer, ownOf, Enters, Entered, Adds}
 
 -- ---- joining
@@ -49,9 +50,10 @@ join-via ws vs n r h q = q ∙ ap (λ (x : ℕ). refusalOf x 0) h
 -- ---- entering
 
 -- the chain by its number: 0 is done, and any other number stands for itself
-by-number : (ws vs : List ℕ) (n : ℕ) (a : Answer) → n ≡ joinNumber ws vs → (n ≡ 0 → a ≡ joinBy ws vs (refusalOf 10 0) (refusalOf 14 0) a) × ((n ≡ 0 → ⊥) → refusalOf n 0 ≡ joinBy ws vs (refusalOf 10 0) (refusalOf 14 0) a)
+by-number : (ws vs : List ℕ) (n : ℕ) (a : Answer) → n ≡ joinNumber ws vs → (n ≡ 0 → a ≡ joinBy ws vs (refusalOf 10 0) (refusalOf 14 0) a)
+    × ((n ≡ 0 → ⊥) → refusalOf n 0 ≡ joinBy ws vs (refusalOf 10 0) (refusalOf 14 0) a)
 unfolding joinBy guard
-by-number ws vs n a h = step (eqb (length ws) 27) (eqb (length vs) 27) (fits (both ws vs)) h
+by-number ws vs n a h = step (eqb (length ws) 27) (eqb (length vs) 27) (fitsWidths (both ws vs)) h
   where
     step : (p q t : Bool) → _≡_ {A = ℕ} n (guard p 10 (guard q 10 (guard t 14 0)))
         → (n ≡ 0 → a ≡ guard p (refusalOf 10 0) (guard q (refusalOf 10 0) (guard t (refusalOf 14 0) a)))
@@ -61,7 +63,8 @@ by-number ws vs n a h = step (eqb (length ws) 27) (eqb (length vs) 27) (fits (bo
     step true false t k = ((λ z. let f : ⊥ = omega arith in absurd f), (λ z. ap (λ (x : ℕ). refusalOf x 0) k))
     step false q t k = ((λ z. let f : ⊥ = omega arith in absurd f), (λ z. ap (λ (x : ℕ). refusalOf x 0) k))
 
-module _ (ws vs : List ℕ) (a : Answer) (c : Counts) (o : Own) (n : ℕ) (r : Answer) (e : o ≡ ownOf a c) (h : n ≡ joinNumber ws (shareWords o)) (g : vs ≡ joinWords ws (shareWords o)) where
+module _ (ws vs : List ℕ) (a : Answer) (c : Counts) (o : Own) (n : ℕ) (r : Answer) (e : o ≡ ownOf a c) (h : n ≡ joinNumber ws (shareWords o)) (g : vs
+    ≡ joinWords ws (shareWords o)) where
   number : n ≡ joinNumber ws (shareWords (ownOf a c))
   number = h ∙ ap (λ (x : Own). joinNumber ws (shareWords x)) e
 
@@ -74,7 +77,8 @@ module _ (ws vs : List ℕ) (a : Answer) (c : Counts) (o : Own) (n : ℕ) (r : A
   pub enters-not : (n ≡ 0 → ⊥) → r ≡ refusalOf n 0 → Enters ws a c vs r
   enters-not z q = record { answer = q ∙ by-number ws (shareWords (ownOf a c)) n a number .1 z; report = words }
 
-pub enters-refused : (ws vs : List ℕ) (k p : ℕ) (a : Answer) (c : Counts) (r : Answer) → a ≡ refusalOf k p → c ≡ noCounts → Enters ws a c vs r → Enters ws (refusalOf k p) noCounts vs r
+pub enters-refused : (ws vs : List ℕ) (k p : ℕ) (a : Answer) (c : Counts) (r : Answer) → a ≡ refusalOf k p → c ≡ noCounts → Enters ws a c vs r
+    → Enters ws (refusalOf k p) noCounts vs r
 enters-refused ws vs k p a c r h g E = subst (λ (x : Counts). Enters ws (refusalOf k p) x vs r) g (subst (λ (x : Answer). Enters ws x c vs r) h E)
 
 -- ---- a drawn graph
@@ -84,7 +88,7 @@ pub record CountedAs (every : Bool) (T : Tables) (G : Graph) (q k : List ℕ) (c
   pub plan : PlannedAs every (shownOf T G) q k
   pub counts : c ≡ countsOf T G
 
-pub counted-as : (T : Tables) (g w : List ℕ) (s : Size) (p q k ms : List ℕ) (c : Counts) (every : Bool) → Chains g s w → ms ≡ marksOf (graphIn g s)
+pub counted-as : (T : Tables) (g w : List ℕ) (s : Size) (p q k ms : List ℕ) (c : Counts) (every : Bool) → Chains g s w → ms ≡ labelBits (graphIn g s)
     → Planned (shownOf T (graphIn g s)) p k → length p ≡ 1280 → c ≡ countsIn p ms s → q ≡ readAs every p → CountedAs every T (graphIn g s) q k c
 counted-as T g w s p q k ms c every C h P l e r =
     record { plan = planned-as (shownOf T (graphIn g s)) p q k every r P l; counts = counts-are T g s (C .stored) p k ms c h P e }
@@ -95,7 +99,8 @@ pub record Tells (T : Tables) (q k : List ℕ) (c : Counts) (t : Bool) (ws vs ou
   pub walked : Walked T q k t out left own
   pub enters : Enters ws own c vs r
 
-pub tells : (T : Tables) (q k : List ℕ) (c : Counts) (t : Bool) (ws vs out left : List ℕ) (a r : Answer) → Walked T q k t out left a → Enters ws a c vs r → Tells T q k c t ws vs out left r
+pub tells : (T : Tables) (q k : List ℕ) (c : Counts) (t : Bool) (ws vs out left : List ℕ) (a r : Answer) → Walked T q k t out left a → Enters ws a c vs r
+    → Tells T q k c t ws vs out left r
 tells T q k c t ws vs out left a r W E = record { own = a; walked = W; enters = E }
 
 -- the same of the graph that a file draws
@@ -122,7 +127,8 @@ module _ (every : Bool) (file q k : List ℕ) (c : Counts) (C : CountedFile ever
   unfolding fileCounts
   counts-file = C .counted .counts ∙ rw (loaded-good file (C .index) (C .loaded), C .draws)
 
-  pub tells-entered : (t : Bool) (ws vs out left : List ℕ) (r : Answer) → Tells (tablesOf file) q k c t ws vs out left r → Entered (editionOf every) file (optionOf t) ws vs out left r
+  pub tells-entered : (t : Bool) (ws vs out left : List ℕ) (r : Answer) → Tells (tablesOf file) q k c t ws vs out left r
+      → Entered (editionOf every) file (optionOf t) ws vs out left r
   tells-entered t ws vs out left r E =
       record {
         own = E .own;
@@ -177,7 +183,8 @@ module _ (e : ℕ) (file : List ℕ) (opt : ℕ) (ws vs out : List ℕ) (r : Ans
   entered-option h E = unasked (says-option e file opt out (refusalOf 12 0) h refl) E
 
   module _ (left : List ℕ) where
-    pub entered-file : (e ≡ 0 → ⊥) → e ≤ 2 → opt ≤ 1 → Entered (editionOf (eqb e 2)) file (optionOf (eqb opt 1)) ws vs out left r → Entered e file opt ws vs out left r
+    pub entered-file : (e ≡ 0 → ⊥) → e ≤ 2 → opt ≤ 1 → Entered (editionOf (eqb e 2)) file (optionOf (eqb opt 1)) ws vs out left r
+        → Entered e file opt ws vs out left r
     entered-file f h g E = record { own = E .own; says = says-file e file opt out left (E .own) f h g (E .says); enters = E .enters }
 
     pub adds-file : length ws ≡ 27 → Entered e file opt ws vs out left r → Adds e file opt ws vs out left r

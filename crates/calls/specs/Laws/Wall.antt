@@ -19,8 +19,8 @@ use Rattle.graph.specs.Laws.Files.{makes-good, makes-graph, makes-refused}
 use Rattle.texts.specs.Wrote.{over}
 use Rattle.explanation.specs.Explain.{refusal}
 use Rattle.wall.specs.Read as R
-use Rattle.exporting.specs.Export.{labelsOf, edgesOf, exportShown}
-use Rattle.exported.specs.Laws.Back.{export-back, export-bytes}
+use Rattle.wall.specs.Export.{labelsOf, edgesOf, exportShown}
+use Rattle.wall.specs.Laws.Back.{export-back, export-bytes}
 use Rattle.calls.specs.declared.Answer.{Answer}
 use Rattle.calls.specs.Answers.{refusalOf}
 use Rattle.calls.specs.Draws.{resultAnswer}
@@ -43,10 +43,12 @@ module _ (file ix g w : List ℕ) (m : Made) (R : Makes file ix g w m) (room : �
   pub export-refused-room : (b : List ℕ) (k p : ℕ) → m ≡ M.Refused k p → b ≡ over (exportFile file room .text) b
   export-refused-room b k p e = rw (unread k p e)
 
-  pub export-whole : (x : Answer) (s : Size) → m ≡ M.Whole s → x ≡ resultAnswer (exportShown (tablesOf file) (graphIn g s) room) → x ≡ resultAnswer (exportFile file room)
+  pub export-whole : (x : Answer) (s : Size) → m ≡ M.Whole s → x ≡ resultAnswer (exportShown (tablesOf file) (graphIn g s) room)
+      → x ≡ resultAnswer (exportFile file room)
   export-whole x s e h = rw (whole s e) h
 
-  pub export-whole-room : (l b : List ℕ) (s : Size) → m ≡ M.Whole s → b ≡ over (exportShown (tablesOf file) (graphIn g s) room .text) l → b ≡ over (exportFile file room .text) l
+  pub export-whole-room : (l b : List ℕ) (s : Size) → m ≡ M.Whole s → b ≡ over (exportShown (tablesOf file) (graphIn g s) room .text) l
+      → b ≡ over (exportFile file room .text) l
   export-whole-room l b s e h = rw (whole s e) h
 
 -- ---- the theorem

@@ -18,13 +18,13 @@ use Rattle.labels.specs.Labels.{targets, installable, missing}
 use Rattle.labels.specs.Ordered.{Acyclic}
 use Rattle.cycles.specs.Cycles.{cycleOf}
 use Rattle.graph.specs.Graphs.{Outcome, drawn, refused, graphOf}
-use Rattle.whatif.specs.Asked.{asked, known, fits, unlessCycle, questionOf, askDrawn, askTables}
-use Rattle.whatif.specs.Alike.{Same}
+use Rattle.whatif.specs.Asked.{asked, known, fitsGraph, unlessCycle, questionOf, askDrawn, askTables}
+use Rattle.whatif.specs.Alike.{SameGraph}
 use Rattle.whatif.specs.Extended.{Extended}
 use Rattle.whatif.specs.Laws.Promise.{outcome-same, outcome-acyclic}
-use Rattle.entries.specs.declared.NodeEntry.{NodeEntry}
-use Rattle.nodelist.specs.Nodes.{flag, nodeEntry, nodeEntries, Nodes, entered, denied, nodesDrawn, nodesOf, listedBy}
-use Rattle.asking.specs.Nodes.{askedRead, askedNodes}
+use Rattle.lists.specs.declared.entries.NodeEntry.{NodeEntry}
+use Rattle.lists.specs.Nodes.{flag, nodeEntry, nodeEntries, Nodes, entered, denied, nodesDrawn, nodesOf, listedBy}
+use Rattle.lists.specs.Asked.{askedRead, askedNodes}
 use Rattle.machine.specs.Units.{Result}
 use Rattle.machine.specs.Explained.{Explained}
 use Rattle.machine.specs.Edition.{edited}
@@ -40,7 +40,7 @@ use Rattle.calls.specs.declared.Answer.{Answer}
 use Rattle.calls.specs.Answers.{refusalOf}
 use Rattle.calls.specs.Nodes.{nodesBy, listOver}
 use Rattle.calls.specs.Says.{resultBy}
-use Rattle.calls.specs.WhatIf.{whatIfAnswer, whatIfLeft, explainOutcome, explainRead, explainWhatIf, SaysWhatIf}
+use Rattle.calls.specs.WhatIf.{whatIfAnswer, whatIfLeft, explainOutcome, askRead, explainWhatIf, SaysWhatIf}
 use Rattle.machine.specs.Laws.Explained as E
 
 -- ---- two results that the contract allows are equal
@@ -48,25 +48,29 @@ use Rattle.machine.specs.Laws.Explained as E
 some-one : {a b : Result} {c d : Option Result} → c ≡ some a → d ≡ some b → c ≡ d → a ≡ b
 some-one x y z = cc
 
-outcome-one : (T : Tables) (X : Outcome) (opt room n m : ℕ) (a b : Result) → explainOutcome n T X opt room ≡ some a → explainOutcome m T X opt room ≡ some b → a ≡ b
+outcome-one : (T : Tables) (X : Outcome) (opt room n m : ℕ) (a b : Result) → explainOutcome n T X opt room ≡ some a → explainOutcome m T X opt room ≡ some b
+    → a ≡ b
 outcome-one T (refused k p) opt room n m a b x y = some-one x y refl
 outcome-one T (drawn G) opt room n m a b x y =
     let S : Shown = shownOf T G in
     E.unique (edited 1 (planOf S)) (linesOf S opt) (solvableOf S) (startOf S) room a b (record { turns = n; so = x }) (record { turns = m; so = y })
 
-read-one : (y : Reading) (s r opt room n m : ℕ) (a b : Result) → explainRead n s r opt room y ≡ some a → explainRead m s r opt room y ≡ some b → a ≡ b
+read-one : (y : Reading) (s r opt room n m : ℕ) (a b : Result) → askRead n s r opt room y ≡ some a → askRead m s r opt room y ≡ some b → a ≡ b
 read-one (bad k p) s r opt room n m a b x y = some-one x y refl
 read-one (good T) s r opt room n m a b x y = outcome-one T (askTables T s r) opt room n m a b x y
 
-pub result-one : (file : List ℕ) (s r opt room n m : ℕ) (a b : Result) → explainWhatIf n file s r opt room ≡ some a → explainWhatIf m file s r opt room ≡ some b → a ≡ b
+pub result-one : (file : List ℕ) (s r opt room n m : ℕ) (a b : Result) → explainWhatIf n file s r opt room ≡ some a → explainWhatIf m file s r opt room ≡ some b
+    → a ≡ b
 result-one file s r opt room n m a b x y =
     split (leb opt 1)
     (λ t. read-one (readOf file) s r opt room n m a b (rw (t, explainWhatIf) at x) (rw (t, explainWhatIf) at y))
     (λ t. some-one (rw (t, explainWhatIf) at x) (rw (t, explainWhatIf) at y) refl)
 
-pub says-what-if-one : (file : List ℕ) (s r opt : ℕ) (out a b : List ℕ) (x y : Answer) → SaysWhatIf file s r opt out a x → SaysWhatIf file s r opt out b y → (x ≡ y) × (a ≡ b)
+pub says-what-if-one : (file : List ℕ) (s r opt : ℕ) (out a b : List ℕ) (x y : Answer) → SaysWhatIf file s r opt out a x → SaysWhatIf file s r opt out b y
+    → (x ≡ y) × (a ≡ b)
 says-what-if-one file s r opt out a b x y S T =
-    let h : resultBy x (S .text) ≡ resultBy y (T .text) = result-one file s r opt (length out) (S .turns) (T .turns) (resultBy x (S .text)) (resultBy y (T .text)) (S .is) (T .is) in (
+    let h : resultBy x (S .text) ≡ resultBy y (T .text) = result-one file s r opt (length out) (S .turns) (T .turns) (resultBy x (S .text))
+    (resultBy y (T .text)) (S .is) (T .is) in (
       ap (λ (z : Result). record { number = z .number; place = z .place; bytes = z .bytes; units = z .units; depth = z .depth }) h,
       S .room ∙ ap (λ (z : Result). over (z .text) out) h ∙ sym (T .room),
     )
@@ -78,7 +82,7 @@ question-number : (T : Tables) (G : Graph) (s r k p : ℕ) → questionOf T G s 
 unfolding questionOf
 question-number T G s r k p q =
     split (known T G s r)
-    (λ y. split (fits G r)
+    (λ y. split (fitsGraph G r)
     (λ f. cycle (asked G (length (T .clauses)) s r) (cycleOf G) (rw (y, f) at q))
     (λ f. let z : refused 8 (length (T .clauses)) ≡ refused k p = rw (y, f) at q in let a : 8 ≡ k = cc in (λ e. omega arith, λ e. omega arith)))
     (λ y. let z : refused 4 0 ≡ refused k p = rw y at q in let a : 4 ≡ k = cc in (λ e. omega arith, λ e. omega arith))
@@ -120,13 +124,17 @@ module _ (file : List ℕ) (s r opt : ℕ) (out left : List ℕ) (a : Answer) (S
     drawn-never : explainOutcome (S .turns) T (drawn K) opt (length out) ≡ some (resultBy a (S .text)) → a .number ≡ 11 → ⊥
     drawn-never e =
         let Q : Shown = shownOf T K in
-        never-eleven (edited 1 (planOf Q)) (linesOf Q opt) (solvableOf Q) (popped Q 0) silent (length out) (resultBy a (S .text)) (record { turns = S .turns; so = e })
+        never-eleven (edited 1 (planOf Q)) (linesOf Q opt) (solvableOf Q) (popped Q 0) silent (length out) (resultBy a (S .text)) (record {
+          turns = S .turns;
+          so = e;
+        })
 
-  by-outcome : (T : Tables) → readOf file ≡ good T → (o : Outcome) → askTables T s r ≡ o → explainOutcome (S .turns) T o opt (length out) ≡ some (resultBy a (S .text)) → a .number ≡ 11 → ⊥
+  by-outcome : (T : Tables) → readOf file ≡ good T → (o : Outcome) → askTables T s r ≡ o
+      → explainOutcome (S .turns) T o opt (length out) ≡ some (resultBy a (S .text)) → a .number ≡ 11 → ⊥
   by-outcome T y (drawn K) q e n = drawn-never T y K q e n
   by-outcome T y (refused k p) q e n = ask-number T s r k p q .0 (sym (number-of k p e) ∙ n)
 
-  by-reading : (y : Reading) → readOf file ≡ y → explainRead (S .turns) s r opt (length out) y ≡ some (resultBy a (S .text)) → a .number ≡ 11 → ⊥
+  by-reading : (y : Reading) → readOf file ≡ y → askRead (S .turns) s r opt (length out) y ≡ some (resultBy a (S .text)) → a .number ≡ 11 → ⊥
   by-reading (bad k p) y e n = let l : k ≤ 6 = bad-low file k p y in let z : k ≡ 11 = sym (number-of k p e) ∙ n in omega arith
   by-reading (good T) y e n = by-outcome T y (askTables T s r) refl e n
 
@@ -138,11 +146,12 @@ module _ (file : List ℕ) (s r opt : ℕ) (out left : List ℕ) (a : Answer) (S
       (λ t. let z : 12 ≡ 11 = sym (number-of 12 0 (rw (t, explainWhatIf) at (S .is))) ∙ n in omega arith)
 
   -- 12, the file's 1 to 9, then 4, 8 and 17: the room is as it was. Only the text's own answers, 0 and 10, come otherwise
-  unchanged-outcome : (T : Tables) (o : Outcome) → askTables T s r ≡ o → explainOutcome (S .turns) T o opt (length out) ≡ some (resultBy a (S .text)) → (left ≡ out) ⊎ ((K : Graph) × (askTables T s r ≡ drawn K))
+  unchanged-outcome : (T : Tables) (o : Outcome) → askTables T s r ≡ o → explainOutcome (S .turns) T o opt (length out) ≡ some (resultBy a (S .text))
+      → (left ≡ out) ⊎ ((K : Graph) × (askTables T s r ≡ drawn K))
   unchanged-outcome T (refused k p) q e = inl (text-of k p e)
   unchanged-outcome T (drawn K) q e = inr (K, q)
 
-  unchanged-reading : (y : Reading) → readOf file ≡ y → explainRead (S .turns) s r opt (length out) y ≡ some (resultBy a (S .text))
+  unchanged-reading : (y : Reading) → readOf file ≡ y → askRead (S .turns) s r opt (length out) y ≡ some (resultBy a (S .text))
       → (left ≡ out) ⊎ ((T : Tables) × (readOf file ≡ good T) × ((K : Graph) × (askTables T s r ≡ drawn K)))
   unchanged-reading (bad k p) y e = inl (text-of k p e)
   unchanged-reading (good T) y e = either (unchanged-outcome T (askTables T s r) refl e) (λ h. inl h) (λ h. inr (T, y, h))
@@ -176,7 +185,7 @@ module _ (file : List ℕ) (s r : ℕ) (T : Tables) (y : readOf file ≡ good T)
 
   module _ (U : Tables) (E : Extended T U s r) where
     -- the graph of the longer core, with the same nodes, edges and labels
-    pub rebuilt : (M : Graph) × (graphOf U ≡ drawn M) × Same K M
+    pub rebuilt : (M : Graph) × (graphOf U ≡ drawn M) × SameGraph K M
     rebuilt = outcome-same T (promise file T y) s r K q U E
 
     -- entry m of the list beside entry j of the node list of a file with the longer core: the labels of one package are the same,

@@ -25,12 +25,12 @@ use Rattle.whatif.specs.Asked.{questionOf, askDrawn, askTables}
 use Rattle.whatif.specs.Asks.{Asks}
 use Rattle.whatif.specs.Laws.Callers.{asks-drawn, asks-denied}
 use Rattle.whatif.specs.Laws.Graphed.{given-graphed}
-use Rattle.entries.specs.Entry.{fillTo, fill-entries}
-use Rattle.entries.specs.declared.NodeEntry.{NodeEntry}
-use Rattle.nodelist.specs.declared.Counted.{Counted}
-use Rattle.nodelist.specs.Nodes.{Nodes, listedBy}
-use Rattle.nodelist.specs.Listed.{Listed, as-many, in-room, packed}
-use Rattle.asking.specs.Nodes.{askedNodes}
+use Rattle.lists.specs.Entry.{fillTo, fill-entries}
+use Rattle.lists.specs.declared.entries.NodeEntry.{NodeEntry}
+use Rattle.lists.specs.declared.nodes.Counted.{Counted}
+use Rattle.lists.specs.Nodes.{Nodes, listedBy}
+use Rattle.lists.specs.Listed.{Listed, as-many, in-room, packed}
+use Rattle.lists.specs.Asked.{askedNodes}
 use Rattle.machine.specs.Units.{Result}
 use Rattle.texts.specs.Wrote.{over}
 use Rattle.drawing.specs.Same.{optionOf}
@@ -42,19 +42,21 @@ use Rattle.calls.specs.Nodes.{noWords, answerOf}
 use Rattle.calls.specs.Laws.Nodes.{answer-counted}
 use Rattle.calls.specs.Says.{Shows, resultBy}
 use Rattle.calls.specs.Laws.Says.{option-low}
-use Rattle.calls.specs.WhatIf.{whatIfAnswer, whatIfLeft, explainOutcome, explainRead, explainWhatIf, SaysWhatIf}
+use Rattle.calls.specs.WhatIf.{whatIfAnswer, whatIfLeft, explainOutcome, askRead, explainWhatIf, SaysWhatIf}
 
 -- ---- the node list
 
 -- what `fill` asks
-pub asked-fits : (file : List ℕ) (s r room : ℕ) (c : Counted) (ws : List ℕ) → Listed (askedNodes file s r) room noWords c ws → (c .count ≤ room) × (c .count ≤ 128)
+pub asked-fits : (file : List ℕ) (s r room : ℕ) (c : Counted) (ws : List ℕ) → Listed (askedNodes file s r) room noWords c ws → (c .count ≤ room)
+    × (c .count ≤ 128)
 asked-fits file s r room c ws e = (in-room (askedNodes file s r) room noWords c ws e, e .few)
 
 -- what the export says, in the shape of its `ensures`
 abbrev pub WhatIfSaid : List ℕ → ℕ → ℕ → List NodeEntry → Answer → List NodeEntry → Type 0
 WhatIfSaid file s r l a zs = (a ≡ whatIfAnswer file s r (length l)) × (zs ≡ whatIfLeft file s r l)
 
-pub what-if-said : (file : List ℕ) (s r : ℕ) (l : List NodeEntry) (c : Counted) (ws : List ℕ) (zs : List NodeEntry) → Listed (askedNodes file s r) (length l) noWords c ws → zs ≡ fillTo ws (c .count) l
+pub what-if-said : (file : List ℕ) (s r : ℕ) (l : List NodeEntry) (c : Counted) (ws : List ℕ) (zs : List NodeEntry)
+    → Listed (askedNodes file s r) (length l) noWords c ws → zs ≡ fillTo ws (c .count) l
     → WhatIfSaid file s r l (answerOf c) zs
 unfolding whatIfAnswer whatIfLeft
 what-if-said file s r l c ws zs e p =
@@ -68,7 +70,8 @@ what-if-said file s r l c ws zs e p =
 
 -- ---- the text
 
-nothing : (file : List ℕ) (s r opt : ℕ) (out : List ℕ) (k p : ℕ) → explainWhatIf 0 file s r opt (length out) ≡ some (refusal k p) → SaysWhatIf file s r opt out out (refusalOf k p)
+nothing : (file : List ℕ) (s r opt : ℕ) (out : List ℕ) (k p : ℕ) → explainWhatIf 0 file s r opt (length out) ≡ some (refusal k p)
+    → SaysWhatIf file s r opt out out (refusalOf k p)
 nothing file s r opt out k p h = record { text = []; turns = 0; is = h; room = refl }
 
 -- 12
@@ -80,13 +83,14 @@ option-asked t = le-leb (optionOf t) 1 (option-low t)
 
 -- the file is refused; m is what it makes
 module _ (file ix g w : List ℕ) (m : Made) (R : Makes file ix g w m) where
-  pub what-if-unmade : (s r : ℕ) (t : Bool) (out : List ℕ) (a : Answer) (k p : ℕ) → m ≡ M.Refused k p → a ≡ refusalOf k p → SaysWhatIf file s r (optionOf t) out out a
+  pub what-if-unmade : (s r : ℕ) (t : Bool) (out : List ℕ) (a : Answer) (k p : ℕ) → m ≡ M.Refused k p → a ≡ refusalOf k p
+      → SaysWhatIf file s r (optionOf t) out out a
   unfolding askTables
   what-if-unmade s r t out a k p e h =
       rw h
       (nothing file s r (optionOf t) out k p
       (rw (option-asked t, explainWhatIf)
-      (makes-refused file ix g w m R (explainRead 0 s r (optionOf t) (length out)) (λ l i. some (refusal l i)) (λ l i. refl)
+      (makes-refused file ix g w m R (askRead 0 s r (optionOf t) (length out)) (λ l i. some (refusal l i)) (λ l i. refl)
       (λ T l i z. ap (λ (o : Outcome). explainOutcome 0 T (askDrawn T s r o) (optionOf t) (length out)) z) k p e)))
 
 -- the file draws the graph in g; m is what the question leaves
@@ -112,12 +116,14 @@ module _ (file ix g : List ℕ) (z : Size) (s r : ℕ) (L : Loaded file ix) (d :
       what-if-gives = asks-are ∙ gives
 
 -- what is shown of the graph asked for is what the call says
-pub what-if-shown : (file ix g : List ℕ) (z : Size) (s r : ℕ) → Loaded file ix → askTables (tablesOf file) s r ≡ drawn (graphIn g z) → (t : Bool) (out left : List ℕ) (a : Answer)
+pub what-if-shown : (file ix g : List ℕ) (z : Size) (s r : ℕ) → Loaded file ix → askTables (tablesOf file) s r ≡ drawn (graphIn g z)
+    → (t : Bool) (out left : List ℕ) (a : Answer)
     → Shows 1 (tablesOf file) (graphIn g z) (optionOf t) out left a → SaysWhatIf file s r (optionOf t) out left a
 what-if-shown file ix g z s r L x t out left a S =
     record { text = S .text; turns = S .is .turns; is = rw (option-asked t, explainWhatIf, loaded-good file ix L, x) (S .is .so); room = S .room }
 
 -- ---- the option
 
-pub what-if-file : (file : List ℕ) (s r opt : ℕ) (out left : List ℕ) (a : Answer) → opt ≤ 1 → SaysWhatIf file s r (optionOf (eqb opt 1)) out left a → SaysWhatIf file s r opt out left a
+pub what-if-file : (file : List ℕ) (s r opt : ℕ) (out left : List ℕ) (a : Answer) → opt ≤ 1 → SaysWhatIf file s r (optionOf (eqb opt 1)) out left a
+    → SaysWhatIf file s r opt out left a
 what-if-file file s r opt out left a h S = subst (λ (o : ℕ). SaysWhatIf file s r o out left a) (option-is opt h) S

@@ -11,16 +11,16 @@ use Rattle.basis.specs.Members.{split, clash, All, all-append, all-map}
 use Rattle.records.specs.Tables.{Tables}
 use Rattle.records.specs.Views.{coreAt}
 use Rattle.store.specs.declared.Edge.{Edge}
-use Rattle.store.specs.Graph.{Graph, handing, renumberEdge, lastOf, front, settle, unreached}
+use Rattle.store.specs.Graph.{Graph, handing, renumberEdge, lastOne, front, settle, unreached}
 use Rattle.expansion.specs.Expand.{Build, startBuild}
-use Rattle.graph.specs.Graphs.{Turned, go, halt, turnAt, Built, built, stopped, buildFrom, buildOf, Outcome, drawn, refused, finished, graphOf}
+use Rattle.graph.specs.Graphs.{Turned, go, halt, turnAt, Built, built, stopped, buildFrom, buildOf, Outcome, drawn, refused, reachedAll, graphOf}
 use Rattle.graph.specs.Working.{turnAtIn, goes-in}
 use Rattle.clauses.specs.Noted.{Noted, turnedGraph}
 use Rattle.clauses.specs.Cored.{Cored}
 use Rattle.clauses.specs.Laws.Noted.{turn-noted}
 
 module _ {A : Type 0} (P : A → Type 0) where
-  last-all : (xs : List A) → All P xs → All P (lastOf xs)
+  last-all : (xs : List A) → All P xs → All P (lastOne xs)
   last-all [] h = tt
   last-all (x ∷ []) h = h
   last-all (x ∷ y ∷ r) h = last-all (y ∷ r) (h .1)
@@ -56,7 +56,8 @@ module _ (T : Tables) where
         edges = subst (All InCore) (sym (N .edges-are))
             (all-append InCore (g .edges) es (C .edges) (all-map (λ e. e .clause ≡ i) InCore es (λ e q. ap (coreAt T) q ∙ t) (N .edges-noted)));
         firsts = subst (All Shows) (sym (N .firsts-are))
-            (all-append Shows (g .firsts) cs (C .firsts) (all-map (λ c. c ≡ i) Shows cs (λ c q. or-true (eqb c 65535) (coreAt T c) (ap (coreAt T) q ∙ t)) (N .firsts-noted)));
+            (all-append Shows (g .firsts) cs (C .firsts) (all-map (λ c. c
+            ≡ i) Shows cs (λ c q. or-true (eqb c 65535) (coreAt T c) (ap (coreAt T) q ∙ t)) (N .firsts-noted)));
       }
 
   turn-cored : (i : ℕ) (b : Build) → Cored T (b .graph) → Cored T (turnedGraph (turnAtIn T i b))
@@ -68,7 +69,8 @@ module _ (T : Tables) where
 
   -- ---- all clauses
 
-  build-step : (n i : ℕ) (b d : Build) → ((c : Build) → Cored T (c .graph) → buildFrom n T (suc i) c ≡ built d → Cored T (d .graph)) → Cored T (b .graph) → (t : Turned) → turnAt T i b ≡ t → buildFrom (suc n) T i b ≡ built d → Cored T (d .graph)
+  build-step : (n i : ℕ) (b d : Build) → ((c : Build) → Cored T (c .graph) → buildFrom n T (suc i) c ≡ built d → Cored T (d .graph)) → Cored T (b .graph)
+      → (t : Turned) → turnAt T i b ≡ t → buildFrom (suc n) T i b ≡ built d → Cored T (d .graph)
   unfolding buildFrom
   build-step n i b d f C (go c) q e = f c (rw (goes-in T i b c q) at (turn-cored i b C)) (rw (q, buildFrom) at e)
   build-step n i b d f C (halt k) q e = let z : stopped k i ≡ built d = rw (q, buildFrom) at e in clash (cc)
@@ -96,7 +98,7 @@ module _ (T : Tables) where
         edges = map-cored (length (G .nodes) - 1) (G .edges) (C .edges);
         firsts = (
           refl,
-          all-append Shows (lastOf (drop 2 (G .firsts))) (front (drop 2 (G .firsts)))
+          all-append Shows (lastOne (drop 2 (G .firsts))) (front (drop 2 (G .firsts)))
               (last-all Shows (drop 2 (G .firsts)) (behind-two Shows (G .firsts) (C .firsts)))
               (front-all Shows (drop 2 (G .firsts)) (behind-two Shows (G .firsts) (C .firsts))),
         );
@@ -105,15 +107,15 @@ module _ (T : Tables) where
   -- ---- the theorem
 
   pub drawn-cored : (G : Graph) → graphOf T ≡ drawn G → Cored T G
-  unfolding graphOf finished buildOf
+  unfolding graphOf reachedAll buildOf
   drawn-cored G e = by (buildOf T) refl
     where
       end : (b : Build) → buildOf T ≡ built b → (o : Option ℕ) → unreached (settle (b .graph)) ≡ o → Cored T G
       end b q none u =
-          let z : drawn (settle (b .graph)) ≡ drawn G = rw (q, graphOf, u, finished) at e in
+          let z : drawn (settle (b .graph)) ≡ drawn G = rw (q, graphOf, u, reachedAll) at e in
           let y : settle (b .graph) ≡ G = cc in
           rw (← y) (settle-cored (b .graph) (build-cored (length (T .clauses)) 0 startBuild b start-cored q))
-      end b q (some n) u = let z : refused 9 n ≡ drawn G = rw (q, graphOf, u, finished) at e in clash (cc)
+      end b q (some n) u = let z : refused 9 n ≡ drawn G = rw (q, graphOf, u, reachedAll) at e in clash (cc)
 
       by : (B : Built) → buildOf T ≡ B → Cored T G
       by (built b) q = end b q (unreached (settle (b .graph))) refl

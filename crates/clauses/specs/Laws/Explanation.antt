@@ -19,7 +19,8 @@ use Rattle.machine.specs.Units.{Result}
 use Rattle.machine.specs.Explained.{explain}
 use Rattle.machine.specs.Edition.{edited}
 use Rattle.texts.specs.Indent.{indent}
-use Rattle.plan.specs.Plan.{Shown, shownOf, Kind, excluded, bare, conflicting, constraining, requiring, reasonsBy, isForbid, setsBy, joinSet, setsOf, bySets, byReasons, isRequiring, isMerged, leadOf, sorted, popped, kidsOf, reasonsOf, kindOf, planOf, startOf}
+use Rattle.plan.specs.Plan.{Shown, shownOf, Kind, excluded, bare, conflicting, constraining, requiring, reasonsBy, isForbid, setsBy, joinSet, setsOf, bySets}
+use Rattle.plan.specs.Plan.{byReasons, isRequiring, mergedShown, leadShown, sorted, popped, kidsOf, reasonsOf, lineKind, planOf, startOf}
 use Rattle.plan.specs.Display.{solvableOf}
 use Rattle.lines.specs.Lines.{topOf, setLine, setLines, packageLines, linesOf}
 use Rattle.explanation.specs.Explain.{explainShown}
@@ -60,7 +61,7 @@ module _ (f : Edge → ℕ) (fs : List ℕ) (h : ℕ) (T : Tables) (G : Graph) (
   reasons-same [] = refl
   reasons-same (e ∷ es) = ap (λ (l : List ℕ). reasonsBy (e .weight) (nodeAt G (e .target)) ++ l) (reasons-same es)
 
-  kind-same : (n : ℕ) → kindOf R n ≡ kindOf S n
+  kind-same : (n : ℕ) → lineKind R n ≡ lineKind S n
   kind-same n =
       ap (λ (es : List Edge). byReasons es (reasonsOf R es)) (out-same f fs h G n)
       ∙ ap (byReasons (map (renoted f) (out G n))) (reasons-same (out G n))
@@ -70,10 +71,10 @@ module _ (f : Edge → ℕ) (fs : List ℕ) (h : ℕ) (T : Tables) (G : Graph) (
   popped-same n = ap (λ (rs : List Run). reverse (sorted S rs)) (ap runsOf (out-same f fs h G n) ∙ runs-same f (out G n))
 
   abbrev planBy : (ℕ → Kind) → (ℕ → List Run) → Plan Run
-  planBy k rs = record { opens = λ n. isRequiring (k n); runs = rs; kids = kidsOf S; merged = isMerged S; lead = leadOf S }
+  planBy k rs = record { opens = λ n. isRequiring (k n); runs = rs; kids = kidsOf S; merged = mergedShown S; lead = leadShown S }
 
   plan-same : planOf R ≡ planOf S
-  plan-same = ap (λ (k : ℕ → Kind). planBy k (popped R)) (fun-ext kind-same) ∙ ap (planBy (kindOf S)) (fun-ext popped-same)
+  plan-same = ap (λ (k : ℕ → Kind). planBy k (popped R)) (fun-ext kind-same) ∙ ap (planBy (lineKind S)) (fun-ext popped-same)
 
   sets-lines : (opt : ℕ) (ms : List Bool) (vs : List ℕ) → setLines R opt ms vs ≡ setLines S opt ms vs
   sets-lines opt ms [] = refl
@@ -89,9 +90,10 @@ module _ (f : Edge → ℕ) (fs : List ℕ) (h : ℕ) (T : Tables) (G : Graph) (
   lines-same : (opt : ℕ) (e : Entry Run) → linesOf R opt e ≡ linesOf S opt e
   lines-same opt e = go (e .op)
     where
-      go : (o : Op Run) → linesOf R opt (record { op = o; marks = e .marks; branch = e .branch }) ≡ linesOf S opt (record { op = o; marks = e .marks; branch = e .branch })
+      go : (o : Op Run) → linesOf R opt (record { op = o; marks = e .marks; branch = e .branch })
+          ≡ linesOf S opt (record { op = o; marks = e .marks; branch = e .branch })
       go (requirement r) = refl
-      go (candidate n) = ap (packageLines R opt (e .marks) n) (kind-same n) ∙ package-same opt (e .marks) n (kindOf S n)
+      go (candidate n) = ap (packageLines R opt (e .marks) n) (kind-same n) ∙ package-same opt (e .marks) n (lineKind S n)
 
   shown-same : (ed n opt room : ℕ) → explainShown ed n R opt room ≡ explainShown ed n S opt room
   shown-same ed n opt room =

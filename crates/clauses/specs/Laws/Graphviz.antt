@@ -13,29 +13,30 @@ use Rattle.records.specs.Views.{nameText, solvableName}
 use Rattle.store.specs.declared.Edge.{Edge}
 use Rattle.store.specs.Graph.{Graph, out}
 use Rattle.groups.specs.Groups.{mates}
-use Rattle.drawing.specs.Draw.{Drawn, drawnOf, markOf, isMerged, firstOf, edgeText, kept, isDrawn, edgeUnits, nodeUnits, allUnits, restUnits, drawingUnits}
-use Rattle.drawing.specs.Graphviz.{shownOf, drawShown}
+use Rattle.drawing.specs.Draw.{Sketch, drawnOf, mergeMark, mergedDrawn, memberFirst, edgeText, drawnEdges, isDrawn, edgeUnits, nodeUnits, allUnits, restUnits}
+use Rattle.drawing.specs.Draw.{drawingUnits}
+use Rattle.drawing.specs.Graphviz.{fitUnits, drawShown}
 use Rattle.clauses.specs.Other.{renoted, other}
 use Rattle.clauses.specs.Laws.Edges.{out-same}
 use Rattle.clauses.specs.Laws.Groups.{mates-ignores}
 
 module _ (f : Edge → ℕ) (fs : List ℕ) (h : ℕ) (T : Tables) (G : Graph) (ms : List ℕ) where
   -- both graphs with the same marks
-  abbrev D : Drawn
+  abbrev D : Sketch
   D = record { tables = T; graph = G; merged = ms }
 
-  abbrev E : Drawn
+  abbrev E : Sketch
   E = record { tables = T; graph = other f fs h G; merged = ms }
 
-  kept-same : (es : List Edge) (seen : List ℕ) → kept E (map (renoted f) es) seen ≡ map (renoted f) (kept D es seen)
-  unfolding kept
+  kept-same : (es : List Edge) (seen : List ℕ) → drawnEdges E (map (renoted f) es) seen ≡ map (renoted f) (drawnEdges D es seen)
+  unfolding drawnEdges
   kept-same [] seen = refl
   kept-same (e ∷ es) seen =
-      split (isMerged D (e .target))
-      (λ t. split (has (firstOf D (e .target)) seen)
-      (λ u. rw (t, kept, u) (kept-same es seen))
-      (λ u. rw (t, kept, u) (ap (λ (l : List Edge). renoted f e ∷ l) (kept-same es (firstOf D (e .target) ∷ seen)))))
-      (λ t. rw (t, kept) (ap (λ (l : List Edge). renoted f e ∷ l) (kept-same es seen)))
+      split (mergedDrawn D (e .target))
+      (λ t. split (has (memberFirst D (e .target)) seen)
+      (λ u. rw (t, drawnEdges, u) (kept-same es seen))
+      (λ u. rw (t, drawnEdges, u) (ap (λ (l : List Edge). renoted f e ∷ l) (kept-same es (memberFirst D (e .target) ∷ seen)))))
+      (λ t. rw (t, drawnEdges) (ap (λ (l : List Edge). renoted f e ∷ l) (kept-same es seen)))
 
   texts-same : (n : ℕ) (es : List Edge) → map (edgeText E n) (map (renoted f) es) ≡ map (edgeText D n) es
   unfolding edgeText
@@ -45,9 +46,9 @@ module _ (f : Edge → ℕ) (fs : List ℕ) (h : ℕ) (T : Tables) (G : Graph) (
   edges-same : (n : ℕ) → edgeUnits E n ≡ edgeUnits D n
   unfolding edgeUnits
   edges-same n =
-      ap (λ (es : List Edge). map (edgeText E n) (kept E es [])) (out-same f fs h G n)
+      ap (λ (es : List Edge). map (edgeText E n) (drawnEdges E es [])) (out-same f fs h G n)
       ∙ ap (map (edgeText E n)) (kept-same (out G n) [])
-      ∙ texts-same n (kept D (out G n) [])
+      ∙ texts-same n (drawnEdges D (out G n) [])
 
   drawn-same : (n : ℕ) → isDrawn E n ≡ isDrawn D n
   unfolding isDrawn
@@ -66,9 +67,9 @@ module _ (f : Edge → ℕ) (fs : List ℕ) (h : ℕ) (T : Tables) (G : Graph) w
   name s = nameText T (solvableName T s)
 
   abbrev marksBy : ℕ → (ℕ → List ℕ) → List ℕ
-  marksBy opt k = cond (eqb opt 1) (map (λ n. markOf (k n)) (upto (length (G .nodes)) 0)) []
+  marksBy opt k = cond (eqb opt 1) (map (λ n. mergeMark (k n)) (upto (length (G .nodes)) 0)) []
 
-  abbrev drawnBy : ℕ → (ℕ → List ℕ) → Drawn
+  abbrev drawnBy : ℕ → (ℕ → List ℕ) → Sketch
   drawnBy opt k = record { tables = T; graph = other f fs h G; merged = marksBy opt k }
 
   marks-same : (opt : ℕ) → drawnOf opt T (other f fs h G) ≡ drawnBy opt (mates name G)
@@ -78,5 +79,5 @@ module _ (f : Edge → ℕ) (fs : List ℕ) (h : ℕ) (T : Tables) (G : Graph) w
   pub draw-ignores : (opt room : ℕ) → drawShown (drawnOf opt T (other f fs h G)) room ≡ drawShown (drawnOf opt T G) room
   unfolding drawShown drawnOf
   draw-ignores opt room =
-      ap (λ (x : Drawn). shownOf (drawingUnits x) room) (marks-same opt)
-      ∙ ap (λ (us : List (List ℕ)). shownOf us room) (units-same f fs h T G (marksBy opt (mates name G)))
+      ap (λ (x : Sketch). fitUnits (drawingUnits x) room) (marks-same opt)
+      ∙ ap (λ (us : List (List ℕ)). fitUnits us room) (units-same f fs h T G (marksBy opt (mates name G)))

@@ -21,15 +21,16 @@ use Rattle.store.specs.declared.ConflictEdge.the-variants as W
 use Rattle.store.specs.declared.Edge.{Edge}
 use Rattle.store.specs.Graph.{Graph, handing, withNode, withEdge, sameNode}
 use Rattle.store.specs.Working.{AddedSoFar, addedTo, fullAt, addNodeIn, addEdgeIn, addLinkIn}
-use Rattle.triples.specs.Triple.{Triple, sameTriple}
+use Rattle.expansion.specs.Triple.{Triple, sameTriple}
 use Rattle.linking.specs.declared.Party.{Party}
 use Rattle.linking.specs.declared.Party.the-variants.{Node, Neither}
-use Rattle.linking.specs.Links.{partyOf, solvableIn, nameIn, requirers, Link, requiresOf, excludedLinks, lockLinks, constrainsLinks, previousLinks}
+use Rattle.linking.specs.Links.{partyOf, solvableIn, nameForbidden, requirers, Link, requiresOf, excludedLinks, lockLinks, constrainsLinks, previousLinks}
 use Rattle.linking.specs.Working.{LinkedSoFar, moreTo, shortAt, linkAllIn, forbidAllIn}
 use Rattle.expansion.specs.declared.Side.{Side}
 use Rattle.expansion.specs.declared.Side.the-variants.{Parent, Candidate}
 use Rattle.expansion.specs.Expand.{Build, triplesOf, others}
-use Rattle.expansion.specs.Working.{StepSoFar, onTo, stopAt, keptIn, notedIn, onceIn, onceAllIn, pairIn, pairAllIn, lastlyIn, forbidClauseIn, forbidNamedIn, expandIn}
+use Rattle.expansion.specs.Working.{StepSoFar, onTo, stopAt, keptIn, notedIn, onceIn, onceAllIn, pairIn, pairAllIn, lastlyIn, forbidClauseIn, forbidNamedIn}
+use Rattle.expansion.specs.Working.{expandIn}
 use Rattle.graph.specs.Graphs.{isLearnt, handed}
 use Rattle.graph.specs.Working.{expandedIn, coreTurnIn, turnAtIn}
 use Rattle.clauses.specs.Noted.{Noted, turnedGraph}
@@ -38,7 +39,16 @@ append-none : {A : Type 0} (l : List A) → l ≡ l ++ []
 append-none l = sym (append-nil l)
 
 noted-same : (g : Graph) → Noted g g
-noted-same g = record { hand = refl; edges = []; edges-are = append-none (g .edges); edges-noted = tt; firsts = []; firsts-are = append-none (g .firsts); firsts-noted = tt }
+noted-same g =
+    record {
+      hand = refl;
+      edges = [];
+      edges-are = append-none (g .edges);
+      edges-noted = tt;
+      firsts = [];
+      firsts-are = append-none (g .firsts);
+      firsts-noted = tt;
+    }
 
 recount : (es : List Edge) (a b : ℕ) → a ≡ b → All (λ e. e .clause ≡ a) es → All (λ e. e .clause ≡ b) es
 recount es a b q h = rw q at h
@@ -52,10 +62,12 @@ noted-then g h k A B =
       hand = B .hand ∙ A .hand;
       edges = A .edges ++ B .edges;
       edges-are = B .edges-are ∙ ap (λ (l : List Edge). l ++ B .edges) (A .edges-are) ∙ append-assoc (g .edges) (A .edges) (B .edges);
-      edges-noted = all-append (λ e. e .clause ≡ g .hand) (A .edges) (B .edges) (A .edges-noted) (recount (B .edges) (h .hand) (g .hand) (A .hand) (B .edges-noted));
+      edges-noted =
+          all-append (λ e. e .clause ≡ g .hand) (A .edges) (B .edges) (A .edges-noted) (recount (B .edges) (h .hand) (g .hand) (A .hand) (B .edges-noted));
       firsts = A .firsts ++ B .firsts;
       firsts-are = B .firsts-are ∙ ap (λ (l : List ℕ). l ++ B .firsts) (A .firsts-are) ∙ append-assoc (g .firsts) (A .firsts) (B .firsts);
-      firsts-noted = all-append (λ c. c ≡ g .hand) (A .firsts) (B .firsts) (A .firsts-noted) (refirst (B .firsts) (h .hand) (g .hand) (A .hand) (B .firsts-noted));
+      firsts-noted =
+          all-append (λ c. c ≡ g .hand) (A .firsts) (B .firsts) (A .firsts-noted) (refirst (B .firsts) (h .hand) (g .hand) (A .hand) (B .firsts-noted));
     }
 
 -- ---- adding
@@ -73,14 +85,30 @@ noted-node g x = go (place (sameNode x) (g .nodes) 0) refl
     go (some j) q = rw (q, addNodeIn) (noted-same g)
     go none q =
         split (ltb (length (g .nodes)) 128)
-        (λ t. rw (q, addNodeIn, t) (record { hand = refl; edges = []; edges-are = append-none (g .edges); edges-noted = tt; firsts = g .hand ∷ []; firsts-are = refl; firsts-noted = (refl, tt) }))
+        (λ t. rw (q, addNodeIn, t) (record {
+          hand = refl;
+          edges = [];
+          edges-are = append-none (g .edges);
+          edges-noted = tt;
+          firsts = g .hand ∷ [];
+          firsts-are = refl;
+          firsts-noted = (refl, tt);
+        }))
         (λ t. rw (q, addNodeIn, t) (noted-same g))
 
 noted-edge : (g : Graph) (e : Edge) → e .clause ≡ g .hand → Noted g (left (addEdgeIn g e))
 unfolding addEdgeIn
 noted-edge g e q =
     split (ltb (length (g .edges)) 1024)
-    (λ t. rw t (record { hand = refl; edges = e ∷ []; edges-are = refl; edges-noted = (q, tt); firsts = []; firsts-are = append-none (g .firsts); firsts-noted = tt }))
+    (λ t. rw t (record {
+      hand = refl;
+      edges = e ∷ [];
+      edges-are = refl;
+      edges-noted = (q, tt);
+      firsts = [];
+      firsts-are = append-none (g .firsts);
+      firsts-noted = tt;
+    }))
     (λ t. rw t (noted-same g))
 
 noted-link : (g : Graph) (x y : ConflictNode) (w : ConflictEdge) → Noted g (left (addLinkIn g x y w))
@@ -92,7 +120,8 @@ noted-link g x y w = first (addNodeIn g x) refl
     second i h p A (addedTo j k) q =
         rw (p, addLinkIn, q)
         (noted-then g h (left (addEdgeIn k (record { source = i; target = j; weight = w; clause = k .hand }))) A
-        (noted-then h k (left (addEdgeIn k (record { source = i; target = j; weight = w; clause = k .hand }))) (rw q at (noted-node h y)) (noted-edge k (record { source = i; target = j; weight = w; clause = k .hand }) refl)))
+        (noted-then h k (left (addEdgeIn k (record { source = i; target = j; weight = w; clause = k .hand }))) (rw q at (noted-node h y))
+        (noted-edge k (record { source = i; target = j; weight = w; clause = k .hand }) refl)))
 
     first : (a : AddedSoFar) → addNodeIn g x ≡ a → Noted g (left (addLinkIn g x y w))
     first (fullAt h) p = rw (p, addLinkIn) (rw p at (noted-node g x))
@@ -107,7 +136,8 @@ unfolding linkAllIn
 noted-links [] g = noted-same g
 noted-links (l ∷ ls) g = go (λ k. noted-links ls k) (addLinkIn g (l .source) (l .target) (l .weight)) refl
   where
-    go : ((k : Graph) → Noted k (linkedLeft (linkAllIn ls k))) → (a : AddedSoFar) → addLinkIn g (l .source) (l .target) (l .weight) ≡ a → Noted g (linkedLeft (linkAllIn (l ∷ ls) g))
+    go : ((k : Graph) → Noted k (linkedLeft (linkAllIn ls k))) → (a : AddedSoFar) → addLinkIn g (l .source) (l .target) (l .weight) ≡ a
+        → Noted g (linkedLeft (linkAllIn (l ∷ ls) g))
     go f (fullAt h) p = rw (p, linkAllIn) (rw p at (noted-link g (l .source) (l .target) (l .weight)))
     go f (addedTo i h) p = rw (p, linkAllIn) (noted-then g h (linkedLeft (linkAllIn ls h)) (rw p at (noted-link g (l .source) (l .target) (l .weight))) (f h))
 
@@ -117,7 +147,9 @@ noted-forbid g p s = go (addNodeIn g (N.Solvable s)) refl
   where
     go : (a : AddedSoFar) → addNodeIn g (N.Solvable s) ≡ a → Noted g (linkedLeft (forbidAllIn g p s))
     go (fullAt h) q = rw (q, forbidAllIn) (rw q at (noted-node g (N.Solvable s)))
-    go (addedTo i h) q = rw (q, forbidAllIn) (noted-then g h (linkedLeft (linkAllIn (previousLinks p s) h)) (rw q at (noted-node g (N.Solvable s))) (noted-links (previousLinks p s) h))
+    go (addedTo i h) q =
+        rw (q, forbidAllIn) (noted-then g h (linkedLeft (linkAllIn (previousLinks p s) h)) (rw q at (noted-node g (N.Solvable s)))
+        (noted-links (previousLinks p s) h))
 
 -- ---- a clause
 
@@ -145,7 +177,8 @@ unfolding onceIn
 noted-once b t =
     split (any (sameTriple t) (b .made))
     (λ q. rw (q, onceIn) (noted-same (b .graph)))
-    (λ q. rw (q, onceIn, noted-left b t (addLinkIn (b .graph) (t .parent) (t .candidate) (W.Conflict (K.Constrains (t .vset))))) (noted-link (b .graph) (t .parent) (t .candidate) (W.Conflict (K.Constrains (t .vset)))))
+    (λ q. rw (q, onceIn, noted-left b t (addLinkIn (b .graph) (t .parent) (t .candidate) (W.Conflict (K.Constrains (t .vset)))))
+    (noted-link (b .graph) (t .parent) (t .candidate) (W.Conflict (K.Constrains (t .vset)))))
 
 noted-onces : (ts : List Triple) (b : Build) → Noted (b .graph) (stepLeft (onceAllIn ts b))
 unfolding onceAllIn
@@ -166,7 +199,7 @@ noted-pair T side a b v d = go (partyOf T a)
 
 noted-forbids : (T : Tables) (x y : ℕ) (b : Build) → Noted (b .graph) (stepLeft (forbidClauseIn T x y b))
 unfolding forbidClauseIn
-noted-forbids T x y b = go (solvableIn (originOf T x)) (nameIn (originOf T y))
+noted-forbids T x y b = go (solvableIn (originOf T x)) (nameForbidden (originOf T y))
   where
     go : (ss ns : List ℕ) → Noted (b .graph) (stepLeft (forbidNamedIn b ss ns))
     go [] ns = noted-same (b .graph)

@@ -9,7 +9,7 @@ use lib.ListN.{length}
 use lib.Dec.{eqb}
 use borrow.Author.Tests.{eqb-true, eqb-false, eq-eqb}
 use Rattle.basis.specs.Lists.{any, first, has, upto}
-use Rattle.basis.specs.Members.{split, no-both, any-in, any-some}
+use Rattle.basis.specs.Members.{split, no-both, any-in, any-some, and-true}
 use Rattle.store.specs.declared.Edge.{Edge}
 use Rattle.store.specs.declared.Size.{Size}
 use Rattle.store.specs.Graph.{Graph, rounds}
@@ -17,14 +17,14 @@ use Rattle.store.specs.Table.{graphIn, Stored}
 use Rattle.labels.specs.Labels.{targets}
 use Rattle.labels.specs.Ordered.{Leads, Acyclic}
 use Rattle.labels.specs.Laws.Paths.{path-onto, last-edge, into-edge, leads-way, way-leads}
-use Rattle.reach.specs.Paths.{Path, Way, Whole, and-true, path-rounds, rounds-reach}
-use Rattle.reach.specs.Queue.{lowestOf, whole}
+use Rattle.links.specs.Paths.{Path, Way, GraphWhole, path-rounds, rounds-reach}
+use Rattle.links.specs.Queue.{lowestOf, whole}
 use Rattle.cycles.specs.Cycles.{onCycle, cycleOf}
 use Rattle.cycles.specs.Laws.Lowest.{Lowest, lowest-unique}
 
 -- ---- the test of one node
 
-module _ (G : Graph) (W : Whole G) (n : ℕ) where
+module _ (G : Graph) (W : GraphWhole G) (n : ℕ) where
   abbrev back : Edge → Bool
   back e = eqb (e .target) n && has (e .source) (rounds (length (G .nodes)) G (n ∷ []))
 
@@ -81,7 +81,7 @@ first-none p (suc k) a e m l h =
 
 -- ---- the answer
 
-module _ (G : Graph) (W : Whole G) where
+module _ (G : Graph) (W : GraphWhole G) where
   -- a node on a cycle is a target
   small : (n : ℕ) → Leads (targets G) n n → n < length (G .nodes)
   small n l =

@@ -20,8 +20,8 @@ use Rattle.labels.specs.Labels.{targets}
 use Rattle.labels.specs.Ordered.{Leads, edge, onto, Acyclic}
 use Rattle.labels.specs.Laws.Paths.{target-edge, path-onto, last-edge}
 use Rattle.labels.specs.Laws.Paths as P
-use Rattle.reach.specs.Paths.{Path}
-use Rattle.reach.specs.Queue.{Marked, edge-there, edge-place}
+use Rattle.links.specs.Paths.{Path}
+use Rattle.links.specs.Queue.{Marked, edge-there, edge-place}
 use Rattle.cycles.specs.Laws.Lowest.{Lowest}
 
 -- ---- one node: an edge comes in from a node that it leads to

@@ -32,8 +32,10 @@ module _ {R : Type 0} (P : Plan R) where
   level-stands f ms b xs (x ∷ l) h = (h, level-stands f ms b xs l h)
 
   -- what an entry pushes stands below it
-  pushes-stand : (o : Op R) (ms : List Bool) (b : List ℕ) (xs : List (Entry R)) → Opened P xs b → All (Stands (snoc xs (entry o ms b))) (pushes P (entry o ms b))
-  pushes-stand (requirement r) ms b xs h = level-stands candidate ms b (snoc xs (entry (requirement r) ms b)) (P .kids r) (more xs (entry (requirement r) ms b ∷ []) b h)
+  pushes-stand : (o : Op R) (ms : List Bool) (b : List ℕ) (xs : List (Entry R)) → Opened P xs b
+      → All (Stands (snoc xs (entry o ms b))) (pushes P (entry o ms b))
+  pushes-stand (requirement r) ms b xs h =
+      level-stands candidate ms b (snoc xs (entry (requirement r) ms b)) (P .kids r) (more xs (entry (requirement r) ms b ∷ []) b h)
   pushes-stand (candidate n) ms b xs h =
       let e : Entry R = entry (candidate n) ms b in
       split (P .opens n)
@@ -44,7 +46,8 @@ module _ {R : Type 0} (P : Plan R) where
   shows-branch zero xs s a = tt
   shows-branch (suc n) xs s a = by (s .stack) (s .reported) a (λ ys t b. shows-branch n ys t b)
     where
-      by : (es : List (Entry R)) (rep : List ℕ) → All (Stands xs) es → ((ys : List (Entry R)) (t : State R) → All (Stands ys) (t .stack) → Branching P ys (shows P n t))
+      by : (es : List (Entry R)) (rep : List ℕ) → All (Stands xs) es
+          → ((ys : List (Entry R)) (t : State R) → All (Stands ys) (t .stack) → Branching P ys (shows P n t))
           → Branching P xs (shows P (suc n) (state es rep))
       by [] rep a ih = ih xs (state [] rep) tt
       by (e ∷ es) rep a ih =

@@ -40,7 +40,8 @@ pub refused-early : (T : Tables) (k p : ℕ) → graphOf T ≡ refused k p → (
 refused-early T k p y = let l = refused-high T k p y in (omega arith, refused-low T k p y)
 
 -- a file is refused by one of 1 to 9, or passes
-pub by-check : {X : Type 0} (file : List ℕ) → ((k p : ℕ) → (1 ≤ k) × (k ≤ 9) → checkOf file ≡ refusalOf k p → X) → (Passed file → checkOf file ≡ refusalOf 0 0 → X) → X
+pub by-check : {X : Type 0} (file : List ℕ) → ((k p : ℕ) → (1 ≤ k) × (k ≤ 9) → checkOf file ≡ refusalOf k p → X)
+    → (Passed file → checkOf file ≡ refusalOf 0 0 → X) → X
 unfolding checkOf
 by-check file f g =
     by-reading (readOf file)

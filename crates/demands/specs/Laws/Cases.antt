@@ -66,7 +66,8 @@ pub draw-twelve : (file : List ℕ) (opt room : ℕ) → 1 < opt → drawFile fi
 unfolding drawFile
 draw-twelve file opt room o = rw (lt-leb opt 1 o)
 
-pub says-option : (e : ℕ) (file : List ℕ) (opt : ℕ) (out left : List ℕ) (r : Answer) → Says e file opt out left r → 1 < opt → (r ≡ refusalOf 12 0) × (left ≡ out)
+pub says-option : (e : ℕ) (file : List ℕ) (opt : ℕ) (out left : List ℕ) (r : Answer) → Says e file opt out left r → 1 < opt → (r ≡ refusalOf 12 0)
+    × (left ≡ out)
 says-option e file opt out left r S o =
     let q = option-twelve e file opt out left r S o in
     (q, early-room e file opt out left r S (inr (ap (λ (a : Answer). a .number) q)))

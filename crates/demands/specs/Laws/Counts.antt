@@ -18,10 +18,10 @@ use Rattle.labels.specs.Runs.{Run}
 use Rattle.machine.specs.Machine.{Plan}
 use Rattle.machine.specs.Bound.{most}
 use Rattle.machine.specs.Count as Count
-use Rattle.plan.specs.Plan.{shownOf, planOf, isMerged}
+use Rattle.plan.specs.Plan.{shownOf, planOf, mergedShown}
 use Rattle.plan.specs.Plan as Plan
-use Rattle.plan.specs.Mates.{in-upto, group-at}
-use Rattle.measuring.specs.Assembly.{lead-group}
+use Rattle.plan.specs.Mates.{upto-in, group-at}
+use Rattle.planning.specs.Assembly.{lead-group}
 use Rattle.machine.specs.Edition.{edited}
 use Rattle.machine.specs.Laws.Edition.{second-most}
 use Rattle.plan.specs.Laws.Leads.{shown-alone, shown-grouped}
@@ -54,9 +54,9 @@ module _ (T : Tables) (G : Graph) where
   nodes = upto (length (G .nodes)) 0
 
   node-of : (n : ℕ) → In n nodes → n < length (G .nodes)
-  node-of n i = let r = in-upto (length (G .nodes)) 0 n i in omega (arith, r .1)
+  node-of n i = let r = upto-in (length (G .nodes)) 0 n i in omega (arith, r .1)
 
-  merged-is : (n : ℕ) → n < length (G .nodes) → isMerged (shownOf T G) n ≡ merged (nameOf T) G n
+  merged-is : (n : ℕ) → n < length (G .nodes) → mergedShown (shownOf T G) n ≡ merged (nameOf T) G n
   unfolding merged mergedBy mates
   merged-is n h = ap (λ (l : List ℕ). ltb 1 (length l)) (group-at T G n h)
 
@@ -76,7 +76,7 @@ module _ (T : Tables) (G : Graph) where
   group-test : (n : ℕ) → n < length (G .nodes) → names-group n ≡ isSolvable (nodeAt G n) && Count.leading P n
   group-test n h =
       let m = merged-is n h in
-      let l : Plan.leadOf (shownOf T G) n ≡ leadOf (nameOf T) G n = lead-group T G n h in
+      let l : Plan.leadShown (shownOf T G) n ≡ leadOf (nameOf T) G n = lead-group T G n h in
       split (merged (nameOf T) G n)
       (λ t. rw (m, l, t, merged-solvable n t))
       (λ t. rw (m, t) (split (isSolvable (nodeAt G n)) (λ s. rw s) (λ s. rw s)))

@@ -19,7 +19,7 @@ use Rattle.labels.specs.Runs.{Run}
 use Rattle.machine.specs.Machine.{Plan, Op, requirement, candidate, Entry, entry, shows}
 use Rattle.machine.specs.Units.{TextUnit, textOf}
 use Rattle.machine.specs.Explained.{unitsOf, unitsFor}
-use Rattle.plan.specs.Plan.{Shown, shownOf, Kind, excluded, bare, conflicting, constraining, requiring, kindOf}
+use Rattle.plan.specs.Plan.{Shown, shownOf, Kind, excluded, bare, conflicting, constraining, requiring, lineKind}
 use Rattle.plan.specs.Display.{packageText}
 use Rattle.texts.specs.Indent.{deepest, older, unlessTop, above, indent, atTop}
 use Rattle.lines.specs.Lines.{topOf, runLine, setLine, setLines, packageLines, linesOf}
@@ -78,7 +78,8 @@ unless-high false (m ∷ ms) t h = h
 above-high : (top : Bool) (ms : List Bool) (rest : List ℕ) → all high rest ≡ true → all high (above top ms rest) ≡ true
 unfolding above
 above-high top [] rest h = h
-above-high top (m ∷ ms) rest h = above-high top ms (unlessTop top ms (older m) ++ rest) (all-both high (unlessTop top ms (older m)) rest (unless-high top ms (older m) (older-high m)) h)
+above-high top (m ∷ ms) rest h =
+    above-high top ms (unlessTop top ms (older m) ++ rest) (all-both high (unlessTop top ms (older m)) rest (unless-high top ms (older m) (older-high m)) h)
 
 indent-high : (top : Bool) (ms : List Bool) → all high (indent top ms) ≡ true
 unfolding indent
@@ -117,11 +118,13 @@ module _ (e : ℕ) (T : Tables) (valid : Valid T) (G : Graph) (opt : ℕ) where
         ends = sym (append-assoc (i ++ p) w (utf8 "\n"));
       }
 
-  sets-one : (ms : List Bool) (n : ℕ) (vs : List ℕ) → All (λ (u : TextUnit). OneLine (u .bytes)) (map (λ l. record { bytes = l; openings = n }) (setLines S opt ms vs))
+  sets-one : (ms : List Bool) (n : ℕ) (vs : List ℕ) → All (λ (u : TextUnit). OneLine (u .bytes))
+      (map (λ l. record { bytes = l; openings = n }) (setLines S opt ms vs))
   sets-one ms n [] = tt
   sets-one ms n (v ∷ vs) = (line-one (isNil vs ∷ ms) (setLine S v) (set-clean S shown-valid v), sets-one ms n vs)
 
-  kind-one : (ms : List Bool) (m n : ℕ) (k : Kind) → All (λ (u : TextUnit). OneLine (u .bytes)) (map (λ l. record { bytes = l; openings = m }) (packageLines S opt ms n k))
+  kind-one : (ms : List Bool) (m n : ℕ) (k : Kind) → All (λ (u : TextUnit). OneLine (u .bytes))
+      (map (λ l. record { bytes = l; openings = m }) (packageLines S opt ms n k))
   kind-one ms m n (excluded r) =
       let i : List ℕ = indent (topOf opt) ms in
       let p : List ℕ = packageText S n in
@@ -129,25 +132,29 @@ module _ (e : ℕ) (T : Tables) (valid : Valid T) (G : Graph) (opt : ℕ) where
       let t : List ℕ = reasonText (S .tables) r in (
         record {
           before = i ++ p ++ w ++ t;
-          clean = all-both high (i ++ p ++ w) t (all-both high (i ++ p) w (all-both high i p (indent-high (topOf opt) ms) (clean-high p (package-clean S shown-valid n))) refl)
+          clean =
+              all-both high (i ++ p ++ w) t (all-both high (i ++ p) w (all-both high i p (indent-high (topOf opt) ms)
+              (clean-high p (package-clean S shown-valid n))) refl)
               (clean-high t (reason-clean S shown-valid r));
           ends = refl;
         },
         tt,
       )
   kind-one ms m n bare = (line-one ms (packageText S n) (package-clean S shown-valid n), tt)
-  kind-one ms m n conflicting = (said-one ms (packageText S n) (utf8 ", which conflicts with the versions reported above.") (package-clean S shown-valid n) refl, tt)
+  kind-one ms m n conflicting =
+      (said-one ms (packageText S n) (utf8 ", which conflicts with the versions reported above.") (package-clean S shown-valid n) refl, tt)
   kind-one ms m n (constraining vs) = (said-one ms (packageText S n) (utf8 " would constrain") (package-clean S shown-valid n) refl, sets-one ms m vs)
   kind-one ms m n requiring = (said-one ms (packageText S n) (utf8 " would require") (package-clean S shown-valid n) refl, tt)
 
   entry-one : (o : Op Run) (ms : List Bool) (b : List ℕ) → All (λ (u : TextUnit). OneLine (u .bytes)) (unitsOf P (linesOf S opt) (entry o ms b))
   entry-one (requirement r) ms b = (line-one ms (runLine S (atTop ms) r) (run-clean S shown-valid (atTop ms) r), tt)
-  entry-one (candidate n) ms b = kind-one ms _ n (kindOf S n)
+  entry-one (candidate n) ms b = kind-one ms _ n (lineKind S n)
 
   entries-one : (es : List (Entry Run)) → All (λ (u : TextUnit). OneLine (u .bytes)) (unitsFor P (linesOf S opt) es)
   entries-one [] = tt
   entries-one (x ∷ es) =
-      all-append (λ (u : TextUnit). OneLine (u .bytes)) (unitsOf P (linesOf S opt) x) (unitsFor P (linesOf S opt) es) (entry-one (x .op) (x .marks) (x .branch)) (entries-one es)
+      all-append (λ (u : TextUnit). OneLine (u .bytes)) (unitsOf P (linesOf S opt) x) (unitsFor P (linesOf S opt) es) (entry-one (x .op) (x .marks) (x .branch))
+      (entries-one es)
 
   pub units-one : (n : ℕ) → All (λ (u : TextUnit). OneLine (u .bytes)) (unitsIn e T G opt n)
   units-one n = entries-one (shows P n (startIn T G))
@@ -158,7 +165,8 @@ pub written-lines : (e : ℕ) (T : Tables) → Valid T → (G : Graph) (opt : �
 written-lines e T valid G opt out left r w =
     let b = w .begins 0 in
     let t : List ℕ = textOf (w .first) in
-    let h : take (r .bytes) left ≡ t = ap (λ (n : ℕ). take n left) (w .bytes) ∙ ap (λ (l : List ℕ). take (length t) l) (w .room) ∙ take-append-seam t (drop (length t) out) in
+    let h : take (r .bytes) left ≡ t = ap (λ (n : ℕ). take n left) (w .bytes) ∙ ap (λ (l : List ℕ). take (length t) l) (w .room)
+    ∙ take-append-seam t (drop (length t) out) in
     ap linesIn h
     ∙ cut-units (w .first)
     (all-first (λ (u : TextUnit). OneLine (u .bytes)) (w .first) (b .0)

@@ -23,10 +23,10 @@ use Rattle.labels.specs.Ordered.{Acyclic}
 use Rattle.labels.specs.Runs.{Run, addTo, runsOf, someRun}
 use Rattle.labels.specs.Labels.{targets, conflicts, canInstall, isLacking, installable, missing, hasUnresolved}
 use Rattle.labels.specs.Facts.{inner, not-both, install-local, lacking-local, missing-none}
-use Rattle.settled.specs.Settled.{sound, drawn-installable, drawn-missing}
+use Rattle.shape.specs.Settled.{sound, drawn-installable, drawn-missing}
 use Rattle.plan.specs.Mates.{map-upto}
-use Rattle.entries.specs.declared.NodeEntry.{NodeEntry}
-use Rattle.nodelist.specs.Nodes.{flag, nodeEntry, nodeEntries, nodesOf}
+use Rattle.lists.specs.declared.entries.NodeEntry.{NodeEntry}
+use Rattle.lists.specs.Nodes.{flag, nodeEntry, nodeEntries, nodesOf}
 use Rattle.calls.specs.Nodes.{nodesAnswer, nodesLeft}
 use Rattle.demands.specs.Rules.{Passed, entryAt, saysInstallable, saysMissing}
 
@@ -45,7 +45,8 @@ flag-yes true e = refl
 flag-yes false e = let z : ⊥ = omega arith in absurd z
 
 -- a run has a target
-run-some : (q n : ℕ) (rs : List Run) → any (λ (r : Run). all (λ (t : ℕ). false) (r .to)) rs ≡ false → any (λ (r : Run). all (λ (t : ℕ). false) (r .to)) (addTo q n rs) ≡ false
+run-some : (q n : ℕ) (rs : List Run) → any (λ (r : Run). all (λ (t : ℕ). false) (r .to)) rs ≡ false
+    → any (λ (r : Run). all (λ (t : ℕ). false) (r .to)) (addTo q n rs) ≡ false
 run-some q n [] h = refl
 run-some q n (r ∷ rs) h =
     split (eqb q (r .req))
@@ -112,7 +113,8 @@ pub entry-is : (T : Tables) (G : Graph) (n : ℕ) → n < length (G .nodes) → 
 unfolding nodeEntries
 entry-is T G n h =
     let z : 0 + n ≡ n = omega arith in
-    map-upto (nodeEntry T G) (length (G .nodes)) 0 n (record { kind = 0; number = 0; group = 0; installable = 0; missing = 0; clause = 0 }) h ∙ ap (nodeEntry T G) z
+    map-upto (nodeEntry T G) (length (G .nodes)) 0 n (record { kind = 0; number = 0; group = 0; installable = 0; missing = 0; clause = 0 }) h
+    ∙ ap (nodeEntry T G) z
 
 pub entry-installable : (T : Tables) (G : Graph) (n : ℕ) → n < length (G .nodes) → entryAt (nodeEntries T G) n .installable ≡ flag (installable G n)
 unfolding nodeEntry

@@ -52,4 +52,5 @@ module _ {R : Type 0} (P : Plan R) where
   pub shows-levelled : (n : ℕ) (s : State R) → All Levelled (s .stack) → All Levelled (shows P n s)
   shows-levelled zero s a = tt
   shows-levelled (suc n) s a =
-      all-append Levelled (says P s) (shows P n (next P s)) (says-levelled (s .stack) (s .reported) a) (shows-levelled n (next P s) (next-levelled (s .stack) (s .reported) a))
+      all-append Levelled (says P s) (shows P n (next P s)) (says-levelled (s .stack) (s .reported) a)
+      (shows-levelled n (next P s) (next-levelled (s .stack) (s .reported) a))

@@ -19,11 +19,11 @@ use Rattle.machine.specs.Units.{TextUnit, Result, textOf, depthOf, written, fit
 use Rattle.machine.specs.Fit.{depth-append, fitting-within, next-unit, fit-whole, fit-less}
 use Rattle.texts.specs.Wrote.{over}
 use Rattle.drawing.specs.Draw.{drawnOf, drawingUnits}
-use Rattle.drawing.specs.Graphviz.{unitOf, shownOf, drawShown}
-use Rattle.exporting.specs.Export.{exportUnits, exportShown}
+use Rattle.drawing.specs.Graphviz.{unitOf, fitUnits, drawShown}
+use Rattle.wall.specs.Export.{exportUnits, exportShown}
 use Rattle.explanation.specs.Explain.{refusal}
-use Rattle.entries.specs.declared.NodeEntry.{NodeEntry}
-use Rattle.nodelist.specs.Nodes.{Nodes, entered, denied, nodesOf, listedBy}
+use Rattle.lists.specs.declared.entries.NodeEntry.{NodeEntry}
+use Rattle.lists.specs.Nodes.{Nodes, entered, denied, nodesOf, listedBy}
 use Rattle.salvage.specs.Salvage as Salvage
 use Rattle.salvage.specs.Lent as Lent
 use Rattle.writing.specs.Write as Write
@@ -43,7 +43,17 @@ fit-first room us =
     split (leb (length (textOf us)) room)
     (λ q. let h = leb-true (length (textOf us)) room q in
     let e : fit 0 0 room us ≡ written 0 0 us = fit-whole 0 0 room us h in
-    rw e (record { first = us; rest = []; begins = sym (append-nil us); text = refl; bytes = refl; units = refl; depth = refl; fits = h; number = inl (refl, refl, refl) }))
+    rw e (record {
+      first = us;
+      rest = [];
+      begins = sym (append-nil us);
+      text = refl;
+      bytes = refl;
+      units = refl;
+      depth = refl;
+      fits = h;
+      number = inl (refl, refl, refl);
+    }))
     (λ q. let h = leb-false (length (textOf us)) room q in
     let e : fit 0 0 room us ≡ written 10 (length (fitting room us)) (fitting room us) = fit-less 0 0 room us h in
     let n = next-unit room us h in
@@ -94,7 +104,7 @@ module _ (file : List ℕ) (opt room : ℕ) where
   draw-whole T G y g = rw (y, g)
 
   shown-first : (T : Tables) (G : Graph) → FirstOf (map unitOf (drawingUnits (drawnOf opt T G))) room (drawShown (drawnOf opt T G) room)
-  unfolding drawShown shownOf
+  unfolding drawShown fitUnits
   shown-first T G = fit-first room (map unitOf (drawingUnits (drawnOf opt T G)))
 
   abbrev Draws : Result → Type 0
@@ -113,13 +123,15 @@ module _ (file : List ℕ) (opt room : ℕ) where
   unfolding drawFile
   draw-units = split (leb opt 1) (λ o. rw o draw-bytes) (λ o. rw o (inl (12, 0, inr refl, refl)))
 
-units-kept : (units : Tables → Graph → List (List ℕ)) (file room : List ℕ) (x : Result) → UnitsOr units file (length room) x → Early (x .number) → over (x .text) room ≡ room
+units-kept : (units : Tables → Graph → List (List ℕ)) (file room : List ℕ) (x : Result) → UnitsOr units file (length room) x → Early (x .number)
+    → over (x .text) room ≡ room
 units-kept units file room x (inl u) e = rw (u .3)
 units-kept units file room x (inr u) e = absurd (first-late (map unitOf (units (u .0 .tables) (u .0 .graph))) (length room) x (u .1) e)
 
 pub draw-refused : (file : List ℕ) (opt : ℕ) (room : List ℕ) → Early (resultAnswer (drawFile file opt (length room)) .number)
     → over (drawFile file opt (length room) .text) room ≡ room
-draw-refused file opt room e = units-kept (λ T G. drawingUnits (drawnOf opt T G)) file room (drawFile file opt (length room)) (draw-units file opt (length room)) e
+draw-refused file opt room e =
+    units-kept (λ T G. drawingUnits (drawnOf opt T G)) file room (drawFile file opt (length room)) (draw-units file opt (length room)) e
 
 -- ---- `urzulempa_tgf`
 
@@ -137,7 +149,7 @@ module _ (file : List ℕ) (room : ℕ) where
   tgf-whole T G y g = rw (y, g)
 
   export-first : (T : Tables) (G : Graph) → FirstOf (map unitOf (exportUnits T G)) room (exportShown T G room)
-  unfolding exportShown shownOf
+  unfolding exportShown fitUnits
   export-first T G = fit-first room (map unitOf (exportUnits T G))
 
   pub tgf-units : UnitsOr exportUnits file room (exportFile file room)
@@ -181,7 +193,7 @@ salvage-refused file room list f = by (Salvage.salvageOf file) f
         → (Lent.roomFor o room (length list) ≡ room) × (Lent.listFor o (length room) list ≡ list)
     by (Salvage.refused k i) f = (refl, refl)
     by (Salvage.repaired out ls d) f =
-        split (Lent.fits (length out) (length ls) (length room) (length list))
+        split (Lent.fitsLent (length out) (length ls) (length room) (length list))
         (λ t. absurd (f (rw (t, cond))))
         (λ t. (rw (t, cond), rw (t, cond)))
 
@@ -193,7 +205,7 @@ write-refused rows room f = by (Write.writeOf rows) f
     by (Write.refused k i) f = refl
     by (Write.written out) f = split (leb (length out) (length room)) (λ t. absurd (f (rw (t, cond)))) (λ t. rw (t, cond))
 
-pub tgf-read-refused : (o : Wall.Outcome) (nodes edges : List ℕ) → (tgfCounts o (length nodes) (length edges) .number ≡ 0 → ⊥)
+pub tgf-read-refused : (o : Wall.WallText) (nodes edges : List ℕ) → (tgfCounts o (length nodes) (length edges) .number ≡ 0 → ⊥)
     → (tgfNodes o nodes (length edges) ≡ nodes) × (tgfEdges o (length nodes) edges ≡ edges)
 unfolding tgfBy guard
 tgf-read-refused (Wall.bad n) nodes edges f = (refl, refl)

@@ -15,9 +15,9 @@ use Rattle.records.specs.Tables.{Tables, noTables, put}
 use Rattle.records.specs.Read.{Reading, good, bad, readFrom, readOf, refusalIn}
 use Rattle.records.specs.Views.{clauseOf, coreAt}
 use Rattle.store.specs.Graph.{Graph, settle, unreached}
-use Rattle.expansion.specs.Expand.{Build, Step, on, stop, startBuild, expand}
+use Rattle.expansion.specs.Expand.{Build, ClauseStep, on, stop, startBuild, expand}
 use Rattle.graph.specs.Graphs.{Turned, go, halt, coreTurn, handed, expanded, turnAt, isLearnt, Built, built, stopped, buildFrom, buildOf}
-use Rattle.graph.specs.Graphs.{Outcome, drawn, refused, finished, graphOf}
+use Rattle.graph.specs.Graphs.{Outcome, drawn, refused, reachedAll, graphOf}
 
 abbrev ReadSome : Reading → Type 0
 ReadSome (good T) = Unit {0}
@@ -61,11 +61,11 @@ abbrev OutcomeHigh : Outcome → Type 0
 OutcomeHigh (drawn G) = Unit {0}
 OutcomeHigh (refused k i) = 7 ≤ k
 
-step-high : (s : Step) → TurnHigh (expanded s)
+step-high : (s : ClauseStep) → TurnHigh (expanded s)
 step-high (on b) = tt
 step-high stop = omega arith
 
-learnt-by : (l : Bool) (s : Step) → TurnHigh (elim l [ true ↦ halt 7 | false ↦ expanded s ])
+learnt-by : (l : Bool) (s : ClauseStep) → TurnHigh (elim l [ true ↦ halt 7 | false ↦ expanded s ])
 learnt-by true s = omega arith
 learnt-by false s = step-high s
 
@@ -89,15 +89,15 @@ unfolding buildFrom
 build-high zero T i b = tt
 build-high (suc n) T i b = build-by n T i (build-high n T (suc i)) (turnAt T i b) (turn-high T i b)
 
-finished-high : (g : Graph) → OutcomeHigh (finished g)
-unfolding finished
+finished-high : (g : Graph) → OutcomeHigh (reachedAll g)
+unfolding reachedAll
 finished-high g = by (unreached g)
   where
     by : (o : Option ℕ) → OutcomeHigh (elim o [ none ↦ drawn g | some n ↦ refused 9 n ])
     by none = tt
     by (some n) = omega arith
 
-outcome-by : (b : Built) → BuiltHigh b → OutcomeHigh (elim b [ stopped k i ↦ refused k i | built c ↦ finished (settle (c .graph)) ])
+outcome-by : (b : Built) → BuiltHigh b → OutcomeHigh (elim b [ stopped k i ↦ refused k i | built c ↦ reachedAll (settle (c .graph)) ])
 outcome-by (built c) l = finished-high (settle (c .graph))
 outcome-by (stopped k i) l = l
 

@@ -16,7 +16,7 @@ use Rattle.machine.specs.Machine.{Plan, Op, candidate, Entry, entry, shows, ope
 use Rattle.machine.specs.Units.{TextUnit}
 use Rattle.machine.specs.Explained.{unitsOf, unitsFor}
 use Rattle.machine.specs.Fit.{concat-append}
-use Rattle.plan.specs.Plan.{Shown, shownOf, popped, Kind, excluded, bare, conflicting, constraining, requiring, isRequiring, kindOf}
+use Rattle.plan.specs.Plan.{Shown, shownOf, popped, Kind, excluded, bare, conflicting, constraining, requiring, isRequiring, lineKind}
 use Rattle.plan.specs.Display.{packageText}
 use Rattle.texts.specs.Indent.{indent}
 use Rattle.lines.specs.Lines.{topOf, linesOf}
@@ -33,7 +33,8 @@ module _ (S : Shown) (opt : ℕ) where
   more us vs (n ∷ b) h = let x = h .0 in ((x .0, in-left (x .0) us vs (x .1), x .2), more us vs b (h .1))
 
   -- the lines of one entry, then the others
-  read-behind : (b : List ℕ) (before us vs : List TextUnit) → All (ReadOff S opt b) us → OpenedBy S opt before b → AllReadOff S opt (before ++ us) vs → AllReadOff S opt before (us ++ vs)
+  read-behind : (b : List ℕ) (before us vs : List TextUnit) → All (ReadOff S opt b) us → OpenedBy S opt before b → AllReadOff S opt (before ++ us) vs
+      → AllReadOff S opt before (us ++ vs)
   read-behind b before [] vs a o h = subst (λ (l : List TextUnit). AllReadOff S opt l vs) (append-nil before) h
   read-behind b before (u ∷ us) vs a o h = (
     (b, a .0, o),
@@ -68,9 +69,10 @@ module _ (e : ℕ) (T : Tables) (valid : Valid T) (G : Graph) (opt : ℕ) where
   units es = unitsFor P (linesOf S opt) es
 
   -- the "would require" line of an entry that opens n
-  opening-line : (o : Op Run) (ms : List Bool) (b : List ℕ) (n : ℕ) → o ≡ candidate n → isRequiring (kindOf S n) ≡ true
-      → In (record { bytes = indent (topOf opt) ms ++ packageText S n ++ utf8 " would require\n"; openings = openings P (entry o ms b) }) (unitsOf P (linesOf S opt) (entry o ms b))
-  opening-line o ms b n q k = rw (q, k, requiring-is (kindOf S n) k) (inl refl)
+  opening-line : (o : Op Run) (ms : List Bool) (b : List ℕ) (n : ℕ) → o ≡ candidate n → isRequiring (lineKind S n) ≡ true
+      → In (record { bytes = indent (topOf opt) ms ++ packageText S n ++ utf8 " would require\n"; openings = openings P (entry o ms b) })
+      (unitsOf P (linesOf S opt) (entry o ms b))
+  opening-line o ms b n q k = rw (q, k, requiring-is (lineKind S n) k) (inl refl)
 
   -- an entry's branch was opened by lines, as it was by entries
   opened-lines : (xs : List (Entry Run)) → All Levelled xs → (b : List ℕ) → Opened P xs b → OpenedBy S opt (units xs) b
@@ -78,13 +80,14 @@ module _ (e : ℕ) (T : Tables) (valid : Valid T) (G : Graph) (opt : ℕ) where
   opened-lines xs a (n ∷ b) h =
       let o : Entry Run = h .0 .0 in
       let q : o .op ≡ candidate n = h .0 .2 in
-      let k : isRequiring (kindOf S n) ≡ true = h .0 .4 in
+      let k : isRequiring (lineKind S n) ≡ true = h .0 .4 in
       let l : length (o .marks) ≡ 2 * length b + 2 = all-in Levelled xs o a (h .0 .1) ∙ rw (q, h .0 .3) refl in
       let x = opening-off e T valid G opt (o .marks) b n k l in
       let m : openings P o ≡ length b + 1 = rw (q, k, h .0 .3) refl in
       let u : TextUnit = record { bytes = indent (topOf opt) (o .marks) ++ packageText S n ++ utf8 " would require\n"; openings = length b + 1 } in
       let i : In u (unitsOf P (linesOf S opt) o) =
-      subst (λ (c : ℕ). In (record { bytes = indent (topOf opt) (o .marks) ++ packageText S n ++ utf8 " would require\n"; openings = c }) (unitsOf P (linesOf S opt) o)) m
+      subst (λ (c : ℕ). In (record { bytes = indent (topOf opt) (o .marks) ++ packageText S n ++ utf8 " would require\n"; openings = c })
+      (unitsOf P (linesOf S opt) o)) m
       (opening-line (o .op) (o .marks) (o .branch) n q k) in
       ((u, in-concat (unitsOf P (linesOf S opt)) o u xs (h .0 .1) i, x), opened-lines xs a b (h .1))
 

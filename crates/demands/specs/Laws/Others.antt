@@ -25,7 +25,7 @@ use Rattle.calls.specs.Answers.{refusalOf}
 use Rattle.calls.specs.Draws.{resultAnswer}
 use Rattle.calls.specs.Says.{Says, Shows, resultBy}
 use Rattle.calls.specs.Air.{airOf, SaysBy, SaysAir}
-use Rattle.calls.specs.WhatIf.{explainOutcome, explainRead, explainWhatIf, SaysWhatIf}
+use Rattle.calls.specs.WhatIf.{explainOutcome, askRead, explainWhatIf, SaysWhatIf}
 use Rattle.demands.specs.Rules.{Refusing}
 use Rattle.demands.specs.Laws.Shown.{shown-some, shown-number}
 use Rattle.demands.specs.Laws.Told.{says-some, early-room, every-number}
@@ -103,6 +103,6 @@ module _ (file : List ℕ) (s q opt : ℕ) (out left : List ℕ) (a : Answer) (W
       outcome T (refused k p) e = by-refusal k p e
       outcome T (drawn K) e = none-of (a .number) h (by-shown T K e)
 
-      reading : (y : Reading) → explainRead (W .turns) s q opt (length out) y ≡ some (resultBy a (W .text)) → left ≡ out
+      reading : (y : Reading) → askRead (W .turns) s q opt (length out) y ≡ some (resultBy a (W .text)) → left ≡ out
       reading (bad k p) e = by-refusal k p e
       reading (good T) e = outcome T (askTables T s q) e

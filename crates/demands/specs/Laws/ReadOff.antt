@@ -17,7 +17,7 @@ use Rattle.store.specs.Graph.{Graph}
 use Rattle.labels.specs.Runs.{Run}
 use Rattle.machine.specs.Machine.{Plan, Op, requirement, candidate, entry, openings}
 use Rattle.machine.specs.Explained.{unitsOf}
-use Rattle.plan.specs.Plan.{Shown, shownOf, Kind, excluded, bare, conflicting, constraining, requiring, isRequiring, kindOf}
+use Rattle.plan.specs.Plan.{Shown, shownOf, Kind, excluded, bare, conflicting, constraining, requiring, isRequiring, lineKind}
 use Rattle.plan.specs.Display.{packageText}
 use Rattle.texts.specs.Indent.{deepest, older, above, indent, atTop}
 use Rattle.lines.specs.Lines.{topOf, runLine, setLine, setLines, packageLines, linesOf}
@@ -83,13 +83,15 @@ columns-flat m (n ∷ ms) k rest t =
 levels-top : (m : Bool) (ms : List Bool) (t : List ℕ) → (columns 0 (indent true (m ∷ ms) ++ t) + 1) / 3 + 0 ≡ suc (length ms)
 unfolding indent
 levels-top m ms t =
-    let c : columns 0 (above true ms (deepest m) ++ t) ≡ suc (suc (3 * length ms + 0)) = columns-above ms 0 (deepest m) t ∙ columns-deepest m (3 * length ms + 0) t in
+    let c : columns 0 (above true ms (deepest m) ++ t) ≡ suc (suc (3 * length ms + 0)) = columns-above ms 0 (deepest m) t
+    ∙ columns-deepest m (3 * length ms + 0) t in
     rw c (omega arith)
 
 levels-flat : (m n : Bool) (ms : List Bool) (t : List ℕ) → (columns 0 (indent false (m ∷ n ∷ ms) ++ t) + 1) / 3 + 1 ≡ suc (suc (length ms))
 unfolding indent
 levels-flat m n ms t =
-    let c : columns 0 (above false (n ∷ ms) (deepest m) ++ t) ≡ suc (suc (3 * length ms + 0)) = columns-flat n ms 0 (deepest m) t ∙ columns-deepest m (3 * length ms + 0) t in
+    let c : columns 0 (above false (n ∷ ms) (deepest m) ++ t) ≡ suc (suc (3 * length ms + 0)) = columns-flat n ms 0 (deepest m) t
+    ∙ columns-deepest m (3 * length ms + 0) t in
     rw c (omega arith)
 
 levels-first : (m : Bool) (t : List ℕ) → all low t ≡ true → (columns 0 (indent false (m ∷ []) ++ t) + 1) / 3 + 1 ≡ 1
@@ -104,7 +106,8 @@ by-top true (m ∷ ms) t h f = levels-top m ms t
 by-top false (m ∷ []) t h f = levels-first m t (f refl)
 by-top false (m ∷ n ∷ ms) t h f = levels-flat m n ms t
 
-pub levels-are : (opt : ℕ) (ms : List Bool) (t : List ℕ) → 1 ≤ length ms → (length ms ≡ 1 → all low t ≡ true) → levelsOf opt (indent (topOf opt) ms ++ t) ≡ length ms
+pub levels-are : (opt : ℕ) (ms : List Bool) (t : List ℕ) → 1 ≤ length ms → (length ms ≡ 1 → all low t ≡ true)
+    → levelsOf opt (indent (topOf opt) ms ++ t) ≡ length ms
 levels-are opt ms t h f = by-top (topOf opt) ms t h f
 
 -- ---- the lines of an entry
@@ -124,8 +127,10 @@ module _ (e : ℕ) (T : Tables) (valid : Valid T) (G : Graph) (opt : ℕ) where
   shown-valid = valid
 
   -- one line, behind its indent
-  line-off : (l : Line) (ms : List Bool) (b : List ℕ) (bytes t : List ℕ) (n : ℕ) → bytes ≡ indent (topOf opt) ms ++ t → 1 ≤ length ms → (length ms ≡ 1 → all low t ≡ true)
-      → length ms ≡ 2 * length b + ownLevels l → n ≡ length b + ownOpenings l → Wording S opt ms l bytes → ReadOff S opt b (record { bytes = bytes; openings = n })
+  line-off : (l : Line) (ms : List Bool) (b : List ℕ) (bytes t : List ℕ) (n : ℕ) → bytes ≡ indent (topOf opt) ms ++ t → 1 ≤ length ms
+      → (length ms ≡ 1 → all low t ≡ true)
+      → length ms ≡ 2 * length b + ownLevels l → n ≡ length b + ownOpenings l → Wording S opt ms l bytes
+      → ReadOff S opt b (record { bytes = bytes; openings = n })
   line-off l ms b bytes t n e h f q o w =
       record { line = l; marks = ms; wording = w; levels = ap (levelsOf opt) e ∙ levels-are opt ms t h f ∙ q; openings = o }
 
@@ -135,32 +140,35 @@ module _ (e : ℕ) (T : Tables) (valid : Valid T) (G : Graph) (opt : ℕ) where
   sets-off ms b [] h = tt
   sets-off ms b (v ∷ vs) h = (
     line-off ofSet (isNil vs ∷ ms) b (indent (topOf opt) (isNil vs ∷ ms) ++ setLine S v ++ utf8 "\n") (setLine S v ++ utf8 "\n") (length b + 0)
-        (append-assoc (indent (topOf opt) (isNil vs ∷ ms)) (setLine S v) (utf8 "\n")) (omega arith) (λ z. let x : ⊥ = omega arith in absurd x) (omega arith) refl (v, refl),
+        (append-assoc (indent (topOf opt) (isNil vs ∷ ms)) (setLine S v) (utf8 "\n")) (omega arith) (λ z. let x : ⊥ = omega arith in
+        absurd x) (omega arith) refl (v, refl),
     sets-off ms b vs h,
   )
 
   -- a package's line that opens nothing: t behind its text
   shut-off : (ms : List Bool) (b : List ℕ) (n : ℕ) (bytes t : List ℕ) → bytes ≡ indent (topOf opt) ms ++ packageText S n ++ t → length ms ≡ 2 * length b + 2
-      → isRequiring (kindOf S n) ≡ false → ReadOff S opt b (record { bytes = bytes; openings = length b + 0 })
+      → isRequiring (lineKind S n) ≡ false → ReadOff S opt b (record { bytes = bytes; openings = length b + 0 })
   shut-off ms b n bytes t e h k =
       line-off ofPackage ms b bytes (packageText S n ++ t) (length b + 0) (e ∙ append-assoc (indent (topOf opt) ms) (packageText S n) t) (omega arith)
       (λ z. let x : ⊥ = omega arith in absurd x) h refl (n, t, k, e)
 
   -- a package's line that opens it
-  open-off : (ms : List Bool) (b : List ℕ) (n : ℕ) → isRequiring (kindOf S n) ≡ true → length ms ≡ 2 * length b + 2
+  open-off : (ms : List Bool) (b : List ℕ) (n : ℕ) → isRequiring (lineKind S n) ≡ true → length ms ≡ 2 * length b + 2
       → ReadOff S opt b (record { bytes = indent (topOf opt) ms ++ packageText S n ++ utf8 " would require\n"; openings = length b + 1 })
   open-off ms b n k h =
       let w : List ℕ = utf8 " would require\n" in
-      line-off ofOpening ms b (indent (topOf opt) ms ++ packageText S n ++ w) (packageText S n ++ w) (length b + 1) (append-assoc (indent (topOf opt) ms) (packageText S n) w)
+      line-off ofOpening ms b (indent (topOf opt) ms ++ packageText S n ++ w) (packageText S n ++ w) (length b
+      + 1) (append-assoc (indent (topOf opt) ms) (packageText S n) w)
       (omega arith) (λ z. let x : ⊥ = omega arith in absurd x) h refl (n, k, refl)
 
-  pub opening-off : (ms : List Bool) (b : List ℕ) (n : ℕ) → isRequiring (kindOf S n) ≡ true → length ms ≡ 2 * length b + 2
+  pub opening-off : (ms : List Bool) (b : List ℕ) (n : ℕ) → isRequiring (lineKind S n) ≡ true → length ms ≡ 2 * length b + 2
       → (x : ReadOff S opt b (record { bytes = indent (topOf opt) ms ++ packageText S n ++ utf8 " would require\n"; openings = length b + 1 }))
-      × (x .line ≡ ofOpening) × (indent (topOf opt) ms ++ packageText S n ++ utf8 " would require\n" ≡ indent (topOf opt) (x .marks) ++ packageText S n ++ utf8 " would require\n")
+      × (x .line ≡ ofOpening) × (indent (topOf opt) ms ++ packageText S n ++ utf8 " would require\n" ≡ indent (topOf opt) (x .marks) ++ packageText S n
+      ++ utf8 " would require\n")
   unfolding open-off line-off
   opening-off ms b n k h = (open-off ms b n k h, refl, refl)
 
-  kind-off : (ms : List Bool) (b : List ℕ) (n : ℕ) (k : Kind) → kindOf S n ≡ k → length ms ≡ 2 * length b + 2
+  kind-off : (ms : List Bool) (b : List ℕ) (n : ℕ) (k : Kind) → lineKind S n ≡ k → length ms ≡ 2 * length b + 2
       → All (ReadOff S opt b) (map (λ l. record { bytes = l; openings = length b + cond (isRequiring k) 1 0 }) (packageLines S opt ms n k))
   kind-off ms b n (excluded r) q h =
       let i : List ℕ = indent (topOf opt) ms ++ packageText S n in
@@ -180,11 +188,12 @@ module _ (e : ℕ) (T : Tables) (valid : Valid T) (G : Graph) (opt : ℕ) where
   pub entry-off : (o : Op Run) (ms : List Bool) (b : List ℕ) → Levelled (entry o ms b) → All (ReadOff S opt b) (unitsOf P (linesOf S opt) (entry o ms b))
   entry-off (requirement r) ms b h =
       let t : List ℕ = runLine S (atTop ms) r in (
-        line-off ofRun ms b (indent (topOf opt) ms ++ t ++ utf8 "\n") (t ++ utf8 "\n") (length b + 0) (append-assoc (indent (topOf opt) ms) t (utf8 "\n")) (omega arith)
+        line-off ofRun ms b (indent (topOf opt) ms ++ t ++ utf8 "\n") (t ++ utf8 "\n") (length b
+            + 0) (append-assoc (indent (topOf opt) ms) t (utf8 "\n")) (omega arith)
             (λ z. all-both low t (utf8 "\n") (low-text t (run-clean S shown-valid (atTop ms) r)) refl) h refl (r, refl),
         tt,
       )
-  entry-off (candidate n) ms b h = kind-off ms b n (kindOf S n) refl h
+  entry-off (candidate n) ms b h = kind-off ms b n (lineKind S n) refl h
 
 pub all-first : {A : Type 0} (Q : A → Type 0) (xs ys : List A) → All Q (xs ++ ys) → All Q xs
 all-first Q [] ys a = tt

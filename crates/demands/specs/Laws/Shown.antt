@@ -54,7 +54,8 @@ module _ (e : ℕ) (T : Tables) (G : Graph) where
 
     -- there is an answer for every room
     pub shown-some : (room : ℕ) → (r : Result) × Explained P (linesOf S opt) (solvableOf S) (startIn T G) room r
-    shown-some room = E.answers P (linesOf S opt) (solvableOf S) (groups P (solvables G)) (unmerged P (solvables G)) (shown-counted T G (eqb e 2)) (popped S 0) room
+    shown-some room =
+        E.answers P (linesOf S opt) (solvableOf S) (groups P (solvables G)) (unmerged P (solvables G)) (shown-counted T G (eqb e 2)) (popped S 0) room
 
     -- the bytes of the whole text, up to its end or to the package that would be opened below itself
     pub sizeIn : ℕ

@@ -16,13 +16,13 @@ use Rattle.records.specs.declared.First.the-variants as F
 use Rattle.records.specs.declared.Shape.{Shape}
 use Rattle.records.specs.Shapes.{shapeOf}
 use Rattle.records.specs.Tables.{Tables, tableOf, at, noRec}
-use Rattle.records.specs.Read.{shown}
+use Rattle.records.specs.Read.{recText}
 use Rattle.records.specs.Views.{nameText, solvableName, setName, setText, requirementText, reasonText}
 use Rattle.index.specs.Steps.{each-kind}
 use Rattle.index.specs.Promise.{Valid, Sound, RightFirst}
 use Rattle.labels.specs.Runs.{Run}
 use Rattle.plan.specs.Plan.{Shown, runInstallable, noCandidates}
-use Rattle.plan.specs.Display.{lastOf, displayed, joined, solvableOf, versionOf, membersOf, packageText}
+use Rattle.plan.specs.Display.{lastText, displayed, joinedBy, solvableOf, versionOf, membersOf, packageText}
 use Rattle.lines.specs.Lines.{runLine, setLine}
 
 -- "each from 32 to 126"
@@ -51,8 +51,49 @@ record Texted (t : Table) : Type 0 where
 
 first-length : (t : Table) → Texted t → (k : ℕ) (s : Shape) → shapeOf k ≡ some s → s .table ≡ t → s .first ≡ F.Length
 first-length t n =
-    each-kind (λ o. (s : Shape) → o ≡ some s → s .table ≡ t → s .first ≡ F.Length)
-    (λ s e h. cc, (λ s e h. cc, (λ s e h. cc, (λ s e h. cc, (λ s e h. absurd (n .candidates cc), (λ s e h. cc, (λ s e h. absurd (n .variables cc), (λ s e h. absurd (n .assigned cc), (λ s e h. absurd (n .clauses cc), (λ s e h. absurd (n .clauses cc), (λ s e h. absurd (n .clauses cc), (λ s e h. absurd (n .clauses cc), (λ s e h. absurd (n .clauses cc), (λ s e h. absurd (n .clauses cc), (λ s e h. absurd (n .clauses cc), (λ s e h. absurd (n .clauses cc), (λ s e h. absurd (n .clauses cc), (λ s e h. absurd (n .clauses cc), tt))))))))))))))))))
+    each-kind (λ o. (s : Shape) → o ≡ some s → s .table ≡ t → s .first ≡ F.Length) (
+      λ s e h. cc,
+      (
+        λ s e h. cc,
+        (
+          λ s e h. cc,
+          (
+            λ s e h. cc,
+            (
+              λ s e h. absurd (n .candidates cc),
+              (
+                λ s e h. cc,
+                (
+                  λ s e h. absurd (n .variables cc),
+                  (
+                    λ s e h. absurd (n .assigned cc),
+                    (
+                      λ s e h. absurd (n .clauses cc),
+                      (
+                        λ s e h. absurd (n .clauses cc),
+                        (
+                          λ s e h. absurd (n .clauses cc),
+                          (
+                            λ s e h. absurd (n .clauses cc),
+                            (
+                              λ s e h. absurd (n .clauses cc),
+                              (
+                                λ s e h. absurd (n .clauses cc),
+                                (λ s e h. absurd (n .clauses cc), (λ s e h. absurd (n .clauses cc), (λ s e h. absurd (n .clauses cc), (λ s e h. absurd (n .clauses cc), tt)))),
+                              ),
+                            ),
+                          ),
+                        ),
+                      ),
+                    ),
+                  ),
+                ),
+              ),
+            ),
+          ),
+        ),
+      ),
+    )
     (λ s e h. clash (cc))
 
 names-texted : Texted Names
@@ -70,7 +111,7 @@ requirements-texted = record { candidates = λ e. clash (cc); variables = λ e. 
 reasons-texted : Texted Reasons
 reasons-texted = record { candidates = λ e. clash (cc); variables = λ e. clash (cc); assigned = λ e. clash (cc); clauses = λ e. clash (cc) }
 
-text-clean : (T : Tables) → Valid T → (t : Table) → Texted t → (i : ℕ) → Clean (shown (at (tableOf t T) i))
+text-clean : (T : Tables) → Valid T → (t : Table) → Texted t → (i : ℕ) → Clean (recText (at (tableOf t T) i))
 text-clean T valid t n i =
     split (ltb i (length (tableOf t T)))
     (λ q. let s : Sound T t i (at (tableOf t T) i) = valid .sound t i (ltb-true i (length (tableOf t T)) q) in
@@ -85,21 +126,22 @@ take-clean zero vs a = tt
 take-clean (suc n) [] a = tt
 take-clean (suc n) (v ∷ vs) a = (a .0, take-clean n vs (a .1))
 
-last-clean : (x : List ℕ) (vs : List (List ℕ)) → Clean x → All Clean vs → Clean (lastOf x vs)
+last-clean : (x : List ℕ) (vs : List (List ℕ)) → Clean x → All Clean vs → Clean (lastText x vs)
 last-clean x [] h a = h
 last-clean x (v ∷ vs) h a = last-clean v vs (a .0) (a .1)
 
 displayed-clean : (vs : List (List ℕ)) → All Clean vs → All Clean (displayed vs)
 displayed-clean vs a =
     split (ltb 6 (length vs))
-    (λ q. rw (q, cond) (all-append Clean (take 3 vs) (utf8 "..." ∷ lastOf [] vs ∷ []) (take-clean 3 vs a) (refl, (last-clean [] vs refl a, tt))))
+    (λ q. rw (q, cond) (all-append Clean (take 3 vs) (utf8 "..." ∷ lastText [] vs ∷ []) (take-clean 3 vs a) (refl, (last-clean [] vs refl a, tt))))
     (λ q. rw (q, cond) a)
 
 behind-clean : (vs : List (List ℕ)) → All Clean vs → Clean (concatMap (λ w. utf8 " | " ++ w) vs)
 behind-clean [] a = refl
-behind-clean (v ∷ vs) a = all-both inText (utf8 " | " ++ v) (concatMap (λ w. utf8 " | " ++ w) vs) (all-both inText (utf8 " | ") v refl (a .0)) (behind-clean vs (a .1))
+behind-clean (v ∷ vs) a =
+    all-both inText (utf8 " | " ++ v) (concatMap (λ w. utf8 " | " ++ w) vs) (all-both inText (utf8 " | ") v refl (a .0)) (behind-clean vs (a .1))
 
-joined-clean : (vs : List (List ℕ)) → All Clean vs → Clean (joined vs)
+joined-clean : (vs : List (List ℕ)) → All Clean vs → Clean (joinedBy vs)
 joined-clean [] a = refl
 joined-clean (v ∷ vs) a = all-both inText v (concatMap (λ w. utf8 " | " ++ w) vs) (a .0) (behind-clean vs (a .1))
 
@@ -113,7 +155,7 @@ module _ (S : Shown) (valid : Valid (S .tables)) where
   pub package-clean : (n : ℕ) → Clean (packageText S n)
   package-clean n =
       let a : List ℕ = nameText (S .tables) (solvableName (S .tables) (solvableOf S n)) in
-      all-both inText (a ++ utf8 " ") (joined (displayed (map (versionOf S) (membersOf S n))))
+      all-both inText (a ++ utf8 " ") (joinedBy (displayed (map (versionOf S) (membersOf S n))))
       (all-both inText a (utf8 " ") (text-clean (S .tables) valid Names names-texted (solvableName (S .tables) (solvableOf S n))) refl)
       (joined-clean (displayed (map (versionOf S) (membersOf S n))) (displayed-clean (map (versionOf S) (membersOf S n)) (versions-clean (membersOf S n))))
 
@@ -133,7 +175,8 @@ module _ (S : Shown) (valid : Valid (S .tables)) where
       let q : List ℕ = requirementText (S .tables) (r .req) in
       let h : Clean q = text-clean (S .tables) valid Requirements requirements-texted (r .req) in
       split (noCandidates S r)
-      (λ a. rw a (all-both inText (utf8 "No candidates were found for " ++ q) (utf8 ".") (all-both inText (utf8 "No candidates were found for ") q refl h) refl))
+      (λ a. rw a (all-both inText (utf8 "No candidates were found for "
+      ++ q) (utf8 ".") (all-both inText (utf8 "No candidates were found for ") q refl h) refl))
       (λ a. rw a (split (runInstallable S r)
       (λ b. rw b (all-both inText q (utf8 " can be installed with any of the following options:") h refl))
       (λ b. rw b (all-both inText q (utf8 " cannot be installed because there are no viable options:") h refl))))

@@ -122,12 +122,14 @@ module _ (e : ℕ) (file : List ℕ) (opt : ℕ) (out left : List ℕ) (r : Answ
       → (p : Passed file) × ((w : WholeUnits e (p .tables) (p .graph) opt out left r) × NoRoom e (p .tables) (p .graph) opt out left r w)
   ten-units q =
       by-call e file opt
-      (λ k p y g. let z : r .number ≡ k = ap (λ (a : Answer). a .number) (refused-answer e file opt out left r S k p g .0) in absurd (not-early k y (inl (sym z ∙ q))))
+      (λ k p y g. let z : r .number ≡ k = ap (λ (a : Answer). a .number) (refused-answer e file opt out left r S k p g .0) in
+      absurd (not-early k y (inl (sym z ∙ q))))
       (λ T G d. let x = drawn-shows e file opt out left r S T G d in
       (drawn-passed e file opt T G d, (shown-units e T G opt out left r x, ten-full e T G opt out left r x q)))
 
   pub eleven-units : r .number ≡ 11 → (p : Passed file) × Looping e (p .tables) (p .graph) r
   eleven-units q =
       by-call e file opt
-      (λ k p y g. let z : r .number ≡ k = ap (λ (a : Answer). a .number) (refused-answer e file opt out left r S k p g .0) in absurd (not-early k y (inr (sym z ∙ q))))
+      (λ k p y g. let z : r .number ≡ k = ap (λ (a : Answer). a .number) (refused-answer e file opt out left r S k p g .0) in
+      absurd (not-early k y (inr (sym z ∙ q))))
       (λ T G d. (drawn-passed e file opt T G d, eleven-loops e T G opt out left r (drawn-shows e file opt out left r S T G d) q))

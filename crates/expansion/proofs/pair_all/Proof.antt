@@ -9,7 +9,8 @@ use Rattle.expansion.proofs.pair_all.Statement.{statement}
 use Rattle.expansion.proofs.pair_all.Tie as tie
 
 abbrev Inv-loop : tie.InvT-loop
-Inv-loop file ix g₀ tr₀ w₀ side n v x y₀ m₀ g tr w y m = Pending (onceAllIn (pairsFrom (tablesOf file) side n v x) (buildIn g₀ tr₀ w₀ m₀)) (pairsFrom (tablesOf file) side n v y) g tr w m
+Inv-loop file ix g₀ tr₀ w₀ side n v x y₀ m₀ g tr w y m =
+    Pending (onceAllIn (pairsFrom (tablesOf file) side n v x) (buildIn g₀ tr₀ w₀ m₀)) (pairsFrom (tablesOf file) side n v y) g tr w m
 
 abbrev μ-loop : tie.MeasureT-loop
 μ-loop file ix g₀ tr₀ w₀ side n v x y₀ m₀ g tr w y m = length (auxFrom (tablesOf file) y)

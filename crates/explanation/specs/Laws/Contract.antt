@@ -24,7 +24,7 @@ use Rattle.machine.specs.Units.{Result}
 use Rattle.machine.specs.Laws.Explained as E
 use Rattle.machine.specs.Explained.{Explained, explain}
 use Rattle.machine.specs.Demand as D
-use Rattle.machine.specs.Demand.{Demand, Leaves, Full}
+use Rattle.machine.specs.Demand.{Demand, LeavesUnits, Full}
 use Rattle.machine.specs.Edition.{edited}
 use Rattle.plan.specs.Plan.{Shown, shownOf, planOf, startOf, popped}
 use Rattle.plan.specs.Display.{solvableOf}
@@ -98,7 +98,7 @@ module _ (e : ℕ) (file : List ℕ) (opt : ℕ) (T : Tables) (G : Graph) (x : D
     file-less h = file-demand .less room r (file-drawn room r f) h
 
     -- "What 10 and 11 leave is exactly the first units of the text that the Rust's rules give", or the edition's
-    pub file-leaves : Leaves P (linesOf S opt) (startOf S) room r
+    pub file-leaves : LeavesUnits P (linesOf S opt) (startOf S) room r
     file-leaves = D.leaves P (linesOf S opt) (solvableOf S) (startOf S) room r (file-drawn room r f)
 
     pub file-full : r .number ≡ 10 → Full P (linesOf S opt) (startOf S) room r file-leaves
@@ -120,7 +120,8 @@ asked-both true c h = (refl, h)
 asked-both false c h = absurd (true≢false (sym h))
 
 -- an edition, a file and an option are refused whatever the room, by a number that is not 11, or drawn
-pub by-file : {X : Type 0} (e : ℕ) (file : List ℕ) (opt : ℕ) → ((r : Result) → (r .number ≡ 11 → ⊥) → ((n room : ℕ) → explainEdition e n file opt room ≡ some r) → X)
+pub by-file : {X : Type 0} (e : ℕ) (file : List ℕ) (opt : ℕ) → ((r : Result) → (r .number ≡ 11 → ⊥) → ((n room : ℕ) → explainEdition e n file opt room ≡ some r)
+    → X)
     → ((T : Tables) (G : Graph) → Drawn e file opt T G → X) → X
 by-file e file opt f g =
     split (isEdition e && leb opt 1)
@@ -137,7 +138,8 @@ file-unique e file opt room r r′ x y =
     by-file e file opt
     (λ q u h. same (h (x .turns) room) (x .so) ∙ sym (same (h (y .turns) room) (y .so)))
     (λ T G d. let S : Shown = shownOf T G in
-    E.unique (edited e (planOf S)) (linesOf S opt) (solvableOf S) (startOf S) room r r′ (file-drawn e file opt T G d room r x) (file-drawn e file opt T G d room r′ y))
+    E.unique (edited e (planOf S)) (linesOf S opt) (solvableOf S) (startOf S) room r r′ (file-drawn e file opt T G d room r x)
+    (file-drawn e file opt T G d room r′ y))
   where
     same : {a b : Result} {c : Option Result} → c ≡ some a → c ≡ some b → b ≡ a
     same x y = cc

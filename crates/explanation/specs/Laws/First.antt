@@ -18,7 +18,7 @@ use Rattle.machine.specs.Told.{Finishes}
 use Rattle.machine.specs.Count.{groups, unmerged}
 use Rattle.machine.specs.Units.{Result}
 use Rattle.machine.specs.Explained.{explain}
-use Rattle.machine.specs.Demand.{Demand, Leaves}
+use Rattle.machine.specs.Demand.{Demand, LeavesUnits}
 use Rattle.plan.specs.Plan.{Shown, shownOf, planOf, startOf, popped}
 use Rattle.plan.specs.Display.{solvableOf}
 use Rattle.lines.specs.Lines.{linesOf}
@@ -66,5 +66,5 @@ module _ (file : List ℕ) (opt : ℕ) (T : Tables) (G : Graph) (x : Drawn 1 fil
     pub first-less : room < file-demand 1 file opt T G x .size → r .number ≡ 10
     first-less h = file-less 1 file opt T G x room r f h
 
-    pub first-leaves : Leaves P (linesOf S opt) (startOf S) room r
+    pub first-leaves : LeavesUnits P (linesOf S opt) (startOf S) room r
     first-leaves = file-leaves 1 file opt T G x room r f

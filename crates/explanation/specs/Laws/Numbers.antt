@@ -15,9 +15,9 @@ use Rattle.records.specs.Tables.{Tables, noTables, put, tableOf}
 use Rattle.records.specs.Read.{Reading, good, bad, readFrom, readOf, refusalIn, shapeGood, numbersGood, originsGood}
 use Rattle.records.specs.Views.{clauseOf, coreAt}
 use Rattle.store.specs.Graph.{Graph, settle, unreached}
-use Rattle.expansion.specs.Expand.{Build, Step, on, stop, startBuild, expand}
+use Rattle.expansion.specs.Expand.{Build, ClauseStep, on, stop, startBuild, expand}
 use Rattle.graph.specs.Graphs.{Turned, go, halt, coreTurn, handed, expanded, turnAt, isLearnt, Built, built, stopped, buildFrom, buildOf}
-use Rattle.graph.specs.Graphs.{Outcome, drawn, refused, finished, graphOf}
+use Rattle.graph.specs.Graphs.{Outcome, drawn, refused, reachedAll, graphOf}
 
 abbrev pub ReadLow : Reading → Type 0
 ReadLow (good T) = Unit {0}
@@ -71,11 +71,11 @@ abbrev OutcomeLow : Outcome → Type 0
 OutcomeLow (drawn G) = Unit {0}
 OutcomeLow (refused k i) = k ≤ 9
 
-step-low : (s : Step) → TurnLow (expanded s)
+step-low : (s : ClauseStep) → TurnLow (expanded s)
 step-low (on b) = tt
 step-low stop = omega arith
 
-learnt-by : (l : Bool) (s : Step) → TurnLow (elim l [ true ↦ halt 7 | false ↦ expanded s ])
+learnt-by : (l : Bool) (s : ClauseStep) → TurnLow (elim l [ true ↦ halt 7 | false ↦ expanded s ])
 learnt-by true s = omega arith
 learnt-by false s = step-low s
 
@@ -99,15 +99,15 @@ unfolding buildFrom
 build-low zero T i b = tt
 build-low (suc n) T i b = build-by n T i (build-low n T (suc i)) (turnAt T i b) (turn-low T i b)
 
-finished-low : (g : Graph) → OutcomeLow (finished g)
-unfolding finished
+finished-low : (g : Graph) → OutcomeLow (reachedAll g)
+unfolding reachedAll
 finished-low g = by (unreached g)
   where
     by : (o : Option ℕ) → OutcomeLow (elim o [ none ↦ drawn g | some n ↦ refused 9 n ])
     by none = tt
     by (some n) = omega arith
 
-outcome-by : (b : Built) → BuiltLow b → OutcomeLow (elim b [ stopped k i ↦ refused k i | built c ↦ finished (settle (c .graph)) ])
+outcome-by : (b : Built) → BuiltLow b → OutcomeLow (elim b [ stopped k i ↦ refused k i | built c ↦ reachedAll (settle (c .graph)) ])
 outcome-by (built c) l = finished-low (settle (c .graph))
 outcome-by (stopped k i) l = l
 

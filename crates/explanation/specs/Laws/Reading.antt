@@ -19,11 +19,11 @@ use Rattle.machine.specs.Units.{Result}
 use Rattle.machine.specs.Explained.{Explained}
 use Rattle.machine.specs.Edition.{reading, edited}
 use Rattle.machine.specs.Laws.Edition.{edited-most}
-use Rattle.plan.specs.Plan.{Shown, shownOf, planOf, startOf, popped, isMerged, leadOf}
+use Rattle.plan.specs.Plan.{Shown, shownOf, planOf, startOf, popped, mergedShown, leadShown}
 use Rattle.plan.specs.Display.{solvableOf}
 use Rattle.plan.specs.Fields.{planIn, startIn, runsIn, kidsIn, solvableIn}
 use Rattle.plan.specs.Planned.{Planned, RunIs}
-use Rattle.plan.specs.Like.{Each, Same, same-run, same-kid, explained-same}
+use Rattle.plan.specs.Like.{Each, SameEntry, same-run, same-kid, explained-same}
 use Rattle.plan.specs.Counting.{grouped}
 use Rattle.plan.specs.Laws.Marking.{Reads}
 use Rattle.plan.specs.Laws.Leads.{alone, edition-counted}
@@ -34,7 +34,7 @@ use Rattle.plan.specs.Laws.Texts.{package-alike}
 use Rattle.lines.specs.Said.{linesIn, packageAll, packageSaid}
 use Rattle.lines.specs.Same.{run-same, kid-same, package-same}
 use Rattle.explanation.specs.Walk.{Ready, Answered}
-use Rattle.explanation.specs.declared.walk.Told.{Told}
+use Rattle.explanation.specs.declared.walk.WalkAnswer.{WalkAnswer}
 use Rattle.explanation.specs.Contract.{ExplainedFile, Drawn}
 use Rattle.explanation.specs.Laws.Contract.{drawn-file}
 use Rattle.explanation.specs.Laws.Solvables.{solvables-most, some-node}
@@ -71,11 +71,11 @@ module _ (T : Tables) (G : Graph) (g : Graphed T G) (p q k : List ℕ) (z : Plan
   unfolding shownOf
   few-nodes = g .nodes-most
 
-  plan-merged : (n : ℕ) → n < length (G .nodes) → O .merged n ≡ isMerged (shownOf T G) n
+  plan-merged : (n : ℕ) → n < length (G .nodes) → O .merged n ≡ mergedShown (shownOf T G) n
   unfolding planIn shownOf
   plan-merged n h = z .nodes n h .merged
 
-  plan-lead : (n : ℕ) → n < length (G .nodes) → O .lead n ≡ leadOf (shownOf T G) n
+  plan-lead : (n : ℕ) → n < length (G .nodes) → O .lead n ≡ leadShown (shownOf T G) n
   unfolding planIn shownOf
   plan-lead n h = z .nodes n h .lead
 
@@ -113,13 +113,13 @@ module _ (T : Tables) (G : Graph) (g : Graphed T G) (p q k : List ℕ) (z : Plan
 
   -- ---- the walk's answer is the file's
 
-  lines-read : (opt : ℕ) (e : Entry ℕ) (d : Entry Run) → Same Node (RunIs S p k) e d → linesIn T q k (topOf opt) e ≡ linesOf S opt d
+  lines-read : (opt : ℕ) (e : Entry ℕ) (d : Entry Run) → SameEntry Node (RunIs S p k) e d → linesIn T q k (topOf opt) e ≡ linesOf S opt d
   unfolding shownOf
   lines-read opt e d (same-run r s ms b i a) = run-read every p q k m T (topOf opt) r ms b ∙ run-same T G p k opt r s ms b i
   lines-read opt e d (same-kid n ms b h a) = kid-read every p q k m T (topOf opt) n ms b ∙ kid-same T G p k z opt n ms b h
 
   -- what is shown of the graph, whether or not a file draws it
-  pub read-shown : (e : ℕ) → eqb e 2 ≡ every → (opt : ℕ) (out left : List ℕ) (a : Told) → (w : Answered T q k (topOf opt) out left a)
+  pub read-shown : (e : ℕ) → eqb e 2 ≡ every → (opt : ℕ) (out left : List ℕ) (a : WalkAnswer) → (w : Answered T q k (topOf opt) out left a)
       → Explained (edited e (planOf (shownOf T G))) (linesOf (shownOf T G) opt) (solvableOf (shownOf T G)) (startOf (shownOf T G)) (length out)
       (record { number = a .number; place = a .place; bytes = a .bytes; units = a .units; depth = a .depth; text = w .text })
   unfolding shownOf startIn
@@ -132,7 +132,7 @@ module _ (T : Tables) (G : Graph) (g : Graphed T G) (p q k : List ℕ) (z : Plan
       (solvableIn q) (solvableOf S) (λ n l. m .solvable n ∙ z .nodes n l .solvable) (runsIn q 0) (popped S 0) runs (length out) r (w .is))
 
   pub read-file : (e : ℕ) → eqb e 2 ≡ every → (file : List ℕ) (opt : ℕ) → Drawn e file opt T G
-      → (out left : List ℕ) (a : Told) → (w : Answered T q k (topOf opt) out left a)
+      → (out left : List ℕ) (a : WalkAnswer) → (w : Answered T q k (topOf opt) out left a)
       → ExplainedFile e file opt (length out)
       (record { number = a .number; place = a .place; bytes = a .bytes; units = a .units; depth = a .depth; text = w .text })
   read-file e v file opt x out left a w =

@@ -23,7 +23,7 @@ use Rattle.machine.specs.Explained.{unitsOf, unitsFor}
 use Rattle.machine.specs.Edition.{edited, openedBy, openedIn}
 use Rattle.machine.specs.Laws.Silent.{never-eleven, whole-done}
 use Rattle.machine.specs.Laws.Edition.{second-silent, second-most}
-use Rattle.plan.specs.Plan.{Shown, shownOf, planOf, startOf, popped, kindOf, Kind, excluded, bare, conflicting, constraining, requiring, isRequiring}
+use Rattle.plan.specs.Plan.{Shown, shownOf, planOf, startOf, popped, lineKind, Kind, excluded, bare, conflicting, constraining, requiring, isRequiring}
 use Rattle.plan.specs.Display.{solvableOf}
 use Rattle.plan.specs.Laws.Leads.{shown-alone, shown-grouped, shown-told}
 use Rattle.lines.specs.Lines.{linesOf, packageLines, setLines}
@@ -69,7 +69,7 @@ module _ (S : Shown) (opt : ℕ) where
       → howMany (map (λ (l : List ℕ). isOpening S opt (entry o ms b)) (linesOf S opt (entry o ms b)))
       ≡ length (openedBy (edited 2 (planOf S)) (entry o ms b))
   entry-many (requirement r) ms b = refl
-  entry-many (candidate n) ms b = kind-many ms n (kindOf S n)
+  entry-many (candidate n) ms b = kind-many ms n (lineKind S n)
 
   lines-many : (es : List (Entry Run)) → howMany (openingLines S opt es) ≡ length (openedIn (edited 2 (planOf S)) es)
   lines-many [] = refl
@@ -101,7 +101,8 @@ module _ (file : List ℕ) (opt : ℕ) (T : Tables) (G : Graph) (x : Drawn 2 fil
   module _ (room : ℕ) (r : Result) (f : ExplainedFile 2 file opt room r) where
     drawn-never : r .number ≡ 11 → ⊥
     drawn-never =
-        never-eleven (edited 2 (planOf S)) (linesOf S opt) (solvableOf S) (popped S 0) (second-silent (planOf S) (popped S 0)) room r (file-drawn 2 file opt T G x room r f)
+        never-eleven (edited 2 (planOf S)) (linesOf S opt) (solvableOf S) (popped S 0) (second-silent (planOf S) (popped S 0)) room r
+        (file-drawn 2 file opt T G x room r f)
 
     -- with room for all of the text it is done
     pub second-done : file-demand 2 file opt T G x .size ≤ room → (r .number ≡ 0) × (r .place ≡ 0) × Finishes (edited 2 (planOf S)) (startOf S)

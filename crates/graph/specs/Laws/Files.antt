@@ -3,8 +3,8 @@ use mathlib.Core.Path.{_≡_, refl, sym, ap, _∙_}
 use mathlib.Core.List.{List}
 use Prim.Native.Nat.{ℕ}
 use Rattle.basis.specs.Members.{clash}
-use Rattle.records.specs.declared.Answer.{Answer}
-use Rattle.records.specs.declared.Answer.the-variants.{Accepted, Refused}
+use Rattle.records.specs.declared.ReadAnswer.{ReadAnswer}
+use Rattle.records.specs.declared.ReadAnswer.the-variants.{Accepted, Refused}
 use Rattle.records.specs.declared.Counts.{Counts}
 use Rattle.records.specs.Tables.{Tables}
 use Rattle.records.specs.Read.{Reading, good, bad, readOf, answerOf, tablesOf}
@@ -32,7 +32,7 @@ pub made-refused : (d : Drawing) (x : Made) (k p : ℕ) (s : Size) → d ≡ D.R
 made-refused d x k p s e q = rw e q
 
 -- the reader's answer a taken apart
-module _ (file : List ℕ) (a : Answer) (q : a ≡ answerOf (readOf file)) where
+module _ (file : List ℕ) (a : ReadAnswer) (q : a ≡ answerOf (readOf file)) where
   read-bad : (k p : ℕ) → a ≡ Refused k p → readOf file ≡ bad k p
   read-bad k p e = go (readOf file) (sym e ∙ q)
     where
@@ -52,7 +52,7 @@ made-drawing : (g : List ℕ) (d : Drawing) → madeIn g (madeOf d) ≡ drawingI
 made-drawing g (D.Whole s) = refl
 made-drawing g (D.Refused k p s) = refl
 
-pub makes-drew : (file ix iy g w : List ℕ) (a : Answer) (c : Counts) (G : Graph) (d : Drawing) (r : Made) → a ≡ Accepted c → Held a file ix iy
+pub makes-drew : (file ix iy g w : List ℕ) (a : ReadAnswer) (c : Counts) (G : Graph) (d : Drawing) (r : Made) → a ≡ Accepted c → Held a file ix iy
     → Drew (graphOf (tablesOf file)) G g w d → r ≡ madeOf d → Makes file iy g w r
 unfolding outcomeOf
 makes-drew file ix iy g w a c G d r e H R h =

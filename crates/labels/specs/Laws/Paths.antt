@@ -10,7 +10,7 @@ use Rattle.basis.specs.Lists.{filter}
 use Rattle.basis.specs.Members.{either, In, in-filter, filter-in, in-reverse, map-in}
 use Rattle.store.specs.declared.Edge.{Edge}
 use Rattle.store.specs.Graph.{Graph, out, into}
-use Rattle.reach.specs.Paths.{Path, here, along, Way}
+use Rattle.links.specs.Paths.{Path, here, along, Way}
 use Rattle.labels.specs.Labels.{targets}
 use Rattle.labels.specs.Ordered.{Leads, edge, onto, Acyclic}
 use Rattle.labels.specs.Facts.{reverse-in, in-map}

@@ -8,7 +8,8 @@ use Rattle.linking.proofs.link_each.Statement.{statement}
 use Rattle.linking.proofs.link_each.Tie as tie
 
 abbrev Inv-loop : tie.InvT-loop
-Inv-loop file ix g₀ source q x y₀ t₀ g y t = Fanning (fanAll q source (candidatesFrom (tablesOf file) x) (graphIn g₀ t₀)) q source (candidatesFrom (tablesOf file) y) g t
+Inv-loop file ix g₀ source q x y₀ t₀ g y t =
+    Fanning (fanAll q source (candidatesFrom (tablesOf file) x) (graphIn g₀ t₀)) q source (candidatesFrom (tablesOf file) y) g t
 
 abbrev μ-loop : tie.MeasureT-loop
 μ-loop file ix g₀ source q x y₀ t₀ g y t = length (candidatesFrom (tablesOf file) y)

@@ -4,13 +4,13 @@ use Rattle.records.specs.Read.{tablesOf}
 use Rattle.store.specs.Table.{graphIn}
 use Rattle.views.specs.Walks.{gatesFrom, gates-less}
 use Rattle.linking.specs.Working.{linkAllIn}
-use Rattle.linking.specs.Growth.{Left}
+use Rattle.linking.specs.Growth.{LinksLeft}
 use Rattle.linking.specs.Requiring.{gateLinks, gates}
 use Rattle.linking.proofs.link_gate.Statement.{statement}
 use Rattle.linking.proofs.link_gate.Tie as tie
 
 abbrev Inv-loop : tie.InvT-loop
-Inv-loop file ix g₀ q x y₀ t₀ g y t = Left (linkAllIn (gateLinks (tablesOf file) q x) (graphIn g₀ t₀)) (gateLinks (tablesOf file) q y) g t
+Inv-loop file ix g₀ q x y₀ t₀ g y t = LinksLeft (linkAllIn (gateLinks (tablesOf file) q x) (graphIn g₀ t₀)) (gateLinks (tablesOf file) q y) g t
 
 abbrev μ-loop : tie.MeasureT-loop
 μ-loop file ix g₀ q x y₀ t₀ g y t = length (gatesFrom (tablesOf file) y)

@@ -14,4 +14,5 @@ abbrev μ-loop : tie.MeasureT-loop
 pub last-of-many-spec : {M : Type 1} → statement M
 last-of-many-spec =
     tie.close
-    (tie.spec Inv-loop μ-loop (λ c. search passing-start) (λ c. search needs) (λ c. search needs) (λ c κs. search needs) (λ c. search passing-less) (λ c. search passing-step) (λ c. (search passing-many, search needs)) (λ c. (search passing-few, search needs)))
+    (tie.spec Inv-loop μ-loop (λ c. search passing-start) (λ c. search needs) (λ c. search needs) (λ c κs. search needs) (λ c. search passing-less) (λ c.
+    search passing-step) (λ c. (search passing-many, search needs)) (λ c. (search passing-few, search needs)))

@@ -20,39 +20,39 @@ use Rattle.machine.specs.Count.{Grouped, groups, unmerged}
 use Rattle.machine.specs.Edition.{reading, edited, openedIn}
 use Rattle.machine.specs.Laws.Edition.{Alone, edited-counts, edited-most}
 use Rattle.machine.specs.Laws.Once.{told-few}
-use Rattle.plan.specs.Plan.{shownOf, isMerged, leadOf, planOf}
+use Rattle.plan.specs.Plan.{shownOf, mergedShown, leadShown, planOf}
 use Rattle.plan.specs.Display.{membersOf}
-use Rattle.plan.specs.Mates.{Node, upto-in, members-alike, merged-same, lead-first}
+use Rattle.plan.specs.Mates.{Node, in-upto, members-alike, merged-same, lead-first}
 use Rattle.plan.specs.Counting.{grouped, in-solvable, solvable-in, kid-solvable}
 
 module _ (T : Tables) (G : Graph) where
-  pub lead-alone : (n : ℕ) → Node T G n → isMerged (shownOf T G) n ≡ false → leadOf (shownOf T G) n ≡ n
+  pub lead-alone : (n : ℕ) → Node T G n → mergedShown (shownOf T G) n ≡ false → leadShown (shownOf T G) n ≡ n
   lead-alone n h m =
       let a : getD (membersOf (shownOf T G) n) 0 n ≡ n = rw m in
       sym (lead-first T G n h) ∙ ap (λ (l : List ℕ). getD l 0 n) (sym (members-alike T G n h)) ∙ a
 
   -- an unmerged package shares its lead with no other
-  pub lead-one : (m n : ℕ) → Node T G m → Node T G n → isMerged (shownOf T G) n ≡ false → leadOf (shownOf T G) m ≡ leadOf (shownOf T G) n → m ≡ n
+  pub lead-one : (m n : ℕ) → Node T G m → Node T G n → mergedShown (shownOf T G) n ≡ false → leadShown (shownOf T G) m ≡ leadShown (shownOf T G) n → m ≡ n
   lead-one m n g h u q = sym (lead-alone m g (merged-same T G n m h g q ∙ u)) ∙ q ∙ lead-alone n h u
 
   -- the same lead exactly where of one group: the packages that one line names
-  pub lead-members : (m n : ℕ) → Node T G m → Node T G n → leadOf (shownOf T G) m ≡ leadOf (shownOf T G) n → In m (membersOf (shownOf T G) n)
+  pub lead-members : (m n : ℕ) → Node T G m → Node T G n → leadShown (shownOf T G) m ≡ leadShown (shownOf T G) n → In m (membersOf (shownOf T G) n)
   lead-members m n g h q =
-      let l : ℕ = leadOf (shownOf T G) n in
+      let l : ℕ = leadShown (shownOf T G) n in
       rw (members-alike T G n h)
-      (filter-in (λ k. eqb (leadOf (shownOf T G) k) l) m (upto (length (G .nodes)) 0) (eq-eqb (leadOf (shownOf T G) m) l q)
-      (upto-in (length (G .nodes)) 0 m (omega arith) (omega arith)))
+      (filter-in (λ k. eqb (leadShown (shownOf T G) k) l) m (upto (length (G .nodes)) 0) (eq-eqb (leadShown (shownOf T G) m) l q)
+      (in-upto (length (G .nodes)) 0 m (omega arith) (omega arith)))
 
-  pub members-lead : (m n : ℕ) → Node T G n → In m (membersOf (shownOf T G) n) → leadOf (shownOf T G) m ≡ leadOf (shownOf T G) n
+  pub members-lead : (m n : ℕ) → Node T G n → In m (membersOf (shownOf T G) n) → leadShown (shownOf T G) m ≡ leadShown (shownOf T G) n
   members-lead m n h i =
-      let l : ℕ = leadOf (shownOf T G) n in
-      let f = in-filter (λ k. eqb (leadOf (shownOf T G) k) l) m (upto (length (G .nodes)) 0) (rw (members-alike T G n h) at i) in
-      eqb-true (leadOf (shownOf T G) m) l (f .0)
+      let l : ℕ = leadShown (shownOf T G) n in
+      let f = in-filter (λ k. eqb (leadShown (shownOf T G) k) l) m (upto (length (G .nodes)) 0) (rw (members-alike T G n h) at i) in
+      eqb-true (leadShown (shownOf T G) m) l (f .0)
 
   -- ---- of every plan whose groups are the graph's: `planOf`, and `planIn` of packed tables
 
-  module _ {R : Type 0} (P : Plan R) (m : (n : ℕ) → n < length (G .nodes) → P .merged n ≡ isMerged (shownOf T G) n)
-      (l : (n : ℕ) → n < length (G .nodes) → P .lead n ≡ leadOf (shownOf T G) n)
+  module _ {R : Type 0} (P : Plan R) (m : (n : ℕ) → n < length (G .nodes) → P .merged n ≡ mergedShown (shownOf T G) n)
+      (l : (n : ℕ) → n < length (G .nodes) → P .lead n ≡ leadShown (shownOf T G) n)
       (kids : (r : R) (n : ℕ) → In n (P .kids r) → (n < length (G .nodes)) × (isSolvable (nodeAt G n) ≡ true)) where
     pub alone : Alone P (solvables G)
     alone n i u = let h = in-solvable T G n i .0 in l n h ∙ lead-alone n h (sym (m n h) ∙ u)

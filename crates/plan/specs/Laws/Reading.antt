@@ -12,7 +12,7 @@ use Rattle.plan.specs.Plan.{Shown, planOf}
 use Rattle.plan.specs.Fields.{planIn, runsIn, kidsIn, opensIn, leadIn, mateIn, matesBy, matesFrom, membersIn, reasonIn, setsIn, setsFirst, setsEnd}
 use Rattle.plan.specs.Fields.{requirementIn, wordingIn, kidFirst, kidEnd, textLength}
 use Rattle.plan.specs.Planned.{Planned, RunIs}
-use Rattle.plan.specs.Like.{Alike}
+use Rattle.plan.specs.Like.{PlansAlike}
 use Rattle.plan.specs.Alike.{plans-alike}
 use Rattle.plan.specs.Laws.Marking.{Reads}
 
@@ -67,7 +67,7 @@ module _ (every : Bool) (p q k : List ℕ) (m : Reads every p q) where
   -- ---- the plan
 
   module _ (S : Shown) (z : Planned S p k) (few : length (S .graph .nodes) ≤ 128) where
-    pub read-alike : Alike (planIn q k) (reading every (planOf S)) (λ n. n < length (S .graph .nodes)) (RunIs S p k)
+    pub read-alike : PlansAlike (planIn q k) (reading every (planOf S)) (λ n. n < length (S .graph .nodes)) (RunIs S p k)
     unfolding planIn
     read-alike =
         let a = plans-alike S p k z in

@@ -15,7 +15,7 @@ use Rattle.basis.specs.Quote.{utf8}
 use Rattle.records.specs.Tables.{Tables}
 use Rattle.records.specs.Views.{nameText, solvableName, versionText}
 use Rattle.plan.specs.Plan.{Shown}
-use Rattle.plan.specs.Display.{solvableOf, versionOf, lastOf, displayed, joined, membersOf, packageText}
+use Rattle.plan.specs.Display.{solvableOf, versionOf, lastText, displayed, joinedBy, membersOf, packageText}
 use Rattle.plan.specs.Fields.{solvableIn, membersIn, leadIn, mateIn, mate-below, matesBy, matesFrom, mates-none, mates-more, mates-less}
 use Rattle.plan.specs.Texts.{nextVersion, endsText, lastMore, lastOfMany, versionIn, versionsIn, furtherIn, packageIn}
 
@@ -25,12 +25,12 @@ use Rattle.plan.specs.Texts.{nextVersion, endsText, lastMore, lastOfMany
 pub displayed-few : (vs : List (List ℕ)) → length vs ≤ 6 → displayed vs ≡ vs
 displayed-few vs h = rw (le-ltb 6 (length vs) h)
 
-pub displayed-many : (a b c : List ℕ) (vs : List (List ℕ)) → 4 ≤ length vs → displayed (a ∷ b ∷ c ∷ vs) ≡ a ∷ b ∷ c ∷ utf8 "..." ∷ lastOf c vs ∷ []
+pub displayed-many : (a b c : List ℕ) (vs : List (List ℕ)) → 4 ≤ length vs → displayed (a ∷ b ∷ c ∷ vs) ≡ a ∷ b ∷ c ∷ utf8 "..." ∷ lastText c vs ∷ []
 displayed-many a b c vs h = rw (lt-ltb 6 (length (a ∷ b ∷ c ∷ vs)) (omega arith))
 
 -- ---- the last member, by its number plus one
 
-last-of : (v : ℕ → List ℕ) (n : ℕ) (ns : List ℕ) → lastOf (v n) (map v ns) ≡ v (lastMore (n + 1) ns - 1)
+last-of : (v : ℕ → List ℕ) (n : ℕ) (ns : List ℕ) → lastText (v n) (map v ns) ≡ v (lastMore (n + 1) ns - 1)
 last-of v n [] = let z : n + 1 - 1 ≡ n = omega arith in rw z
 last-of v n (m ∷ ns) = last-of v m ns
 
@@ -75,28 +75,33 @@ module _ (T : Tables) (p : List ℕ) where
   row-is (n ∷ ns) = ap (λ (l : List ℕ). nextVersion T (solvableIn p n) ++ l) (row-is ns)
 
   -- s: what stands between two versions
-  ends-row : (s dots v a b z : List ℕ) → v ++ ((s ++ a) ++ ((s ++ b) ++ ((s ++ dots) ++ ((s ++ z) ++ [])))) ≡ v ++ ((s ++ a) ++ (s ++ b) ++ (s ++ dots) ++ (s ++ z))
+  ends-row : (s dots v a b z : List ℕ) → v ++ ((s ++ a) ++ ((s ++ b) ++ ((s ++ dots) ++ ((s ++ z) ++ [])))) ≡ v
+      ++ ((s ++ a) ++ (s ++ b) ++ (s ++ dots) ++ (s ++ z))
   ends-row s dots v a b z = simp (append-assoc, append-nil)
 
-  ends-is : (v a b z : List ℕ) → joined (v ∷ a ∷ b ∷ utf8 "..." ∷ z ∷ []) ≡ v ++ ((utf8 " | " ++ a) ++ (utf8 " | " ++ b) ++ utf8 " | ..." ++ (utf8 " | " ++ z))
+  ends-is : (v a b z : List ℕ) → joinedBy (v ∷ a ∷ b ∷ utf8 "..." ∷ z ∷ []) ≡ v
+      ++ ((utf8 " | " ++ a) ++ (utf8 " | " ++ b) ++ utf8 " | ..." ++ (utf8 " | " ++ z))
   ends-is v a b z = ends-row (utf8 " | ") (utf8 "...") v a b z
 
-  pub joined-is : (n : ℕ) (ns : List ℕ) → joined (displayed (map (versionIn T p) (n ∷ ns))) ≡ versionIn T p n ++ furtherIn T p ns
+  pub joined-is : (n : ℕ) (ns : List ℕ) → joinedBy (displayed (map (versionIn T p) (n ∷ ns))) ≡ versionIn T p n ++ furtherIn T p ns
   joined-is n ns = split (ltb 5 (length ns)) (λ t. many ns (ltb-true 5 (length ns) t)) (λ t. few (ltb-false 5 (length ns) t))
     where
-      few : length ns ≤ 5 → joined (displayed (map (versionIn T p) (n ∷ ns))) ≡ versionIn T p n ++ furtherIn T p ns
+      few : length ns ≤ 5 → joinedBy (displayed (map (versionIn T p) (n ∷ ns))) ≡ versionIn T p n ++ furtherIn T p ns
       few h =
-          ap joined (displayed-few (map (versionIn T p) (n ∷ ns)) (omega (arith, length-map (n ∷ ns) (versionIn T p))))
+          ap joinedBy (displayed-few (map (versionIn T p) (n ∷ ns)) (omega (arith, length-map (n ∷ ns) (versionIn T p))))
           ∙ ap (λ (l : List ℕ). versionIn T p n ++ l) (row-is ns ∙ sym (further-few ns h))
 
-      many : (ns : List ℕ) → 5 < length ns → joined (displayed (map (versionIn T p) (n ∷ ns))) ≡ versionIn T p n ++ furtherIn T p ns
+      many : (ns : List ℕ) → 5 < length ns → joinedBy (displayed (map (versionIn T p) (n ∷ ns))) ≡ versionIn T p n ++ furtherIn T p ns
       many [] h = absurd (not-suc-le-zero h)
       many (a ∷ []) h = let z : ⊥ = omega arith in absurd z
       many (a ∷ b ∷ ms) h =
-          let l : lastOf (versionIn T p b) (map (versionIn T p) ms) ≡ versionIn T p (lastOfMany (a ∷ b ∷ ms) - 1) =
+          let l : lastText (versionIn T p b) (map (versionIn T p) ms) ≡ versionIn T p (lastOfMany (a ∷ b ∷ ms) - 1) =
           last-of (versionIn T p) b ms ∙ ap (λ (x : ℕ). versionIn T p (x - 1)) (sym (many-is (a ∷ b ∷ ms) h)) in
-          ap joined (displayed-many (versionIn T p n) (versionIn T p a) (versionIn T p b) (map (versionIn T p) ms) (omega (arith, length-map ms (versionIn T p))))
-          ∙ ends-is (versionIn T p n) (versionIn T p a) (versionIn T p b) (lastOf (versionIn T p b) (map (versionIn T p) ms))
+          ap joinedBy (displayed-many (versionIn T p n) (versionIn T p a) (versionIn T p b) (map (versionIn T p) ms) (omega (
+            arith,
+            length-map ms (versionIn T p),
+          )))
+          ∙ ends-is (versionIn T p n) (versionIn T p a) (versionIn T p b) (lastText (versionIn T p b) (map (versionIn T p) ms))
           ∙ rw (l, further-many a b ms h)
 
 -- ---- a chain of members that is walked; x: the next by its number plus one, c: how many there were, l: the last of them
@@ -131,7 +136,8 @@ module _ (p : List ℕ) (x₁ x c l : ℕ) (z : Passing p x₁ x c l) where
       let m = mates-more p x h (z .small) in
       let n : length (matesFrom p x) ≡ suc (length (matesFrom p (mateIn p (x - 1)))) = ap length m in
       let w : x - 1 + 1 ≡ x = omega arith in
-      let q : lastMore l (matesFrom p x) ≡ lastMore x (matesFrom p (mateIn p (x - 1))) = ap (lastMore l) m ∙ ap (λ (d : ℕ). lastMore d (matesFrom p (mateIn p (x - 1)))) w in
+      let q : lastMore l (matesFrom p x) ≡ lastMore x (matesFrom p (mateIn p (x - 1))) = ap (lastMore l) m
+      ∙ ap (λ (d : ℕ). lastMore d (matesFrom p (mateIn p (x - 1)))) w in
       record {
         small = rw e (mate-below p (x - 1));
         so-far = rw e (omega (arith, z .so-far));
@@ -176,7 +182,8 @@ module _ (p : List ℕ) (x l : ℕ) (e : l ≡ lastOfMany (matesFrom p x)) where
     both-are = first-is ∙ ap (λ (m : List ℕ). (x - 1) ∷ m) (mates-more p y second-there (rw f (mate-below p (x - 1))))
 
     -- a, b, d: the solvables of the second member, the third and the last
-    pub ends-are : (T : Tables) (a b d : ℕ) → a ≡ solvableIn p (x - 1) → b ≡ solvableIn p (y - 1) → d ≡ solvableIn p (l - 1) → furtherIn T p (matesFrom p x) ≡ endsText T a b d
+    pub ends-are : (T : Tables) (a b d : ℕ) → a ≡ solvableIn p (x - 1) → b ≡ solvableIn p (y - 1) → d ≡ solvableIn p (l - 1)
+        → furtherIn T p (matesFrom p x) ≡ endsText T a b d
     ends-are T a b d ea eb ed =
         let m = both-are in
         let n : 5 < length ((x - 1) ∷ (y - 1) ∷ matesFrom p (mateIn p (y - 1))) = rw m at (many-by (matesFrom p x) l e h) in
@@ -199,7 +206,8 @@ unfolding packageIn
 package-agrees T S p n t m s f =
     rw (t, m, s, map-agree (versionIn (S .tables) p) (versionOf S) (membersOf S n) (λ x i. ap (versionText (S .tables)) (f x i)))
 
-pub package-alike : (T : Tables) (p q : List ℕ) (n : ℕ) → membersIn q n ≡ membersIn p n → ((x : ℕ) → solvableIn q x ≡ solvableIn p x) → packageIn T q n ≡ packageIn T p n
+pub package-alike : (T : Tables) (p q : List ℕ) (n : ℕ) → membersIn q n ≡ membersIn p n → ((x : ℕ) → solvableIn q x ≡ solvableIn p x)
+    → packageIn T q n ≡ packageIn T p n
 unfolding packageIn
 package-alike T p q n m f =
     rw (m, f n, map-agree (versionIn T q) (versionIn T p) (membersIn p n) (λ x i. ap (versionText T) (f x)))
@@ -211,6 +219,7 @@ unfolding packageIn membersIn leadIn
 package-is T p n =
     let z : leadIn p n + 1 - 1 ≡ leadIn p n = omega arith in
     let m : membersIn p n ≡ leadIn p n ∷ matesFrom p (mateIn p (leadIn p n)) = mates-more p (leadIn p n + 1) (omega arith) (omega arith) ∙ rw z in
-    ap (λ (l : List ℕ). nameText T (solvableName T (solvableIn p n)) ++ utf8 " " ++ joined (displayed (map (versionIn T p) l))) m
+    ap (λ (l : List ℕ). nameText T (solvableName T (solvableIn p n)) ++ utf8 " " ++ joinedBy (displayed (map (versionIn T p) l))) m
     ∙ ap (λ (l : List ℕ). nameText T (solvableName T (solvableIn p n)) ++ utf8 " " ++ l) (joined-is T p (leadIn p n) (matesFrom p (mateIn p (leadIn p n))))
-    ∙ sym (append-assoc (nameText T (solvableName T (solvableIn p n)) ++ utf8 " ") (versionIn T p (leadIn p n)) (furtherIn T p (matesFrom p (mateIn p (leadIn p n)))))
+    ∙ sym (append-assoc (nameText T (solvableName T (solvableIn p n))
+    ++ utf8 " ") (versionIn T p (leadIn p n)) (furtherIn T p (matesFrom p (mateIn p (leadIn p n)))))

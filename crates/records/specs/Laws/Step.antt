@@ -8,8 +8,8 @@ use lib.ListN.{replicate}
 use Rattle.basis.specs.Members.{clash}
 use Rattle.records.specs.declared.Table.{Table}
 use Rattle.records.specs.declared.Shape.{Shape}
-use Rattle.records.specs.declared.Step.{Step}
-use Rattle.records.specs.declared.Step.the-variants.{Next, No}
+use Rattle.records.specs.declared.CountStep.{CountStep}
+use Rattle.records.specs.declared.CountStep.the-variants.{Next, No}
 use Rattle.records.specs.Shapes.{Rec, shapeOf}
 use Rattle.records.specs.Tables.{Tables, noTables, put, countsOf}
 use Rattle.records.specs.Read.{refusalIn}
@@ -18,11 +18,11 @@ use Rattle.records.specs.Pass.{checkPass, noted, moreOf, noCounts}
 use Rattle.records.specs.Agree.{Marked, stepOf, check-none, check-some, next-marked, more-is-good, none-marked}
 
 -- 2 for an unknown kind, else 3, 6, 4 or 5 as the tables say, or the table that the record goes into
-abbrev pub stepBy : Tables → Rec → Option Shape → Step
+abbrev pub stepBy : Tables → Rec → Option Shape → CountStep
 stepBy T r none = No 2
 stepBy T r (some s) = stepOf (refusalIn T s r) (s .table)
 
-unfoldable pub stepIn : Tables → Rec → Step
+unfoldable pub stepIn : Tables → Rec → CountStep
 stepIn T r = stepBy T r (shapeOf (r .kind))
 
 -- the marks m are those of T; r is the record

@@ -16,7 +16,7 @@ use Rattle.records.specs.declared.Table.{Table}
 use Rattle.records.specs.declared.Table.the-variants.{Clauses}
 use Rattle.records.specs.declared.Counts.{Counts}
 use Rattle.records.specs.declared.Shape.{Shape}
-use Rattle.records.specs.declared.Step.the-variants.{Next, No}
+use Rattle.records.specs.declared.CountStep.the-variants.{Next, No}
 use Rattle.records.specs.Shapes.{Rec, recOf, shapeOf, limit}
 use Rattle.records.specs.Tables.{Tables, put, countsOf}
 use Rattle.records.specs.Read.{refusalIn}

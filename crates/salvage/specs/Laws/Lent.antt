@@ -16,12 +16,12 @@ use Rattle.salvage.specs.declared.Salvaged.{Salvaged}
 use Rattle.salvage.specs.declared.Work.{Work}
 use Rattle.salvage.specs.declared.Turn.{Turn}
 use Rattle.salvage.specs.declared.Turn.the-variants.{On, Halt}
-use Rattle.pieces.specs.Pieces.{pieces, joined, Pasted}
-use Rattle.pieces.specs.Laws.Pieces.{length-pieces, pieces-whole, cut-pieces, length-joined, joined-pieces}
-use Rattle.salvage.specs.Salvage.{Mended, mended, halted, mendFrom, refused, finished, salvageOf}
+use Rattle.reader.specs.Pieces.{pieces, joined, Pasted}
+use Rattle.reader.specs.Laws.Pieces.{length-pieces, pieces-whole, cut-pieces, length-joined, joined-pieces}
+use Rattle.salvage.specs.Salvage.{Mended, mended, halted, mendFrom, refused, mendedFile, salvageOf}
 use Rattle.salvage.specs.Lent.{refusalOf, doneOf, salvageAnswer, salvageRoom, salvageList}
 use Rattle.salvage.specs.Pass.{Judgement, judgeFrom, noWork}
-use Rattle.salvage.specs.Writing.{blanks, wholeOf, Laid}
+use Rattle.salvage.specs.Writing.{blanks, wholeOf, SalvageLaid}
 use Rattle.salvage.specs.Laws.Mending.{Mends, mends, mends-whole, mends-length}
 use Rattle.salvage.specs.Laws.Agree.{Agrees, judge-is-mend}
 use Rattle.salvage.specs.Laws.Paste.{blanks-mend}
@@ -29,10 +29,10 @@ use Rattle.salvage.specs.Laws.Paste.{blanks-mend}
 -- ---- the writing
 
 module _ (file found : List ℕ) (k : ℕ) (room list : List ℕ) (r : Salvaged) where
-  pub laid-room : length room < wholeOf file → r ≡ refusalOf 10 0 → Laid file found k room list r room list
+  pub laid-room : length room < wholeOf file → r ≡ refusalOf 10 0 → SalvageLaid file found k room list r room list
   laid-room h e = let z = lt-leb (wholeOf file) (length room) h in record { answer = rw z e; in-room = rw z; in-list = rw z }
 
-  pub laid-list : wholeOf file ≤ length room → length list < k → r ≡ refusalOf 10 0 → Laid file found k room list r room list
+  pub laid-list : wholeOf file ≤ length room → length list < k → r ≡ refusalOf 10 0 → SalvageLaid file found k room list r room list
   laid-list g h e =
       let y = le-leb (wholeOf file) (length room) g in
       let z = lt-leb k (length list) h in
@@ -40,7 +40,7 @@ module _ (file found : List ℕ) (k : ℕ) (room list : List ℕ) (r : Salvaged)
 
 pub laid-done : (file found : List ℕ) (k : ℕ) (room list o room′ list′ : List ℕ) → wholeOf file ≤ length room → k ≤ length list
     → Pasted room 0 file (wholeOf file) o → room′ ≡ blanks (take k found) o → Pasted list 0 found k list′
-    → Laid file found k room list (doneOf (wholeOf file) k (length file - wholeOf file)) room′ list′
+    → SalvageLaid file found k room list (doneOf (wholeOf file) k (length file - wholeOf file)) room′ list′
 laid-done file found k room list o room′ list′ g h p q l =
     let y = le-leb (wholeOf file) (length room) g in
     let z = le-leb k (length list) h in
@@ -80,7 +80,7 @@ module _ (file : List ℕ) (h : length file ≤ 65536) where
       rw (cut-pieces (length file / 32) file)
       (judge-is-mend (pieces (length file / 32) file) 0 noTables (replicate 1024 0) (replicate 2048 0) 0 (step-start .0) (omega arith))
 
-  salvage-by : (M : Mended) → mendFrom (pieces (length file / 32) file) 0 noTables ≡ M → salvageOf file ≡ finished (length file % 32) M
+  salvage-by : (M : Mended) → mendFrom (pieces (length file / 32) file) 0 noTables ≡ M → salvageOf file ≡ mendedFile (length file % 32) M
   unfolding salvageOf
   salvage-by M e = rw (le-leb (length file) 65536 h, e)
 
@@ -96,7 +96,7 @@ module _ (file : List ℕ) (h : length file ≤ 65536) where
     leaves-halt : (n p : ℕ) → t ≡ Halt n p → r ≡ refusalOf n p → Leaves file room list r room list
     leaves-halt n p e q = halt-by n p e q (mendFrom (pieces (length file / 32) file) 0 noTables) refl agreed
 
-    on-by : (w : Work) (found : List ℕ) → t ≡ On w → found ≡ judged file .list → Laid file found (w .replaced) room list r room′ list′
+    on-by : (w : Work) (found : List ℕ) → t ≡ On w → found ≡ judged file .list → SalvageLaid file found (w .replaced) room list r room′ list′
         → (M : Mended) → mendFrom (pieces (length file / 32) file) 0 noTables ≡ M → Agrees M 0 (replicate 2048 0) (judged file)
         → Leaves file room list r room′ list′
     unfolding salvageAnswer salvageRoom salvageList
@@ -119,7 +119,7 @@ module _ (file : List ℕ) (h : length file ≤ 65536) where
         same-count : {c : Counts} {n : ℕ} → On (record { counts = c; replaced = n }) ≡ On w → n ≡ w .replaced
         same-count y = cc
 
-    leaves-on : (w : Work) (found : List ℕ) → t ≡ On w → found ≡ judged file .list → Laid file found (w .replaced) room list r room′ list′
+    leaves-on : (w : Work) (found : List ℕ) → t ≡ On w → found ≡ judged file .list → SalvageLaid file found (w .replaced) room list r room′ list′
         → Leaves file room list r room′ list′
     leaves-on w found e f laid = on-by w found e f laid (mendFrom (pieces (length file / 32) file) 0 noTables) refl agreed
 
@@ -156,7 +156,7 @@ module _ (file room list : List ℕ) (r : Salvaged) (t : Turn) (n p : ℕ) (is :
   pub halt-list : list ≡ salvageList file (length room) list
   halt-list = halt .in-list
 
-module _ (file found : List ℕ) (w : Work) (room list room′ list′ : List ℕ) (r : Salvaged) (laid : Laid file found (w .replaced) room list r room′ list′)
+module _ (file found : List ℕ) (w : Work) (room list room′ list′ : List ℕ) (r : Salvaged) (laid : SalvageLaid file found (w .replaced) room list r room′ list′)
     (t : Turn) (is : t ≡ judged file .turn) (e : t ≡ On w) (f : found ≡ judged file .list) (h : length file ≤ 65536) where
   goes-on : Leaves file room list r room′ list′
   goes-on = leaves-on file h room list room′ list′ r t is w found e f laid

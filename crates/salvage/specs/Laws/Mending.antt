@@ -25,7 +25,7 @@ use Rattle.salvage.specs.Salvage.{blank, coreLearnt, isClauses, onClause
 use Rattle.salvage.specs.Salvage.{Mended, mended, halted, with-kept, with-blank, mendFrom}
 use Rattle.salvage.specs.declared.Verdict.{Verdict}
 use Rattle.salvage.specs.declared.Verdict.the-variants.{Stays, Replaced, Stops}
-use Rattle.pieces.specs.Laws.Pieces.{Whole}
+use Rattle.reader.specs.Laws.Pieces.{PiecesWhole}
 
 -- ---- one record
 
@@ -263,7 +263,7 @@ mends-unlearnt (blanks h m) = (refl, mends-unlearnt m)
 
 -- ---- the bytes
 
-pub mends-whole : {T : Tables} {i : ℕ} {xs ys : List (List ℕ)} {ls : List ℕ} → Mends T i xs ys ls → Whole xs → Whole ys
+pub mends-whole : {T : Tables} {i : ℕ} {xs ys : List (List ℕ)} {ls : List ℕ} → Mends T i xs ys ls → PiecesWhole xs → PiecesWhole ys
 mends-whole ends w = tt
 mends-whole (keeps t s m) w = (w .0, mends-whole m (w .1))
 mends-whole (blanks h m) w = (refl, mends-whole m (w .1))

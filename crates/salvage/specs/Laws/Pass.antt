@@ -15,8 +15,8 @@ use Rattle.records.specs.declared.Table.{Table}
 use Rattle.records.specs.declared.Table.the-variants.{Clauses}
 use Rattle.records.specs.declared.Counts.{Counts}
 use Rattle.records.specs.declared.Found.{Found}
-use Rattle.records.specs.declared.Step.{Step}
-use Rattle.records.specs.declared.Step.the-variants.{Next, No}
+use Rattle.records.specs.declared.CountStep.{CountStep}
+use Rattle.records.specs.declared.CountStep.the-variants.{Next, No}
 use Rattle.records.specs.Shapes.{Rec, recordsOf}
 use Rattle.records.specs.Tables.{at, noRec}
 use Rattle.records.specs.Cut.{length-cut}
@@ -48,7 +48,7 @@ pub kind-by : (k : ℕ) (f g : Found) (x : Bool) → f ≡ foundAt k → f ≡ g
 unfolding clauseKind
 kind-by k f g x is e q = q ∙ ap clauseFound (sym e ∙ is)
 
-module _ (s : Step) (r : Rec) where
+module _ (s : CountStep) (r : Rec) where
   pub clause-no : (n : ℕ) → s ≡ No n → Replaced ≡ clauseBy s r
   unfolding clauseBy
   clause-no n e = rw e
@@ -61,11 +61,11 @@ module _ (s : Step) (r : Rec) where
   unfolding clauseBy
   clause-stays t b e q f = rw (f, ← e, q)
 
-pub other-at : (s u : Step) (x : Verdict) → s ≡ u → x ≡ otherIn u → x ≡ otherBy s
+pub other-at : (s u : CountStep) (x : Verdict) → s ≡ u → x ≡ otherIn u → x ≡ otherBy s
 unfolding otherBy
 other-at s u x e q = rw e q
 
-module _ (c : Counts) (m : List ℕ) (r : Rec) (s : Step) (is : s ≡ checkPass c m r) (k : ℕ) (e : k ≡ r .kind) (b : Bool) (q : b ≡ clauseKind k) where
+module _ (c : Counts) (m : List ℕ) (r : Rec) (s : CountStep) (is : s ≡ checkPass c m r) (k : ℕ) (e : k ≡ r .kind) (b : Bool) (q : b ≡ clauseKind k) where
   pub verdict-other : (x : Verdict) → not b ≡ true → x ≡ otherBy s → x ≡ verdictPass c m r
   unfolding verdictPass guard
   verdict-other x h f = let g : clauseKind (r .kind) ≡ false = ap clauseKind (sym e) ∙ (sym q ∙ not-true b h) in rw (g, ← is) f
@@ -115,14 +115,14 @@ left-one file i w m ls h =
     rw (add-one, drop-cons (recordsOf file) i noRec (omega arith))
 
 -- what the loop of the code keeps: what is left equals the whole
-pub record Left (file : List ℕ) (i : ℕ) (w : Work) (m ls : List ℕ) (j : Judgement) : Type 0 where
+pub record JudgeLeft (file : List ℕ) (i : ℕ) (w : Work) (m ls : List ℕ) (j : Judgement) : Type 0 where
   pub is : leftJudge file i w m ls ≡ j
 
-pub left-start : (file : List ℕ) (w : Work) (m ls : List ℕ) → Left file 0 w m ls (judgeFrom (recordsOf file) 0 w m ls)
+pub left-start : (file : List ℕ) (w : Work) (m ls : List ℕ) → JudgeLeft file 0 w m ls (judgeFrom (recordsOf file) 0 w m ls)
 unfolding leftJudge
 left-start file w m ls = record { is = refl }
 
-module _ (file : List ℕ) (i : ℕ) (w : Work) (m ls : List ℕ) (j : Judgement) (inv : Left file i w m ls j) where
+module _ (file : List ℕ) (i : ℕ) (w : Work) (m ls : List ℕ) (j : Judgement) (inv : JudgeLeft file i w m ls j) where
   pub left-end : length file / 32 ≤ i → On w ≡ j .turn
   unfolding leftJudge judgeFrom
   left-end h =
@@ -143,7 +143,7 @@ module _ (file : List ℕ) (i : ℕ) (w : Work) (m ls : List ℕ) (j : Judgement
     on = rw is (sym (left-one file i w m ls h) ∙ inv .is)
 
     pub left-next : (d : Work) (u us : List ℕ) → s ≡ On d → u ≡ marksPass w m (at (recordsOf file) i) → us ≡ listPass w m (at (recordsOf file) i) i ls
-        → Left file (i + 1) d u us j
+        → JudgeLeft file (i + 1) d u us j
     left-next d u us e p q = record { is = rw (p, q) (rw e at on) }
 
     pub left-stop : (n k : ℕ) → s ≡ Halt n k → s ≡ j .turn

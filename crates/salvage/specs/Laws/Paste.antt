@@ -9,8 +9,8 @@ use lib.Seq.{drop-cons, getD-take, take-at, drop-at}
 use borrow.Author.Tests.{le-leb, lt-leb}
 use Rattle.basis.specs.Guard.{guard}
 use Rattle.records.specs.Tables.{Tables}
-use Rattle.pieces.specs.Pieces.{joined, Pasted}
-use Rattle.pieces.specs.Laws.Pieces.{Whole}
+use Rattle.reader.specs.Pieces.{joined, Pasted}
+use Rattle.reader.specs.Laws.Pieces.{PiecesWhole}
 use Rattle.salvage.specs.Salvage.{blank}
 use Rattle.salvage.specs.Writing.{blankAt, blanks}
 use Rattle.salvage.specs.Laws.Mending.{Mends, ends, keeps, blanks as blanked}
@@ -56,7 +56,7 @@ blank-here p x i rest lp lx =
     rw (le-leb (32 * i + 32) (length (p ++ (x ++ rest))) l, a, b) (append-assoc p blank rest)
 
 pub blanks-mend : {T : Tables} {i : ℕ} {xs ys : List (List ℕ)} {ls : List ℕ} → Mends T i xs ys ls
-    → Whole xs → (p rest : List ℕ) → length p ≡ 32 * i → blanks ls (p ++ (joined xs ++ rest)) ≡ p ++ (joined ys ++ rest)
+    → PiecesWhole xs → (p rest : List ℕ) → length p ≡ 32 * i → blanks ls (p ++ (joined xs ++ rest)) ≡ p ++ (joined ys ++ rest)
 unfolding blanks joined
 blanks-mend ends w p rest h = refl
 blanks-mend (keeps {x = x} {xs = xs} {ys = ys} {ls = ls} t s m) w p rest h =

@@ -14,7 +14,7 @@ use Rattle.records.specs.Shapes.{recordsOf}
 use Rattle.index.specs.Steps.{isIn}
 use Rattle.salvage.specs.declared.Salvaged.{Salvaged}
 use Rattle.salvage.specs.Salvage.{blank, Salvage, repaired, refused, salvageOf}
-use Rattle.salvage.specs.Lent.{doneOf, refusalOf, fits, answerFor, roomFor, listFor, salvageAnswer, salvageRoom, salvageList}
+use Rattle.salvage.specs.Lent.{doneOf, refusalOf, fitsLent, answerFor, roomFor, listFor, salvageAnswer, salvageRoom, salvageList}
 use Rattle.salvage.specs.Laws.Mending.{Rising}
 use Rattle.salvage.specs.Laws.Repaired.{Sound, refused-numbered, repaired-length, repaired-dropped, repaired-sound, repaired-rising}
 use Rattle.salvage.specs.Laws.Repaired.{repaired-clauses, repaired-blank, repaired-bytes, sound-unchanged}
@@ -25,16 +25,16 @@ record Done (file room list : List ℕ) : Type 0 where
   pub listed : List ℕ
   pub rest : ℕ
   pub is : salvageOf file ≡ repaired out listed rest
-  pub fit : fits (length out) (length listed) (length room) (length list) ≡ true
+  pub fit : fitsLent (length out) (length listed) (length room) (length list) ≡ true
 
 module _ (file room list : List ℕ) where
-  by-fit : (out ls : List ℕ) (d : ℕ) → salvageOf file ≡ repaired out ls d → (b : Bool) → fits (length out) (length ls) (length room) (length list) ≡ b
+  by-fit : (out ls : List ℕ) (d : ℕ) → salvageOf file ≡ repaired out ls d → (b : Bool) → fitsLent (length out) (length ls) (length room) (length list) ≡ b
       → cond b (doneOf (length out) (length ls) d) (refusalOf 10 0) .number ≡ 0 → Done file room list
   by-fit out ls d e true q h = record { out = out; listed = ls; rest = d; is = e; fit = q }
   by-fit out ls d e false q h = clash (cc)
 
   by-salvage : (S : Salvage) → salvageOf file ≡ S → answerFor S (length room) (length list) .number ≡ 0 → Done file room list
-  by-salvage (repaired out ls d) e h = by-fit out ls d e (fits (length out) (length ls) (length room) (length list)) refl h
+  by-salvage (repaired out ls d) e h = by-fit out ls d e (fitsLent (length out) (length ls) (length room) (length list)) refl h
   by-salvage (refused n p) e h = let z : 1 ≤ n = refused-numbered file n p e in let f : ⊥ = omega arith in absurd f
 
 -- the repaired file stands at the front of the room
@@ -152,7 +152,7 @@ module _ (file room list : List ℕ) (not-zero : salvageAnswer file (length room
 
       go : (S : Salvage) → (answerFor S (length room) (length list) .number ≡ 0 → ⊥) → roomFor S room (length list) ≡ room
       go (refused n p) h = refl
-      go (repaired out ls d) h = by-room out ls d (fits (length out) (length ls) (length room) (length list)) h
+      go (repaired out ls d) h = by-room out ls d (fitsLent (length out) (length ls) (length room) (length list)) h
 
   pub refused-list : salvageList file (length room) list ≡ list
   unfolding salvageAnswer salvageList
@@ -165,4 +165,4 @@ module _ (file room list : List ℕ) (not-zero : salvageAnswer file (length room
 
       go : (S : Salvage) → (answerFor S (length room) (length list) .number ≡ 0 → ⊥) → listFor S (length room) list ≡ list
       go (refused n p) h = refl
-      go (repaired out ls d) h = by-list out ls d (fits (length out) (length ls) (length room) (length list)) h
+      go (repaired out ls d) h = by-list out ls d (fitsLent (length out) (length ls) (length room) (length list)) h

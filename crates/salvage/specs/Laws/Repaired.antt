@@ -15,11 +15,11 @@ use Rattle.records.specs.Shapes.{Rec, recOf, recordsOf}
 use Rattle.records.specs.Tables.{Tables, noTables}
 use Rattle.records.specs.Read.{good, readOf}
 use Rattle.index.specs.Steps.{read-accepted, table-is, isIn}
-use Rattle.pieces.specs.Pieces.{pieces, joined}
-use Rattle.pieces.specs.Laws.Pieces.{Whole, length-pieces, pieces-whole, cut-pieces, pieces-at}
-use Rattle.pieces.specs.Laws.Pieces.{length-joined, pieces-joined, joined-file, records-joined}
+use Rattle.reader.specs.Pieces.{pieces, joined}
+use Rattle.reader.specs.Laws.Pieces.{PiecesWhole, length-pieces, pieces-whole, cut-pieces, pieces-at}
+use Rattle.reader.specs.Laws.Pieces.{length-joined, pieces-joined, joined-file, records-joined}
 use Rattle.salvage.specs.Salvage.{blank, coreLearnt, Mended, mended, halted, mendFrom}
-use Rattle.salvage.specs.Salvage.{repaired, refused, finished, salvageOf}
+use Rattle.salvage.specs.Salvage.{repaired, refused, mendedFile, salvageOf}
 use Rattle.salvage.specs.Laws.Mending.{Mends, mends, mends-read, mends-unlearnt, mends-whole, mends-length, Rising, mends-rising}
 use Rattle.salvage.specs.Laws.Mending.{mends-same, mends-blank, mends-clauses, sound-stays, halts}
 
@@ -36,7 +36,7 @@ of-repaired d n ys ks out ls h = (cc, cc, cc)
 
 module _ (file out ls : List ℕ) (d : ℕ) where
   repair-by : (b : Bool) → leb (length file) 65536 ≡ b → (m : Mended) → mendFrom (pieces (length file / 32) file) 0 noTables ≡ m
-      → cond b (finished (length file % 32) m) (refused 1 0) ≡ repaired out ls d → Repair file out ls d
+      → cond b (mendedFile (length file % 32) m) (refused 1 0) ≡ repaired out ls d → Repair file out ls d
   repair-by true p (mended ys ks) q h =
       let f = of-repaired d (length file % 32) ys ks out ls h in
       record {
@@ -58,14 +58,14 @@ pub refused-numbered : (file : List ℕ) (n p : ℕ) → salvageOf file ≡ refu
 unfolding salvageOf
 refused-numbered file n p e = by-length (leb (length file) 65536) e
   where
-    by-mended : (m : Mended) → mendFrom (pieces (length file / 32) file) 0 noTables ≡ m → finished (length file % 32) m ≡ refused n p → 1 ≤ n
+    by-mended : (m : Mended) → mendFrom (pieces (length file / 32) file) 0 noTables ≡ m → mendedFile (length file % 32) m ≡ refused n p → 1 ≤ n
     by-mended (mended ys ks) q h = clash (cc)
     by-mended (halted k i) q h =
         let z : k ≡ n = cc in
         let y = halts (pieces (length file / 32) file) 0 noTables k i q in
         omega arith
 
-    by-length : (b : Bool) → cond b (finished (length file % 32) (mendFrom (pieces (length file / 32) file) 0 noTables)) (refused 1 0) ≡ refused n p → 1 ≤ n
+    by-length : (b : Bool) → cond b (mendedFile (length file % 32) (mendFrom (pieces (length file / 32) file) 0 noTables)) (refused 1 0) ≡ refused n p → 1 ≤ n
     by-length true h = by-mended (mendFrom (pieces (length file / 32) file) 0 noTables) refl h
     by-length false h = let z : 1 ≡ n = cc in omega arith
 
@@ -79,7 +79,7 @@ module _ (file out ls : List ℕ) (d : ℕ) (e : salvageOf file ≡ repaired out
   way : Repair file out ls d
   way = repair file out ls d e
 
-  whole : Whole (way .rows)
+  whole : PiecesWhole (way .rows)
   whole = mends-whole (way .way) (pieces-whole (length file / 32) file (omega arith))
 
   rows-count : length (way .rows) ≡ length file / 32

@@ -12,9 +12,11 @@ deepest-spec =
     (λ c κs. search needs) (λ c κs. search needs) (λ c κs. search needs)
     (λ c κs. search needs) (λ c κs. search needs) (λ c κs. search needs)
     (λ c. search deep-none)
-    (λ c. let h : c .before .before .before .before .before .get643 .result ≤ 18446744073709551615 = omega arith in let g : c .before .before .before .before .get644 .result ≤ 18446744073709551615 = omega arith in search deep-first)
+    (λ c. let h : c .before .before .before .before .before .get643 .result ≤ 18446744073709551615 = omega arith in
+    let g : c .before .before .before .before .get644 .result ≤ 18446744073709551615 = omega arith in search deep-first)
     (λ c κs. search needs)
     (λ c. search deep-second)
     (λ c κs. search needs)
     (λ c. search deep-more)
-    (λ c. let h : c .before .before .before .before .before .before .get643 .result ≤ 18446744073709551615 = omega arith in let g : c .before .before .before .before .before .get644 .result ≤ 18446744073709551615 = omega arith in search deep-less))
+    (λ c. let h : c .before .before .before .before .before .before .get643 .result ≤ 18446744073709551615 = omega arith in
+    let g : c .before .before .before .before .before .get644 .result ≤ 18446744073709551615 = omega arith in search deep-less))

@@ -10,6 +10,8 @@ later-spec =
     tie.close
     (tie.spec
     (λ c. search needs)
-    (λ c. let h : c .before .args .n ≤ 18446744073709551615 = omega arith in let g : c .before .args .depth ≤ 18446744073709551615 = omega arith in search later-wide)
+    (λ c. let h : c .before .args .n ≤ 18446744073709551615 = omega arith in let g : c .before .args .depth ≤ 18446744073709551615 = omega arith in
+    search later-wide)
     (λ c. search needs)
-    (λ c. let h : c .before .args .n ≤ 18446744073709551615 = omega arith in let g : c .before .args .depth ≤ 18446744073709551615 = omega arith in search later-fits))
+    (λ c. let h : c .before .args .n ≤ 18446744073709551615 = omega arith in let g : c .before .args .depth ≤ 18446744073709551615 = omega arith in
+    search later-fits))

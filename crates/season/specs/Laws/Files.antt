@@ -24,7 +24,9 @@ numbers-long a = length-set {A = ℕ} (replicate 19 0) (a .number) 1 ∙ length-
 module _ (a : Own) (k : ℕ) (l : k < 19) where
   among : getD (share a .counts) k 0 ≡ getD (set (replicate 19 0) (a .number) 1) k 0
   unfolding share
-  among = List·getD-append (set (replicate 19 0) (a .number) 1) _ 0 k (let n : length {A = ℕ} (set (replicate 19 0) (a .number) 1) ≡ 19 = numbers-long a in omega arith)
+  among =
+      List·getD-append (set (replicate 19 0) (a .number) 1) _ 0 k (let n : length {A = ℕ} (set (replicate 19 0) (a .number) 1) ≡ 19 = numbers-long a in
+      omega arith)
 
   -- a file counts once, under its own number
   pub share-own : a .number ≡ k → getD (share a .counts) k 0 ≡ 1
@@ -138,7 +140,8 @@ next xs r a e h =
     (λ t. rw (share-deep a t) (onto xs (files r) a e t (r .deepest) h))
     (λ t. rw (share-flat a t, deeper-none (files r) (r .deepest)) (past xs (files r) a e t (r .deepest) h))
 
-from : (xs : List Own) (r : Report) (ys : List Own) → Full r → length xs ≡ files r → DeepestIs xs (r .deepest) → All Known ys → DeepestIs (xs ++ ys) (totalFrom r ys .deepest)
+from : (xs : List Own) (r : Report) (ys : List Own) → Full r → length xs ≡ files r → DeepestIs xs (r .deepest) → All Known ys
+    → DeepestIs (xs ++ ys) (totalFrom r ys .deepest)
 unfolding totalFrom
 from xs r [] f e h k = rw (append-nil xs) h
 from xs r (a ∷ ys) f e h k =

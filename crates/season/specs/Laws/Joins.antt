@@ -16,7 +16,7 @@ use Rattle.basis.specs.Members.{split, clash}
 use Rattle.basis.specs.Below.{allBelow}
 use Rattle.season.specs.declared.Total.{Total}
 use Rattle.season.specs.declared.Deep.{Deep}
-use Rattle.season.specs.Report.{Report, sum, sums, narrow, numbers, deeper, join, files, fits}
+use Rattle.season.specs.Report.{Report, sum, sums, narrow, numbers, deeper, join, files, fitsWidths}
 use Rattle.season.specs.Words.{reportOf, deepIn, named, wordsOf, both, joinBy, joinWords}
 use Rattle.season.specs.Steps.{pairFits, added, filesIn, totalOf, shownDeep, noDeep, deepOf, planOf, threePut}
 use Rattle.season.specs.Laws.Reports.{files-join}
@@ -33,7 +33,8 @@ unfolding allBelow pairFits
 counts-all ws vs zero h l = refl
 counts-all ws vs (suc i) h l =
     rw (take-suc ws i 0 (omega arith), take-suc vs i 0 (omega arith))
-    (ap (all narrow) (sums-snoc (take i ws) (take i vs) (getD ws i 0) (getD vs i 0) (length-take-le i ws (omega arith) ∙ sym (length-take-le i vs (omega arith))))
+    (ap (all narrow) (sums-snoc (take i ws) (take i vs) (getD ws i 0) (getD vs i 0) (length-take-le i ws (omega arith)
+    ∙ sym (length-take-le i vs (omega arith))))
     ∙ all-snoc narrow (sums (take i ws) (take i vs)) (getD ws i 0 + getD vs i 0)
     ∙ ap (λ (b : Bool). b && narrow (getD ws i 0 + getD vs i 0)) (counts-all ws vs i (omega arith) (omega arith)))
 
@@ -73,19 +74,20 @@ module _ (ws vs : List ℕ) (full : length ws ≡ 27) (full′ : length vs ≡ 2
   unfolding join reportOf
   deep-is = ap (λ (n : ℕ). deeper n (deepIn ws) (deepIn vs)) (files-report ws)
 
-  fits-is : fits (both ws vs) ≡ (allBelow (pairFits ws vs) 24 && (narrow (filesIn ws 19 + filesIn vs 19) && all narrow (numbers (deeper (filesIn ws 19) (deepIn ws) (deepIn vs)))))
-  unfolding fits
+  fits-is : fitsWidths (both ws vs) ≡ (allBelow (pairFits ws vs) 24
+      && (narrow (filesIn ws 19 + filesIn vs 19) && all narrow (numbers (deeper (filesIn ws 19) (deepIn ws) (deepIn vs)))))
+  unfolding fitsWidths
   fits-is = rw (counts-is, files-is, deep-is)
 
-  not-counts : allBelow (pairFits ws vs) 24 ≡ false → fits (both ws vs) ≡ false
+  not-counts : allBelow (pairFits ws vs) 24 ≡ false → fitsWidths (both ws vs) ≡ false
   not-counts e = fits-is ∙ rw e
 
-  not-files : 18446744073709551616 ≤ filesIn ws 19 + filesIn vs 19 → fits (both ws vs) ≡ false
+  not-files : 18446744073709551616 ≤ filesIn ws 19 + filesIn vs 19 → fitsWidths (both ws vs) ≡ false
   not-files h = fits-is ∙ rw (le-ltb (filesIn ws 19 + filesIn vs 19) 18446744073709551616 h) (and-false (allBelow (pairFits ws vs) 24))
 
-  plan-no : fits (both ws vs) ≡ false → noDeep ≡ planOf ws vs
+  plan-no : fitsWidths (both ws vs) ≡ false → noDeep ≡ planOf ws vs
   unfolding planOf
-  plan-no e = guard-no noDeep (shownDeep (both ws vs .deepest)) (fits (both ws vs)) e
+  plan-no e = guard-no noDeep (shownDeep (both ws vs .deepest)) (fitsWidths (both ws vs)) e
 
   pub plan-counts : (t : Bool) → t ≡ allBelow (pairFits ws vs) 24 → not t ≡ true → noDeep ≡ planOf ws vs
   plan-counts t q e = plan-no (not-counts (sym q ∙ not-true t e))
@@ -121,11 +123,13 @@ module _ (ws vs : List ℕ) (full : length ws ≡ 27) (full′ : length vs ≡ 2
       plan-deep t r k e h j =
           let a = total-yes (filesIn ws 19) f q ef in let b = total-yes (filesIn vs 19) g p eg in
           let c : allBelow (pairFits ws vs) 24 ≡ true = sym k ∙ not-false t e in
-          let n : narrow (filesIn ws 19 + filesIn vs 19) ≡ true = lt-ltb (filesIn ws 19 + filesIn vs 19) 18446744073709551616 (omega (arith, a .0, a .1, b .1)) in
+          let n : narrow (filesIn ws 19 + filesIn vs 19) ≡ true = lt-ltb (filesIn ws 19
+          + filesIn vs 19) 18446744073709551616 (omega (arith, a .0, a .1, b .1)) in
           let o : Option (ℕ × ℕ) = deeper (filesIn ws 19) (deepIn ws) (deepIn vs) in
-          let v : fits (both ws vs) ≡ all narrow (numbers o) = fits-is ∙ rw (c, n) refl in
+          let v : fitsWidths (both ws vs) ≡ all narrow (numbers o) = fits-is ∙ rw (c, n) refl in
           let j2 : r ≡ deepOf o = rw (a .1) at j in
-          j2 ∙ deep-guard o ∙ ap (λ (x : Bool). guard x noDeep (shownDeep o)) (sym v) ∙ ap (λ (x : Option (ℕ × ℕ)). guard (fits (both ws vs)) noDeep (shownDeep x)) (sym deep-is)
+          j2 ∙ deep-guard o ∙ ap (λ (x : Bool). guard x noDeep (shownDeep o)) (sym v)
+          ∙ ap (λ (x : Option (ℕ × ℕ)). guard (fitsWidths (both ws vs)) noDeep (shownDeep x)) (sym deep-is)
 
 -- ---- the ways through the call; d is the plan
 
@@ -133,9 +137,11 @@ shown-ok : (o : Option (ℕ × ℕ)) → shownDeep o .ok ≡ true
 shown-ok none = refl
 shown-ok (some p) = refl
 
-plan-ok : (ws vs : List ℕ) (d : Deep) → d ≡ planOf ws vs → d .ok ≡ fits (both ws vs)
+plan-ok : (ws vs : List ℕ) (d : Deep) → d ≡ planOf ws vs → d .ok ≡ fitsWidths (both ws vs)
 unfolding planOf guard
-plan-ok ws vs d q = split (fits (both ws vs)) (λ t. rw t (ap (λ (x : Deep). x .ok) (rw t at q) ∙ shown-ok (both ws vs .deepest))) (λ t. rw t (ap (λ (x : Deep). x .ok) (rw t at q)))
+plan-ok ws vs d q =
+    split (fitsWidths (both ws vs)) (λ t. rw t (ap (λ (x : Deep). x .ok) (rw t at q) ∙ shown-ok (both ws vs .deepest))) (λ t.
+    rw t (ap (λ (x : Deep). x .ok) (rw t at q)))
 
 module _ {X : Type 0} (ws vs : List ℕ) (short wide done y : X) where
   pub by-one : (length ws ≡ 27 → ⊥) → y ≡ short → y ≡ joinBy ws vs short wide done
@@ -152,14 +158,14 @@ module _ {X : Type 0} (ws vs : List ℕ) (short wide done y : X) where
     by-wide t e =
         guard-yes short _ (eqb (length ws) 27) y (eq-eqb (length ws) 27 l)
         (guard-yes short _ (eqb (length vs) 27) y (eq-eqb (length vs) 27 m)
-        (e ∙ guard-no wide done (fits (both ws vs)) (sym (plan-ok ws vs d q) ∙ not-true (d .ok) t)))
+        (e ∙ guard-no wide done (fitsWidths (both ws vs)) (sym (plan-ok ws vs d q) ∙ not-true (d .ok) t)))
 
     pub by-done : not (d .ok) ≡ false → y ≡ done → y ≡ joinBy ws vs short wide done
     unfolding joinBy
     by-done t e =
         guard-yes short _ (eqb (length ws) 27) y (eq-eqb (length ws) 27 l)
         (guard-yes short _ (eqb (length vs) 27) y (eq-eqb (length vs) 27 m)
-        (guard-yes wide done (fits (both ws vs)) y (sym (plan-ok ws vs d q) ∙ not-false (d .ok) t) e))
+        (guard-yes wide done (fitsWidths (both ws vs)) y (sym (plan-ok ws vs d q) ∙ not-false (d .ok) t) e))
 
 and-first : (a b : Bool) → (a && b) ≡ true → a ≡ true
 and-first true b e = refl
@@ -198,7 +204,8 @@ named-is : (o : Option (ℕ × ℕ)) (d : Deep) → d ≡ shownDeep o → d .dep
 named-is none d e = rw e
 named-is (some p) d e = rw e
 
-pub words-done : (ws vs l m : List ℕ) (d : Deep) → d ≡ planOf ws vs → not (d .ok) ≡ false → length ws ≡ 27 → length vs ≡ 27 → l ≡ added ws vs 24 → m ≡ threePut l d → m ≡ joinWords ws vs
+pub words-done : (ws vs l m : List ℕ) (d : Deep) → d ≡ planOf ws vs → not (d .ok) ≡ false → length ws ≡ 27 → length vs ≡ 27 → l ≡ added ws vs 24
+    → m ≡ threePut l d → m ≡ joinWords ws vs
 unfolding wordsOf join reportOf added planOf
 words-done ws vs l m d q t h k e f =
     by-done ws vs ws ws (wordsOf (both ws vs)) m d q h k t
@@ -208,5 +215,5 @@ words-done ws vs l m d q t h k e f =
   where
     shown : d ≡ shownDeep (both ws vs .deepest)
     shown =
-        let z : fits (both ws vs) ≡ true = sym (plan-ok ws vs d q) ∙ not-false (d .ok) t in
-        q ∙ sym (guard-yes noDeep (shownDeep (both ws vs .deepest)) (fits (both ws vs)) (shownDeep (both ws vs .deepest)) z refl)
+        let z : fitsWidths (both ws vs) ≡ true = sym (plan-ok ws vs d q) ∙ not-false (d .ok) t in
+        q ∙ sym (guard-yes noDeep (shownDeep (both ws vs .deepest)) (fitsWidths (both ws vs)) (shownDeep (both ws vs .deepest)) z refl)

@@ -12,7 +12,7 @@ use borrow.Author.Tests.{eq-eqb, eqb-true}
 use Rattle.basis.specs.Guard.{guard}
 use Rattle.basis.specs.Members.{split}
 use Rattle.season.specs.declared.Own.{Own}
-use Rattle.season.specs.Report.{Report, Joining, whole, wide, join, empty, fits, joined, orKept}
+use Rattle.season.specs.Report.{Report, Joining, whole, wide, join, empty, fitsWidths, joinedReports, orKept}
 use Rattle.season.specs.Season.{share, season, NoWide}
 use Rattle.season.specs.Words.{reportOf, named, wordsOf, both, joinBy, joinNumber, joinWords}
 use Rattle.season.specs.Laws.Reports.{Full, join-full, empty-full, join-assoc, join-empty, empty-join, cut}
@@ -28,18 +28,18 @@ pub words-long : (r : Report) → Full r → length (wordsOf r) ≡ 27
 unfolding wordsOf
 words-long r f = length-append (r .counts) (named (r .deepest)) ∙ omega (arith, f, named-long (r .deepest))
 
-pub joined-yes : (r s : Report) → fits (join r s) ≡ true → joined r s ≡ whole (join r s)
-unfolding joined
-joined-yes r s h = rw (h, joined)
+pub joined-yes : (r s : Report) → fitsWidths (join r s) ≡ true → joinedReports r s ≡ whole (join r s)
+unfolding joinedReports
+joined-yes r s h = rw (h, joinedReports)
 
-joined-no : (r s : Report) → fits (join r s) ≡ false → joined r s ≡ wide
-unfolding joined
-joined-no r s h = rw (h, joined)
+joined-no : (r s : Report) → fitsWidths (join r s) ≡ false → joinedReports r s ≡ wide
+unfolding joinedReports
+joined-no r s h = rw (h, joinedReports)
 
 -- a joining that is done fits
-pub whole-fits : (x y z : Report) → joined x y ≡ whole z → fits (join x y) ≡ true
+pub whole-fits : (x y z : Report) → joinedReports x y ≡ whole z → fitsWidths (join x y) ≡ true
 whole-fits x y z h =
-    split (fits (join x y)) (λ u. u)
+    split (fitsWidths (join x y)) (λ u. u)
     (λ u. absurd (true≢false (ap (λ (j : Joining). elim j [ whole w ↦ false | wide ↦ true ]) (sym (joined-no x y u) ∙ h))))
 
 module _ (r s : Report) (f : Full r) (g : Full s) where
@@ -47,60 +47,60 @@ module _ (r s : Report) (f : Full r) (g : Full s) where
   both-is = ap (λ (x : Report). join x (reportOf (wordsOf s))) (words-back r f) ∙ ap (join r) (words-back s g)
 
   -- past the lengths
-  pub by-fits : {X : Type 0} (a b c : X) → joinBy (wordsOf r) (wordsOf s) a b c ≡ guard (fits (join r s)) b c
+  pub by-fits : {X : Type 0} (a b c : X) → joinBy (wordsOf r) (wordsOf s) a b c ≡ guard (fitsWidths (join r s)) b c
   unfolding joinBy guard
   by-fits a b c =
       rw (eq-eqb (length (wordsOf r)) 27 (words-long r f), eq-eqb (length (wordsOf s)) 27 (words-long s g), both-is)
 
   -- "14 if a count would pass its width", exactly
-  pub join-wide : fits (join r s) ≡ false → joinNumber (wordsOf r) (wordsOf s) ≡ 14
+  pub join-wide : fitsWidths (join r s) ≡ false → joinNumber (wordsOf r) (wordsOf s) ≡ 14
   unfolding guard
   join-wide h = by-fits 10 14 0 ∙ rw h
 
-  pub join-fits : fits (join r s) ≡ true → joinNumber (wordsOf r) (wordsOf s) ≡ 0
+  pub join-fits : fitsWidths (join r s) ≡ true → joinNumber (wordsOf r) (wordsOf s) ≡ 0
   unfolding guard
   join-fits h = by-fits 10 14 0 ∙ rw h
 
   -- the words are those of the joined report, or "report unchanged"
-  pub join-words : joinWords (wordsOf r) (wordsOf s) ≡ wordsOf (orKept r (joined r s))
+  pub join-words : joinWords (wordsOf r) (wordsOf s) ≡ wordsOf (orKept r (joinedReports r s))
   unfolding guard
   join-words =
       by-fits (wordsOf r) (wordsOf r) (wordsOf (both (wordsOf r) (wordsOf s)))
-      ∙ split (fits (join r s))
+      ∙ split (fitsWidths (join r s))
       (λ t. rw (t, both-is, joined-yes r s t))
       (λ t. rw (t, joined-no r s t))
 
-  pub kept-full : Full (orKept r (joined r s))
+  pub kept-full : Full (orKept r (joinedReports r s))
   kept-full =
-      split (fits (join r s))
+      split (fitsWidths (join r s))
       (λ t. rw (joined-yes r s t) (join-full r s f g))
       (λ t. rw (joined-no r s t) f)
 
 -- ---- "joining is associative where none of the joinings gets 14, the empty report its unit"
 
 module _ (r s t a b c : Report) (f : Full r) (g : Full s) where
-  whole-is : (x y z : Report) → joined x y ≡ whole z → join x y ≡ z
-  unfolding joined
+  whole-is : (x y z : Report) → joinedReports x y ≡ whole z → join x y ≡ z
+  unfolding joinedReports
   whole-is x y z h =
-      split (fits (join x y))
+      split (fitsWidths (join x y))
       (λ u. let k : whole (join x y) ≡ whole z = sym (joined-yes x y u) ∙ h in ap (orKept x) k)
       (λ u. absurd (never (sym (joined-no x y u) ∙ h)))
     where
       never : wide ≡ whole z → ⊥
       never e = true≢false (ap (λ (j : Joining). elim j [ whole w ↦ false | wide ↦ true ]) e)
 
-  pub joined-assoc : joined r s ≡ whole a → joined a t ≡ whole b → joined s t ≡ whole c → joined r c ≡ whole b
+  pub joined-assoc : joinedReports r s ≡ whole a → joinedReports a t ≡ whole b → joinedReports s t ≡ whole c → joinedReports r c ≡ whole b
   joined-assoc h k l =
       let q : join r c ≡ b =
       ap (join r) (sym (whole-is s t c l)) ∙ sym (join-assoc r s t f g) ∙ ap (λ (x : Report). join x t) (whole-is r s a h) ∙ whole-is a t b k in
-      let v : fits (join r c) ≡ true = ap fits (q ∙ sym (whole-is a t b k)) ∙ whole-fits a t b k in
+      let v : fitsWidths (join r c) ≡ true = ap fitsWidths (q ∙ sym (whole-is a t b k)) ∙ whole-fits a t b k in
       joined-yes r c v ∙ ap whole q
 
-pub joined-empty : (r : Report) → Full r → fits r ≡ true → joined r empty ≡ whole r
-joined-empty r f h = joined-yes r empty (ap fits (join-empty r f) ∙ h) ∙ ap whole (join-empty r f)
+pub joined-empty : (r : Report) → Full r → fitsWidths r ≡ true → joinedReports r empty ≡ whole r
+joined-empty r f h = joined-yes r empty (ap fitsWidths (join-empty r f) ∙ h) ∙ ap whole (join-empty r f)
 
-pub empty-joined : (r : Report) → Full r → fits r ≡ true → joined empty r ≡ whole r
-empty-joined r f h = joined-yes empty r (ap fits (empty-join r f) ∙ h) ∙ ap whole (empty-join r f)
+pub empty-joined : (r : Report) → Full r → fitsWidths r ≡ true → joinedReports empty r ≡ whole r
+empty-joined r f h = joined-yes empty r (ap fitsWidths (empty-join r f) ∙ h) ∙ ap whole (empty-join r f)
 
 -- ---- the same of lent words, whatever they hold
 
@@ -116,9 +116,9 @@ unfolding reportOf
 full-of ws h = length-take-le 24 ws (omega arith)
 
 module _ (ws vs : List ℕ) (h : joinNumber ws vs ≡ 0) where
-  tests : (eqb (length ws) 27 ≡ true) × (eqb (length vs) 27 ≡ true) × (fits (both ws vs) ≡ true)
+  tests : (eqb (length ws) 27 ≡ true) × (eqb (length vs) 27 ≡ true) × (fitsWidths (both ws vs) ≡ true)
   unfolding joinBy
-  tests = past-tests (eqb (length ws) 27) (eqb (length vs) 27) (fits (both ws vs)) h
+  tests = past-tests (eqb (length ws) 27) (eqb (length vs) 27) (fitsWidths (both ws vs)) h
 
   full-first : Full (reportOf ws)
   full-first = full-of ws (eqb-true (length ws) 27 (tests .0))
@@ -145,7 +145,7 @@ words-assoc us vs ws a b c d =
     ∙ sym (done-words us (joinWords vs ws) d)
 
 -- "the empty report its unit", of every report that was written
-module _ (r : Report) (f : Full r) (h : fits r ≡ true) where
+module _ (r : Report) (f : Full r) (h : fitsWidths r ≡ true) where
   pub words-empty : joinWords (wordsOf r) (wordsOf empty) ≡ wordsOf r
   words-empty = join-words r empty f empty-full ∙ ap (λ (j : Joining). wordsOf (orKept r j)) (joined-empty r f h)
 

@@ -11,7 +11,7 @@ use lib.Seq.{take-at}
 use lib.Dec.{ltb}
 use Rattle.basis.specs.Members.{split, All}
 use Rattle.season.specs.declared.Own.{Own}
-use Rattle.season.specs.Report.{Report, Joining, whole, wide, sum, sums, files, moved, deeper, join, empty, fits, joined, orKept}
+use Rattle.season.specs.Report.{Report, Joining, whole, wide, sum, sums, files, moved, deeper, join, empty, fitsWidths, joinedReports, orKept}
 use Rattle.season.specs.Season.{adds, share, seasonFrom, season, NoWide, Known}
 use Rattle.season.specs.Laws.Sums.{sums-assoc, zero-sums, sums-zero, length-sums, sum-sums, getD-sums, sum-one, deeper-none, none-deeper, deeper-assoc}
 
@@ -47,13 +47,17 @@ files-empty = refl
 pub join-assoc : (r s t : Report) → Full r → Full s → join (join r s) t ≡ join r (join s t)
 unfolding join
 join-assoc r s t fr fs =
-    let c : sums (sums (r .counts) (s .counts)) (t .counts) ≡ sums (r .counts) (sums (s .counts) (t .counts)) = sums-assoc (r .counts) (s .counts) (t .counts) in
+    let c : sums (sums (r .counts) (s .counts)) (t .counts) ≡ sums (r .counts) (sums (s .counts) (t .counts)) =
+    sums-assoc (r .counts) (s .counts) (t .counts) in
     let f : files (join r s) ≡ files r + files s = files-join r s fr fs in
-    let d : deeper (files (join r s)) (deeper (files r) (r .deepest) (s .deepest)) (t .deepest) ≡ deeper (files r) (r .deepest) (deeper (files s) (s .deepest) (t .deepest)) =
-    ap (λ (n : ℕ). deeper n (deeper (files r) (r .deepest) (s .deepest)) (t .deepest)) f ∙ deeper-assoc (files r) (files s) (r .deepest) (s .deepest) (t .deepest) in
+    let d : deeper (files (join r s)) (deeper (files r) (r .deepest) (s .deepest)) (t .deepest)
+    ≡ deeper (files r) (r .deepest) (deeper (files s) (s .deepest) (t .deepest)) =
+    ap (λ (n : ℕ). deeper n (deeper (files r) (r .deepest) (s .deepest)) (t .deepest)) f
+    ∙ deeper-assoc (files r) (files s) (r .deepest) (s .deepest) (t .deepest) in
     reports c d
   where
-    reports : {c₁ c₂ : List ℕ} {d₁ d₂ : Option (ℕ × ℕ)} → c₁ ≡ c₂ → d₁ ≡ d₂ → _≡_ {A = Report} (record { counts = c₁; deepest = d₁ }) (record { counts = c₂; deepest = d₂ })
+    reports : {c₁ c₂ : List ℕ} {d₁ d₂ : Option (ℕ × ℕ)} → c₁ ≡ c₂ → d₁ ≡ d₂
+        → _≡_ {A = Report} (record { counts = c₁; deepest = d₁ }) (record { counts = c₂; deepest = d₂ })
     reports c d = cc
 
 pub join-empty : (r : Report) → Full r → join r empty ≡ r
@@ -85,13 +89,13 @@ unfoldable pub totalFrom : Report → List Own → Report
 totalFrom r [] = r
 totalFrom r (a ∷ xs) = totalFrom (join r (share a)) xs
 
-joined-whole : (r s : Report) → fits (join r s) ≡ true → joined r s ≡ whole (join r s)
-unfolding joined
-joined-whole r s h = rw (h, joined)
+joined-whole : (r s : Report) → fitsWidths (join r s) ≡ true → joinedReports r s ≡ whole (join r s)
+unfolding joinedReports
+joined-whole r s h = rw (h, joinedReports)
 
 -- without 14 the season is that
 pub season-total : (r : Report) (xs : List Own) → NoWide r xs → seasonFrom r xs ≡ totalFrom r xs
-unfolding seasonFrom totalFrom joined
+unfolding seasonFrom totalFrom joinedReports
 season-total r [] h = refl
 season-total r (a ∷ xs) h = ap (λ (j : Joining). seasonFrom (orKept r j) xs) (joined-whole r (share a) (h .0)) ∙ (season-total (join r (share a)) xs (h .1))
 
@@ -126,25 +130,25 @@ no-wide-left r [] ys h = tt
 no-wide-left r (a ∷ xs) ys h = (h .0, no-wide-left (join r (share a)) xs ys (h .1))
 
 -- the last report of files that got no 14 fits
-total-fits : (r : Report) (xs : List Own) → fits r ≡ true → NoWide r xs → fits (totalFrom r xs) ≡ true
+total-fits : (r : Report) (xs : List Own) → fitsWidths r ≡ true → NoWide r xs → fitsWidths (totalFrom r xs) ≡ true
 unfolding totalFrom
 total-fits r [] f h = f
 total-fits r (a ∷ xs) f h = total-fits (join r (share a)) xs (h .0) (h .1)
 
-empty-fits : fits empty ≡ true
-unfolding fits empty files
+empty-fits : fitsWidths empty ≡ true
+unfolding fitsWidths empty files
 empty-fits = refl
 
 -- "a season cut into two reports joined gives the report of the whole .. the joining rule is for seasons without 14"
-pub cut : (xs ys : List Own) → NoWide empty (xs ++ ys) → NoWide empty ys → joined (season xs) (season ys) ≡ whole (season (xs ++ ys))
+pub cut : (xs ys : List Own) → NoWide empty (xs ++ ys) → NoWide empty ys → joinedReports (season xs) (season ys) ≡ whole (season (xs ++ ys))
 unfolding season
 cut xs ys h k =
     let a : season xs ≡ totalFrom empty xs = season-total empty xs (no-wide-left empty xs ys h) in
     let b : season ys ≡ totalFrom empty ys = season-total empty ys k in
     let c : season (xs ++ ys) ≡ totalFrom empty (xs ++ ys) = season-total empty (xs ++ ys) h in
     let w : join (season xs) (season ys) ≡ season (xs ++ ys) = rw (a, b, c) (sym (total-cut xs ys)) in
-    let f : fits (season (xs ++ ys)) ≡ true = rw c (total-fits empty (xs ++ ys) empty-fits h) in
-    joined-whole (season xs) (season ys) (ap fits w ∙ f) ∙ ap whole w
+    let f : fitsWidths (season (xs ++ ys)) ≡ true = rw c (total-fits empty (xs ++ ys) empty-fits h) in
+    joined-whole (season xs) (season ys) (ap fitsWidths w ∙ f) ∙ ap whole w
 
 -- "Done and all refusals add up to the files"
 files-from : (r : Report) (xs : List Own) → Full r → All Known xs → files (totalFrom r xs) ≡ files r + length xs
@@ -160,7 +164,8 @@ unfolding season
 files-season xs h k = rw (season-total empty xs h) (files-from empty xs empty-full k ∙ rw files-empty (omega arith))
 
 -- "each total is the sum over the files' own answers": count n
-count-from : (n : ℕ) (r : Report) (xs : List Own) → Full r → getD (totalFrom r xs .counts) n 0 ≡ getD (r .counts) n 0 + sum (map (λ a. getD (share a .counts) n 0) xs)
+count-from : (n : ℕ) (r : Report) (xs : List Own) → Full r → getD (totalFrom r xs .counts) n 0 ≡ getD (r .counts) n 0
+    + sum (map (λ a. getD (share a .counts) n 0) xs)
 unfolding totalFrom
 count-from n r [] f = omega arith
 count-from n r (a ∷ xs) f =
@@ -195,7 +200,8 @@ share-named a h =
 total-named : (r : Report) (xs : List Own) → Full r → Named (files r) (r .deepest) → All Known xs → Named (files (totalFrom r xs)) (totalFrom r xs .deepest)
 unfolding totalFrom
 total-named r [] f h k = h
-total-named r (a ∷ xs) f h k = total-named (join r (share a)) xs (join-full r (share a) f (share-full a)) (join-named r (share a) f (share-full a) h (share-named a (k .0))) (k .1)
+total-named r (a ∷ xs) f h k =
+    total-named (join r (share a)) xs (join-full r (share a) f (share-full a)) (join-named r (share a) f (share-full a) h (share-named a (k .0))) (k .1)
 
 empty-named : Named (files empty) (empty .deepest)
 unfolding empty

@@ -37,7 +37,8 @@ number-put l m k i e q h f = f ∙ rw (q, e) (set-left (replicate 19 0) (replica
 
 -- ---- the counts
 
-pub graph-via : (l l1 l2 l3 l4 : List ℕ) (a : Own) → l1 ≡ set l 19 (a .nodes) → l2 ≡ set l1 20 (a .edges) → l3 ≡ set l2 21 (a .groups) → l4 ≡ set l3 22 (a .missing) → l4 ≡ graphPut l a
+pub graph-via : (l l1 l2 l3 l4 : List ℕ) (a : Own) → l1 ≡ set l 19 (a .nodes) → l2 ≡ set l1 20 (a .edges) → l3 ≡ set l2 21 (a .groups)
+    → l4 ≡ set l3 22 (a .missing) → l4 ≡ graphPut l a
 unfolding graphPut
 graph-via l l1 l2 l3 l4 a e f g h = rw (h, g, f, e)
 
@@ -98,14 +99,16 @@ module _ (a : Own) (l : List ℕ) (t : Bool) (e : l ≡ numberPut (a .number)) (
   pub share-bare : not t ≡ true → l ≡ shareWords a
   unfolding numberPut share wordsOf
   share-bare n =
-      e ∙ row-bare (set (replicate 19 0) (a .number) 1) (a .nodes) (a .edges) (a .groups) (a .missing) (a .lines) (a .depth) (adds (a .number)) (sym q ∙ not-true t n)
+      e ∙ row-bare (set (replicate 19 0) (a .number) 1) (a .nodes) (a .edges) (a .groups) (a .missing) (a .lines) (a .depth) (adds (a .number)) (sym q
+      ∙ not-true t n)
 
   pub share-whole : (m n : List ℕ) → m ≡ graphPut l a → n ≡ textPut m a → not t ≡ false → n ≡ shareWords a
   unfolding numberPut share wordsOf
   share-whole m n f g b =
       g ∙ ap (λ (x : List ℕ). textPut x a) (f ∙ ap (λ (x : List ℕ). graphPut x a) e)
       ∙ counts-are (set (replicate 19 0) (a .number) 1) (row-long (a .number)) a
-      ∙ row-whole (set (replicate 19 0) (a .number) 1) (a .nodes) (a .edges) (a .groups) (a .missing) (a .lines) (a .depth) (adds (a .number)) (sym q ∙ not-false t b)
+      ∙ row-whole (set (replicate 19 0) (a .number) 1) (a .nodes) (a .edges) (a .groups) (a .missing) (a .lines) (a .depth) (adds (a .number)) (sym q
+      ∙ not-false t b)
 
 -- ---- the file joined
 

@@ -119,7 +119,8 @@ files-one ws i h = ap sum (take-suc ws i 0 h) ∙ sum-snoc (take i ws) (getD ws 
 
 files-more : (ws : List ℕ) (i k : ℕ) → i + k ≤ length ws → filesIn ws i ≤ filesIn ws (i + k)
 files-more ws i zero h = let z : i + 0 ≡ i = omega arith in rw z (omega arith)
-files-more ws i (suc k) h = let z : i + suc k ≡ suc (i + k) = omega arith in rw z (omega (arith, files-more ws i k (omega arith), files-one ws (i + k) (omega arith)))
+files-more ws i (suc k) h =
+    let z : i + suc k ≡ suc (i + k) = omega arith in rw z (omega (arith, files-more ws i k (omega arith), files-one ws (i + k) (omega arith)))
 
 pub files-start : (ws : List ℕ) → 0 ≡ filesIn ws 0
 unfolding filesIn
@@ -137,7 +138,8 @@ module _ (ws : List ℕ) (i s a : ℕ) (inv : s ≡ filesIn ws i) (full : length
       let n : 18446744073709551616 ≤ filesIn ws 19 = omega (arith, files-one ws i (omega arith)) in
       rw (le-ltb (filesIn ws 19) 18446744073709551616 n, totalOf)
 
-pub files-end : (ws : List ℕ) (i s : ℕ) → s ≡ filesIn ws i → i ≤ 19 → 19 ≤ i → s ≤ 18446744073709551615 → record { ok = true; value = s } ≡ totalOf (filesIn ws 19)
+pub files-end : (ws : List ℕ) (i s : ℕ) → s ≡ filesIn ws i → i ≤ 19 → 19 ≤ i → s ≤ 18446744073709551615
+    → record { ok = true; value = s } ≡ totalOf (filesIn ws 19)
 unfolding totalOf
 files-end ws i s e h l g =
     let z : i ≡ 19 = omega arith in
@@ -150,11 +152,13 @@ narrow-pair : (d f : ℕ) → d ≤ 18446744073709551615 → f ≤ 1844674407370
 unfolding deepOf
 narrow-pair d f h g = rw (lt-ltb d 18446744073709551616 (omega arith), all, lt-ltb f 18446744073709551616 (omega arith), all, deepOf)
 
-pub later-wide : (d f n : ℕ) → 18446744073709551615 - n < f → n ≤ 18446744073709551615 → d ≤ 18446744073709551615 → record { ok = false; depth = 0; first = 0; named = 0 } ≡ deepOf (some (d, n + f))
+pub later-wide : (d f n : ℕ) → 18446744073709551615 - n < f → n ≤ 18446744073709551615 → d ≤ 18446744073709551615
+    → record { ok = false; depth = 0; first = 0; named = 0 } ≡ deepOf (some (d, n + f))
 unfolding deepOf
 later-wide d f n h l g = rw (lt-ltb d 18446744073709551616 (omega arith), all, le-ltb (n + f) 18446744073709551616 (omega arith), all, deepOf)
 
-pub later-fits : (d f n : ℕ) → f ≤ 18446744073709551615 - n → n ≤ 18446744073709551615 → d ≤ 18446744073709551615 → record { ok = true; depth = d; first = n + f; named = 1 } ≡ deepOf (some (d, n + f))
+pub later-fits : (d f n : ℕ) → f ≤ 18446744073709551615 - n → n ≤ 18446744073709551615 → d ≤ 18446744073709551615
+    → record { ok = true; depth = d; first = n + f; named = 1 } ≡ deepOf (some (d, n + f))
 later-fits d f n h l g = narrow-pair d (n + f) g (omega arith)
 
 in-none : (ws : List ℕ) → getD ws 26 0 ≡ 0 → deepIn ws ≡ none
@@ -180,7 +184,8 @@ module _ (ws vs : List ℕ) (n a b : ℕ) (qa : a ≡ getD ws 26 0) (qb : b ≡ 
     some-first : (a ≡ 0 → ⊥) → deepIn ws ≡ some (d, f)
     some-first x = in-some ws (λ z. x (qa ∙ z)) ∙ sym (ap (λ (k : ℕ). some (k, f)) qd ∙ ap (λ (k : ℕ). some (getD ws 24 0, k)) qf)
 
-    pub deep-first : b ≡ 0 → (a ≡ 0 → ⊥) → d ≤ 18446744073709551615 → f ≤ 18446744073709551615 → record { ok = true; depth = d; first = f; named = 1 } ≡ deepOf (deeper n (deepIn ws) (deepIn vs))
+    pub deep-first : b ≡ 0 → (a ≡ 0 → ⊥) → d ≤ 18446744073709551615 → f ≤ 18446744073709551615
+        → record { ok = true; depth = d; first = f; named = 1 } ≡ deepOf (deeper n (deepIn ws) (deepIn vs))
     deep-first y x h g = by-two (some (d, f)) none _ (some-first x) (in-none vs (sym qb ∙ y)) (narrow-pair d f h g)
 
   module _ (e g : ℕ) (qe : e ≡ getD vs 24 0) (qg : g ≡ getD vs 25 0) where
@@ -194,5 +199,7 @@ module _ (ws vs : List ℕ) (n a b : ℕ) (qa : a ≡ getD ws 26 0) (qb : b ≡ 
       pub deep-more : (r : Deep) → d < e → (a ≡ 0 → ⊥) → (b ≡ 0 → ⊥) → r ≡ deepOf (some (e, n + g)) → r ≡ deepOf (deeper n (deepIn ws) (deepIn vs))
       deep-more r l x y h = by-two (some (d, f)) (some (e, g)) r (some-first d f qd qf x) (some-second y) (h ∙ ap deepOf (sym (rw (lt-ltb d e l, deeper) refl)))
 
-      pub deep-less : e ≤ d → (a ≡ 0 → ⊥) → (b ≡ 0 → ⊥) → d ≤ 18446744073709551615 → f ≤ 18446744073709551615 → record { ok = true; depth = d; first = f; named = 1 } ≡ deepOf (deeper n (deepIn ws) (deepIn vs))
-      deep-less l x y h k = by-two (some (d, f)) (some (e, g)) _ (some-first d f qd qf x) (some-second y) (narrow-pair d f h k ∙ ap deepOf (sym (rw (le-ltb d e l, deeper) refl)))
+      pub deep-less : e ≤ d → (a ≡ 0 → ⊥) → (b ≡ 0 → ⊥) → d ≤ 18446744073709551615 → f ≤ 18446744073709551615
+          → record { ok = true; depth = d; first = f; named = 1 } ≡ deepOf (deeper n (deepIn ws) (deepIn vs))
+      deep-less l x y h k =
+          by-two (some (d, f)) (some (e, g)) _ (some-first d f qd qf x) (some-second y) (narrow-pair d f h k ∙ ap deepOf (sym (rw (le-ltb d e l, deeper) refl)))

@@ -10,7 +10,7 @@ use borrow.Author.Tests.{le-leb, lt-leb, leb-true, leb-false, eq-eqb, ne-eqb, eq
 use Rattle.basis.specs.Lists.{any}
 use Rattle.basis.specs.Guard.{guard}
 use Rattle.basis.specs.Members.{split, no-both, All, In, any-some, all-in}
-use Rattle.settings.specs.Settings.{Row, row, table, fits, fitsRow, lowestIn, lowest, knowsRow, knows, newestIn}
+use Rattle.settings.specs.Settings.{Row, row, table, fitsContent, fitsRow, lowestIn, lowest, knowsRow, knows, newestIn}
 
 -- what a passed chain of tests tells
 pub guard-on : {X : Type 0} (b : Bool) (bad on r : X) → (bad ≡ r → ⊥) → guard b bad on ≡ r → (b ≡ true) × (on ≡ r)
@@ -18,8 +18,8 @@ unfolding guard
 guard-on true bad on r n e = (refl, e)
 guard-on false bad on r n e = absurd (n e)
 
-pub fits-is : (s c n l h : ℕ) → fits s c n l h ≡ true → (s ≡ n) × (l ≤ c) × (c ≤ h)
-unfolding fits
+pub fits-is : (s c n l h : ℕ) → fitsContent s c n l h ≡ true → (s ≡ n) × (l ≤ c) × (c ≤ h)
+unfolding fitsContent
 fits-is s c n l h e =
     let a = guard-on (eqb s n) false _ true false≢true e in
     let b = guard-on (leb l c) false _ true false≢true (a .1) in

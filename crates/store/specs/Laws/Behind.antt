@@ -41,8 +41,10 @@ module _ (g : List ℕ) (s : Size) (x : ConflictNode) (w : ℕ) (S : Stored g s)
   place-is i q =
       let c : length (graphIn g s .nodes) ≡ s .nodes = nodes-count g s S in
       let z : 0 + length (graphIn g s .nodes) ≡ s .nodes = omega arith in
-      let u : placed (place (sameNode x) (graphIn g s .nodes) 0) (0 + length (graphIn g s .nodes)) ≡ 0 + numberOf (graphIn g s .nodes) x = place-number x (graphIn g s .nodes) 0 in
-      let v : placed (place (sameNode x) (graphIn g s .nodes) 0) (s .nodes) ≡ numberOf (graphIn g s .nodes) x = ap (placed (place (sameNode x) (graphIn g s .nodes) 0)) (sym z) ∙ u ∙ omega arith in
+      let u : placed (place (sameNode x) (graphIn g s .nodes) 0) (0 + length (graphIn g s .nodes)) ≡ 0 + numberOf (graphIn g s .nodes) x =
+      place-number x (graphIn g s .nodes) 0 in
+      let v : placed (place (sameNode x) (graphIn g s .nodes) 0) (s .nodes) ≡ numberOf (graphIn g s .nodes) x =
+      ap (placed (place (sameNode x) (graphIn g s .nodes) 0)) (sym z) ∙ u ∙ omega arith in
       q ∙ ap (λ (o : Option ℕ). placed o (s .nodes)) (sym (sought g s x w S e)) ∙ v
 
   -- a node that is not there is not found
@@ -55,7 +57,8 @@ module _ (g : List ℕ) (s : Size) (x : ConflictNode) (w : ℕ) (S : Stored g s)
 
   -- ---- a node behind the others; h is the table that the entry left
 
-  module _ (h : List ℕ) (q : h ≡ entered (set g (1024 + s .nodes) (w + 262144 * s .hand)) w (s .nodes + 1)) (l : s .nodes < 128) (n : s .nodes ≤ numberOf (graphIn g s .nodes) x) (b : s .hand < 65536) where
+  module _ (h : List ℕ) (q : h ≡ entered (set g (1024 + s .nodes) (w + 262144 * s .hand)) w (s .nodes + 1)) (l : s .nodes < 128) (n : s .nodes
+      ≤ numberOf (graphIn g s .nodes) x) (b : s .hand < 65536) where
     pub pushed-node : graphIn h (oneNode s) ≡ withNode (graphIn g s) x
     pushed-node = rw q (wider g s x w S e (s .nodes) (not-there n) l b)
 
@@ -66,7 +69,8 @@ pub ruleset pushes-node = (pushed-node, stored-node)
 
 -- ---- an edge behind the others; n is the entry that stands at its place
 
-module _ (g : List ℕ) (s : Size) (e : Edge) (w n : ℕ) (E : EdgeWord e w) (S : Stored g s) (b : n ≡ getD g (s .edges) 0 / 72057594037927936) (l : s .edges < 1024) where
+module _ (g : List ℕ) (s : Size) (e : Edge) (w n : ℕ) (E : EdgeWord e w) (S : Stored g s) (b : n ≡ getD g (s .edges) 0 / 72057594037927936) (l : s .edges
+    < 1024) where
   pub pushed-edge : graphIn (set g (s .edges) (w + 72057594037927936 * n)) (oneEdge s) ≡ withEdge (graphIn g s) e
   pushed-edge = rw b (more-edges g s e w S E l)
 

@@ -131,7 +131,8 @@ pub ruleset enters = (entered-past, entered-even, entered-put)
 
 -- ---- the promise about it, where entries and nodes stay
 
-pub direct-same : (g h : List ℕ) (n : ℕ) → Direct g n → ((k : ℕ) → k < 1024 → entryAt h k ≡ entryAt g k) → ((i : ℕ) → getD h (1024 + i) 0 ≡ getD g (1024 + i) 0) → Direct h n
+pub direct-same : (g h : List ℕ) (n : ℕ) → Direct g n → ((k : ℕ) → k < 1024 → entryAt h k ≡ entryAt g k) → ((i : ℕ) → getD h (1024 + i) 0 ≡ getD g (1024 + i) 0)
+    → Direct h n
 direct-same g h n D p q =
     record {
       told = λ i k l m e. p k m ∙ D .told i k l m (ap low (sym (q i)) ∙ e);

@@ -77,7 +77,8 @@ module _ (g : List ℕ) (s : Size) (c e : ℕ) (P : Growing g s) (q : e ≡ know
   pub known-node : addNodeIn (graphIn g s) (N.Solvable c) ≡ addedTo (e - 1) (graphIn g s)
   unfolding graphIn
   known-node =
-      sym (node-at g g s (N.Solvable c) (e - 1) (add-old g s (N.Solvable c) (1 + 4 * c) P word (e - 1) found known-below) (s .nodes) known-small (more-old (s .nodes) (e - 1) known-below))
+      sym (node-at g g s (N.Solvable c) (e - 1) (add-old g s (N.Solvable c) (1 + 4 * c) P word (e - 1) found known-below) (s .nodes) known-small
+      (more-old (s .nodes) (e - 1) known-below))
 
 -- ---- an edge, answered by whether there was no room
 
@@ -142,16 +143,22 @@ new-full-grows h s j P b = rw (linked-full s (s .nodes) 2 (omega arith) (omega a
 
 -- j′ is the number as a byte, b what adding the edge answered
 module _ (g h m : List ℕ) (s : Size) (y : ConflictNode) (w : ConflictEdge) (i j j′ n : ℕ) (b : Bool) where
-  edge-said : addedIn h (putAt s j) ≡ addNodeIn (graphIn g s) y → j < 128 → n ≡ more (s .nodes) j → addedIn m (edgeBy (withNodes s n) b) ≡ addEdgeIn (graphIn h (withNodes s n)) (record { source = i; target = j′; weight = w; clause = s .hand }) → j′ ≡ j → addedIn m (edgeBy (withNodes s n) b) ≡ addTarget (graphIn g s) i y w
+  edge-said : addedIn h (putAt s j) ≡ addNodeIn (graphIn g s) y → j < 128 → n ≡ more (s .nodes) j
+      → addedIn m (edgeBy (withNodes s n) b) ≡ addEdgeIn (graphIn h (withNodes s n)) (record { source = i; target = j′; weight = w; clause = s .hand }) → j′ ≡ j
+      → addedIn m (edgeBy (withNodes s n) b) ≡ addTarget (graphIn g s) i y w
   edge-said p l q o e = target-edge g h s y j p y w m (edgeBy (withNodes s n) b) n i j′ l q o e
 
-  pub new-stop : addedIn h (putAt s j) ≡ addNodeIn (graphIn g s) y → j < 128 → n ≡ more (s .nodes) j → addedIn m (edgeBy (withNodes s n) b) ≡ addEdgeIn (graphIn h (withNodes s n)) (record { source = i; target = j′; weight = w; clause = s .hand }) → j′ ≡ j → b ≡ true → addedIn m (linkedBy s (2 + (n - s .nodes))) ≡ addTarget (graphIn g s) i y w
+  pub new-stop : addedIn h (putAt s j) ≡ addNodeIn (graphIn g s) y → j < 128 → n ≡ more (s .nodes) j
+      → addedIn m (edgeBy (withNodes s n) b) ≡ addEdgeIn (graphIn h (withNodes s n)) (record { source = i; target = j′; weight = w; clause = s .hand }) → j′ ≡ j
+      → b ≡ true → addedIn m (linkedBy s (2 + (n - s .nodes))) ≡ addTarget (graphIn g s) i y w
   unfolding edgeBy
   new-stop p l q o e t =
       let z : addedIn m (edgeBy (withNodes s n) b) ≡ addTarget (graphIn g s) i y w = edge-said p l q o e in
       rw (linked-full s n (2 + (n - s .nodes)) refl (added-least (s .nodes) j n q)) (rw t at z)
 
-  pub new-on : addedIn h (putAt s j) ≡ addNodeIn (graphIn g s) y → j < 128 → n ≡ more (s .nodes) j → addedIn m (edgeBy (withNodes s n) b) ≡ addEdgeIn (graphIn h (withNodes s n)) (record { source = i; target = j′; weight = w; clause = s .hand }) → j′ ≡ j → b ≡ false → addedIn m (linkedBy s (n - s .nodes)) ≡ addTarget (graphIn g s) i y w
+  pub new-on : addedIn h (putAt s j) ≡ addNodeIn (graphIn g s) y → j < 128 → n ≡ more (s .nodes) j
+      → addedIn m (edgeBy (withNodes s n) b) ≡ addEdgeIn (graphIn h (withNodes s n)) (record { source = i; target = j′; weight = w; clause = s .hand }) → j′ ≡ j
+      → b ≡ false → addedIn m (linkedBy s (n - s .nodes)) ≡ addTarget (graphIn g s) i y w
   unfolding edgeBy
   new-on p l q o e t =
       let z : addedIn m (edgeBy (withNodes s n) b) ≡ addTarget (graphIn g s) i y w = edge-said p l q o e in
@@ -173,17 +180,23 @@ pub ruleset new-grows = (new-full-grows, new-stop-grows, new-on-grows)
 -- ---- a link to a node that is there: e is its entry
 
 module _ (g m : List ℕ) (s : Size) (w : ConflictEdge) (i c e j′ : ℕ) (b : Bool) where
-  known-said : Growing g s → e ≡ knownAt g c → (e ≡ 0 → ⊥) → addedIn m (edgeBy s b) ≡ addEdgeIn (graphIn g s) (record { source = i; target = j′; weight = w; clause = s .hand }) → j′ ≡ e - 1 → addedIn m (edgeBy s b) ≡ addTarget (graphIn g s) i (N.Solvable c) w
+  known-said : Growing g s → e ≡ knownAt g c → (e ≡ 0 → ⊥) → addedIn m (edgeBy s b)
+      ≡ addEdgeIn (graphIn g s) (record { source = i; target = j′; weight = w; clause = s .hand }) → j′ ≡ e - 1
+      → addedIn m (edgeBy s b) ≡ addTarget (graphIn g s) i (N.Solvable c) w
   unfolding addTarget graphIn
   known-said P q d o z = rw (known-node g s c e P q d, addTarget) (rw z at o)
 
-  pub known-stop : Growing g s → e ≡ knownAt g c → (e ≡ 0 → ⊥) → addedIn m (edgeBy s b) ≡ addEdgeIn (graphIn g s) (record { source = i; target = j′; weight = w; clause = s .hand }) → j′ ≡ e - 1 → b ≡ true → addedIn m (linkedBy s 2) ≡ addTarget (graphIn g s) i (N.Solvable c) w
+  pub known-stop : Growing g s → e ≡ knownAt g c → (e ≡ 0 → ⊥) → addedIn m (edgeBy s b)
+      ≡ addEdgeIn (graphIn g s) (record { source = i; target = j′; weight = w; clause = s .hand }) → j′ ≡ e - 1 → b ≡ true
+      → addedIn m (linkedBy s 2) ≡ addTarget (graphIn g s) i (N.Solvable c) w
   unfolding edgeBy graphIn
   known-stop P q d o z t =
       let y : addedIn m (edgeBy s b) ≡ addTarget (graphIn g s) i (N.Solvable c) w = known-said P q d o z in
       rw (linked-full s (s .nodes) 2 (omega arith) (omega arith)) (rw t at y)
 
-  pub known-on : Growing g s → e ≡ knownAt g c → (e ≡ 0 → ⊥) → addedIn m (edgeBy s b) ≡ addEdgeIn (graphIn g s) (record { source = i; target = j′; weight = w; clause = s .hand }) → j′ ≡ e - 1 → b ≡ false → addedIn m (linkedBy s 0) ≡ addTarget (graphIn g s) i (N.Solvable c) w
+  pub known-on : Growing g s → e ≡ knownAt g c → (e ≡ 0 → ⊥) → addedIn m (edgeBy s b)
+      ≡ addEdgeIn (graphIn g s) (record { source = i; target = j′; weight = w; clause = s .hand }) → j′ ≡ e - 1 → b ≡ false
+      → addedIn m (linkedBy s 0) ≡ addTarget (graphIn g s) i (N.Solvable c) w
   unfolding edgeBy
   known-on P q d o z t =
       let y : addedIn m (edgeBy s b) ≡ addTarget (graphIn g s) i (N.Solvable c) w = known-said P q d o z in
@@ -318,7 +331,8 @@ on-edge g h x e i m p q =
     rw (← u) (at-place-again (withEdge g e) x i (is-placed g x i p)))
     (λ t. let z : fullAt g ≡ addedTo m h = rw t at q in clash (cc))
 
-pub known-keeps : (g h : Graph) (x y : ConflictNode) (w : ConflictEdge) (i m : ℕ) → addNodeIn g x ≡ addedTo i g → addTarget g i y w ≡ addedTo m h → addNodeIn h x ≡ addedTo i h
+pub known-keeps : (g h : Graph) (x y : ConflictNode) (w : ConflictEdge) (i m : ℕ) → addNodeIn g x ≡ addedTo i g → addTarget g i y w ≡ addedTo m h
+    → addNodeIn h x ≡ addedTo i h
 unfolding addTarget
 known-keeps g h x y w i m p e = go (addNodeIn g y) refl
   where

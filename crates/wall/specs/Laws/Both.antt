@@ -11,8 +11,8 @@ use lib.Dec.{leb, ltb, eqb}
 use borrow.Author.Tests.{lt-ltb, ltb-true, eq-eqb, ne-eqb, eqb-true}
 use Rattle.basis.specs.Guard.{guard}
 use Rattle.basis.specs.Members.{split, clash, All}
-use Rattle.wall.specs.Lines.{Label, Edge, decimal, nodeLine, hashLine, edgeLine, nodeLines, linesOf, joined, written, LabelGood, EdgeGood, TextGood}
-use Rattle.wall.specs.Read.{numberAt, labelAt, nodeAt, endAt, edgeAt, Outcome, good, bad, andNode, andEdge, edgesFrom, hashAt, nodesFrom, readText}
+use Rattle.wall.specs.Lines.{Label, WallEdge, decimal, nodeLine, hashLine, edgeLine, nodeLines, linesOf, joined, written, LabelGood, EdgeGood, TextGood}
+use Rattle.wall.specs.Read.{numberAt, labelAt, nodeLineAt, endAt, edgeAt, WallText, good, bad, andNode, andEdge, edgesFrom, hashAt, nodesFrom, readText}
 use Rattle.wall.specs.Laws.Numbers.{absurd-none, some-is, guard-some, option, number-sound, number-complete, number-first}
 use Rattle.wall.specs.Laws.Labels.{label-sound, label-complete}
 
@@ -24,7 +24,7 @@ node-then i x r =
     append-assoc (decimal i) (32 ∷ (x ++ (10 ∷ []))) r
     ∙ ap (λ (l : List ℕ). decimal i ++ (32 ∷ l)) (append-assoc x (10 ∷ []) r)
 
-edge-then : (e : Edge) (r : List ℕ) → edgeLine e ++ r ≡ decimal (e .source) ++ (32 ∷ (decimal (e .target) ++ (32 ∷ (e .label ++ (10 ∷ r)))))
+edge-then : (e : WallEdge) (r : List ℕ) → edgeLine e ++ r ≡ decimal (e .source) ++ (32 ∷ (decimal (e .target) ++ (32 ∷ (e .label ++ (10 ∷ r)))))
 unfolding edgeLine
 edge-then e r =
     append-assoc (decimal (e .source)) (32 ∷ (decimal (e .target) ++ (32 ∷ (e .label ++ (10 ∷ []))))) r
@@ -34,20 +34,20 @@ edge-then e r =
 
 -- ---- one line
 
-pub node-sound : (i : ℕ) (s : List ℕ) (x : Label) (r : List ℕ) → nodeAt i s ≡ some (x, r) → LabelGood x × (s ≡ nodeLine i x ++ r)
-unfolding nodeAt
+pub node-sound : (i : ℕ) (s : List ℕ) (x : Label) (r : List ℕ) → nodeLineAt i s ≡ some (x, r) → LabelGood x × (s ≡ nodeLine i x ++ r)
+unfolding nodeLineAt
 node-sound i s x r h =
     option (numberAt s)
-    (λ z. absurd-none (x, r) (rw (z, nodeAt) at h))
-    (λ p z. let g = guard-some (eqb (p .0) i) (labelAt (p .1)) (x, r) (rw (z, nodeAt) at h) in
+    (λ z. absurd-none (x, r) (rw (z, nodeLineAt) at h))
+    (λ p z. let g = guard-some (eqb (p .0) i) (labelAt (p .1)) (x, r) (rw (z, nodeLineAt) at h) in
     let n = number-sound s (p .0) (p .1) z in
     let l = label-sound (p .1) x r (g .1) in
     (l .0, n .0 ∙ rw (eqb-true (p .0) i (g .0), l .1) (sym (node-then i x r))))
 
-pub node-complete : (i : ℕ) (x : Label) (r : List ℕ) → i < 1000 → LabelGood x → nodeAt i (nodeLine i x ++ r) ≡ some (x, r)
-unfolding nodeAt guard
+pub node-complete : (i : ℕ) (x : Label) (r : List ℕ) → i < 1000 → LabelGood x → nodeLineAt i (nodeLine i x ++ r) ≡ some (x, r)
+unfolding nodeLineAt guard
 node-complete i x r h g =
-    rw (node-then i x r, number-complete i (x ++ (10 ∷ r)) h, nodeAt, eq-eqb i i refl) (label-complete x r g)
+    rw (node-then i x r, number-complete i (x ++ (10 ∷ r)) h, nodeLineAt, eq-eqb i i refl) (label-complete x r g)
 
 end-sound : (m : ℕ) (s : List ℕ) (n : ℕ) (r : List ℕ) → endAt m s ≡ some (n, r) → (n < m) × (s ≡ decimal n ++ (32 ∷ r))
 unfolding endAt
@@ -63,7 +63,7 @@ end-complete : (m n : ℕ) (r : List ℕ) → m ≤ 1000 → n < m → endAt m (
 unfolding endAt guard
 end-complete m n r l h = rw (number-complete n r (omega arith), endAt, lt-ltb n m h)
 
-pub edge-sound : (m : ℕ) (s : List ℕ) (e : Edge) (r : List ℕ) → edgeAt m s ≡ some (e, r) → EdgeGood m e × (s ≡ edgeLine e ++ r)
+pub edge-sound : (m : ℕ) (s : List ℕ) (e : WallEdge) (r : List ℕ) → edgeAt m s ≡ some (e, r) → EdgeGood m e × (s ≡ edgeLine e ++ r)
 unfolding edgeAt
 edge-sound m s e r h =
     option (endAt m s)
@@ -80,14 +80,14 @@ edge-sound m s e r h =
     let c = label-sound (q .1) (l .0) (l .1) w in
     let ve : record { source = p .0; target = q .0; label = l .0 } ≡ e = ap (λ t. t .0) v in
     let vr : l .1 ≡ r = ap (λ t. t .1) v in (
-      subst (λ (e : Edge). EdgeGood m e) ve (record { source = a .0; target = b .0; label = c .0 }),
+      subst (λ (e : WallEdge). EdgeGood m e) ve (record { source = a .0; target = b .0; label = c .0 }),
       a .1
           ∙ ap (λ (t : List ℕ). decimal (p .0) ++ (32 ∷ t)) (b .1 ∙ ap (λ (t : List ℕ). decimal (q .0) ++ (32 ∷ t)) (c .1))
           ∙ sym (edge-then (record { source = p .0; target = q .0; label = l .0 }) (l .1))
-          ∙ ap (λ (t : Edge × List ℕ). edgeLine (t .0) ++ t .1) v,
+          ∙ ap (λ (t : WallEdge × List ℕ). edgeLine (t .0) ++ t .1) v,
     ))))
 
-pub edge-complete : (m : ℕ) (e : Edge) (r : List ℕ) → m ≤ 1000 → EdgeGood m e → edgeAt m (edgeLine e ++ r) ≡ some (e, r)
+pub edge-complete : (m : ℕ) (e : WallEdge) (r : List ℕ) → m ≤ 1000 → EdgeGood m e → edgeAt m (edgeLine e ++ r) ≡ some (e, r)
 unfolding edgeAt
 edge-complete m e r l g =
     rw (
@@ -100,35 +100,35 @@ edge-complete m e r l g =
 
 -- ---- the edges
 
-edge-none : (m : ℕ) (p : Edge × List ℕ) {X : Type 0} → edgeAt m [] ≡ some p → X
+edge-none : (m : ℕ) (p : WallEdge × List ℕ) {X : Type 0} → edgeAt m [] ≡ some p → X
 unfolding edgeAt endAt numberAt
 edge-none m p h = absurd-none p h
 
-edges-step : (k m n : ℕ) (s : List ℕ) (p : Edge × List ℕ) → edgeAt m s ≡ some p → edgesFrom (suc k) m n s ≡ andEdge (p .0) (edgesFrom k m (suc n) (p .1))
+edges-step : (k m n : ℕ) (s : List ℕ) (p : WallEdge × List ℕ) → edgeAt m s ≡ some p → edgesFrom (suc k) m n s ≡ andEdge (p .0) (edgesFrom k m (suc n) (p .1))
 unfolding edgesFrom
 edges-step k m n [] p h = edge-none m p h
 edges-step k m n (c ∷ s) p h = rw (h, edgesFrom)
 
 -- a good outcome with one more at the front was good
-and-edge : (e : Edge) (o : Outcome) (ns : List Label) (es : List Edge) → andEdge e o ≡ good ns es
-    → (fs : List Edge) × (o ≡ good ns fs) × (es ≡ e ∷ fs)
+and-edge : (e : WallEdge) (o : WallText) (ns : List Label) (es : List WallEdge) → andEdge e o ≡ good ns es
+    → (fs : List WallEdge) × (o ≡ good ns fs) × (es ≡ e ∷ fs)
 and-edge e (good ms fs) ns es h = (fs, cc, cc)
 and-edge e (bad n) ns es h = clash (cc)
 
-and-node : (x : Label) (o : Outcome) (ns : List Label) (es : List Edge) → andNode x o ≡ good ns es
+and-node : (x : Label) (o : WallText) (ns : List Label) (es : List WallEdge) → andNode x o ≡ good ns es
     → (ms : List Label) × (o ≡ good ms es) × (ns ≡ x ∷ ms)
 and-node x (good ms fs) ns es h = (ms, cc, cc)
 and-node x (bad n) ns es h = clash (cc)
 
-abbrev pub EdgesRead : ℕ → ℕ → List ℕ → List Label → List Edge → Type 0
+abbrev pub EdgesRead : ℕ → ℕ → List ℕ → List Label → List WallEdge → Type 0
 EdgesRead k m s ns es = (ns ≡ []) × (s ≡ joined (map edgeLine es)) × (length es ≤ k) × All (EdgeGood m) es
 
-edges-none : (k m : ℕ) (ns : List Label) (es : List Edge) → good [] [] ≡ good ns es → EdgesRead k m [] ns es
+edges-none : (k m : ℕ) (ns : List Label) (es : List WallEdge) → good [] [] ≡ good ns es → EdgesRead k m [] ns es
 edges-none k m ns es h =
     let a : ns ≡ [] = cc in let b : es ≡ [] = cc in
     (a, rw b, rw b (omega arith), rw b tt)
 
-pub edges-sound : (k m n : ℕ) (s : List ℕ) (ns : List Label) (es : List Edge) → edgesFrom k m n s ≡ good ns es → EdgesRead k m s ns es
+pub edges-sound : (k m n : ℕ) (s : List ℕ) (ns : List Label) (es : List WallEdge) → edgesFrom k m n s ≡ good ns es → EdgesRead k m s ns es
 unfolding edgesFrom
 edges-sound zero m n [] ns es h = edges-none zero m ns es h
 edges-sound zero m n (c ∷ s) ns es h = clash (cc)
@@ -142,7 +142,7 @@ edges-sound (suc k) m n (c ∷ s) ns es h =
     let v : es ≡ p .0 ∷ e .0 = e .2 in
     (ih .0, rw v (g .1 ∙ ap (λ (t : List ℕ). edgeLine (p .0) ++ t) (ih .1)), rw v (omega (arith, ih .2)), rw v (g .0, ih .3)))
 
-edges-complete : (k m n : ℕ) (es : List Edge) → m ≤ 1000 → length es ≤ k → All (EdgeGood m) es → edgesFrom k m n (joined (map edgeLine es)) ≡ good [] es
+edges-complete : (k m n : ℕ) (es : List WallEdge) → m ≤ 1000 → length es ≤ k → All (EdgeGood m) es → edgesFrom k m n (joined (map edgeLine es)) ≡ good [] es
 unfolding edgesFrom
 edges-complete zero m n [] l h a = refl
 edges-complete zero m n (e ∷ es) l h a = let z : ⊥ = omega arith in absurd z
@@ -167,13 +167,13 @@ unfolding hashAt guard
 hash-here t = refl
 
 -- a line of a node is no line with #
-pub hash-node : (i : ℕ) (s : List ℕ) (p : Label × List ℕ) → nodeAt i s ≡ some p → hashAt s ≡ none
-unfolding nodeAt hashAt numberAt guard
+pub hash-node : (i : ℕ) (s : List ℕ) (p : Label × List ℕ) → nodeLineAt i s ≡ some p → hashAt s ≡ none
+unfolding nodeLineAt hashAt numberAt guard
 hash-node i [] p h = refl
 hash-node i (c ∷ []) p h = refl
 hash-node i (c ∷ b ∷ s) p h =
     option (numberAt (c ∷ b ∷ s))
-    (λ z. absurd-none p (rw (z, nodeAt) at h))
+    (λ z. absurd-none p (rw (z, nodeLineAt) at h))
     (λ q z. let l : 48 ≤ c = number-first c (b ∷ s) q z in
     rw (ne-eqb c 35 (λ e. let y : c ≡ 35 = e in omega arith)))
 
@@ -182,18 +182,18 @@ unfolding nodesFrom
 nodes-hash zero i s t h = rw (h, nodesFrom)
 nodes-hash (suc k) i s t h = rw (h, nodesFrom)
 
-pub nodes-step : (k i : ℕ) (s : List ℕ) (p : Label × List ℕ) → nodeAt i s ≡ some p → nodesFrom (suc k) i s ≡ andNode (p .0) (nodesFrom k (suc i) (p .1))
+pub nodes-step : (k i : ℕ) (s : List ℕ) (p : Label × List ℕ) → nodeLineAt i s ≡ some p → nodesFrom (suc k) i s ≡ andNode (p .0) (nodesFrom k (suc i) (p .1))
 unfolding nodesFrom
 nodes-step k i s p h = rw (hash-node i s p h, nodesFrom, h, nodesFrom)
 
-abbrev restOf : ℕ → List Label → List Edge → List ℕ
+abbrev restOf : ℕ → List Label → List WallEdge → List ℕ
 restOf i ns es = joined (nodeLines i ns ++ (hashLine ∷ map edgeLine es))
 
-abbrev NodesRead : ℕ → ℕ → List ℕ → List Label → List Edge → Type 0
+abbrev NodesRead : ℕ → ℕ → List ℕ → List Label → List WallEdge → Type 0
 NodesRead k i s ns es =
     (s ≡ restOf i ns es) × (length ns ≤ k) × All LabelGood ns × (length es ≤ 1024) × All (EdgeGood (i + length ns)) es
 
-nodes-end : (k i n : ℕ) (s t : List ℕ) (ns : List Label) (es : List Edge) → hashAt s ≡ some t → edgesFrom 1024 i n t ≡ good ns es → NodesRead k i s ns es
+nodes-end : (k i n : ℕ) (s t : List ℕ) (ns : List Label) (es : List WallEdge) → hashAt s ≡ some t → edgesFrom 1024 i n t ≡ good ns es → NodesRead k i s ns es
 unfolding nodeLines
 nodes-end k i n s t ns es q h =
     let e = edges-sound 1024 i n t ns es h in
@@ -201,7 +201,7 @@ nodes-end k i n s t ns es q h =
     let z : i + 0 ≡ i = omega arith in
     rw v (hash-sound s t q ∙ ap (λ (l : List ℕ). 35 ∷ 10 ∷ l) (e .1), omega arith, tt, e .2, rw z (e .3))
 
-nodes-sound : (k i : ℕ) (s : List ℕ) (ns : List Label) (es : List Edge) → nodesFrom k i s ≡ good ns es → NodesRead k i s ns es
+nodes-sound : (k i : ℕ) (s : List ℕ) (ns : List Label) (es : List WallEdge) → nodesFrom k i s ≡ good ns es → NodesRead k i s ns es
 unfolding nodesFrom nodeLines
 nodes-sound zero i s ns es h =
     option (hashAt s)
@@ -210,7 +210,7 @@ nodes-sound zero i s ns es h =
 nodes-sound (suc k) i s ns es h =
     option (hashAt s)
     (λ z. let h2 = rw (z, nodesFrom) at h in
-    option (nodeAt i s)
+    option (nodeLineAt i s)
     (λ y. let w : bad (suc i) ≡ good ns es = rw y at h2 in clash (cc))
     (λ p y. let e = and-node (p .0) (nodesFrom k (suc i) (p .1)) ns es (rw y at h2) in
     let g = node-sound i s (p .0) (p .1) y in
@@ -220,7 +220,7 @@ nodes-sound (suc k) i s ns es h =
     rw v (g .1 ∙ ap (λ (t : List ℕ). nodeLine i (p .0) ++ t) (ih .0), omega (arith, ih .1), (g .0, ih .2), ih .3, rw z (ih .4))))
     (λ t z. nodes-end (suc k) i (suc (suc i)) s t ns es z (rw (z, nodesFrom) at h))
 
-nodes-complete : (k i : ℕ) (ns : List Label) (es : List Edge) → i + k ≤ 128 → length ns ≤ k → All LabelGood ns → length es ≤ 1024
+nodes-complete : (k i : ℕ) (ns : List Label) (es : List WallEdge) → i + k ≤ 128 → length ns ≤ k → All LabelGood ns → length es ≤ 1024
     → All (EdgeGood (i + length ns)) es → nodesFrom k i (restOf i ns es) ≡ good ns es
 unfolding nodeLines
 nodes-complete k i [] es b l a c d =
@@ -236,7 +236,7 @@ nodes-complete (suc k) i (x ∷ ns) es b l a c d =
 -- ---- the whole text
 
 -- "Then a reader that takes such a text back to nodes, edges and label texts"
-pub reads : (ns : List Label) (es : List Edge) → TextGood ns es → readText (written ns es) ≡ good ns es
+pub reads : (ns : List Label) (es : List WallEdge) → TextGood ns es → readText (written ns es) ≡ good ns es
 unfolding readText written linesOf nodeLines
 reads [] es g = let z : ⊥ = omega (arith, g .some-node) in absurd z
 reads (x ∷ ns) es g =
@@ -245,10 +245,10 @@ reads (x ∷ ns) es g =
     (ap (andNode x) (nodes-complete 127 1 ns es (omega arith) (omega (arith, g .few-nodes)) (g .labels .1) (g .few-edges) (rw z at (g .edges))))
 
 -- "It accepts exactly what these line rules write"
-pub accepts : (s : List ℕ) (ns : List Label) (es : List Edge) → readText s ≡ good ns es → (s ≡ written ns es) × TextGood ns es
+pub accepts : (s : List ℕ) (ns : List Label) (es : List WallEdge) → readText s ≡ good ns es → (s ≡ written ns es) × TextGood ns es
 unfolding readText written linesOf nodeLines
 accepts s ns es h =
-    option (nodeAt 0 s)
+    option (nodeLineAt 0 s)
     (λ z. let w : bad 1 ≡ good ns es = rw (z, readText) at h in clash (cc))
     (λ p z. let e = and-node (p .0) (nodesFrom 127 1 (p .1)) ns es (rw (z, readText) at h) in
     let g = node-sound 0 s (p .0) (p .1) z in

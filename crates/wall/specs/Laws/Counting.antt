@@ -15,15 +15,15 @@ use Rattle.basis.specs.Guard.{guard}
 use Rattle.wall.specs.declared.NodeLine.{NodeLine}
 use Rattle.wall.specs.declared.EdgeLine.{EdgeLine}
 use Rattle.wall.specs.declared.Seen.{Seen}
-use Rattle.wall.specs.Lines.{Label, Edge}
-use Rattle.wall.specs.Read.{nodeAt, edgeAt, Outcome, good, bad, andNode, andEdge, edgesFrom, hashAt, nodesFrom, readText}
+use Rattle.wall.specs.Lines.{Label, WallEdge}
+use Rattle.wall.specs.Read.{nodeLineAt, edgeAt, WallText, good, bad, andNode, andEdge, edgesFrom, hashAt, nodesFrom, readText}
 use Rattle.wall.specs.Steps.{rest, nodeOut, edgeOut, seenOf, edgesSeen, hashOut}
 
-and-edge : (i k : ℕ) (e : Edge) (o : Outcome) → seenOf i k (andEdge e o) ≡ seenOf i (k + 1) o
+and-edge : (i k : ℕ) (e : WallEdge) (o : WallText) → seenOf i k (andEdge e o) ≡ seenOf i (k + 1) o
 and-edge i k e (good ns es) = let z : k + suc (length es) ≡ k + 1 + length es = omega arith in rw z
 and-edge i k e (bad n) = refl
 
-and-node : (i k : ℕ) (x : Label) (o : Outcome) → seenOf i k (andNode x o) ≡ seenOf (i + 1) k o
+and-node : (i k : ℕ) (x : Label) (o : WallText) → seenOf i k (andNode x o) ≡ seenOf (i + 1) k o
 and-node i k x (good ns es) = let z : i + suc (length ns) ≡ i + 1 + length ns = omega arith in rw z
 and-node i k x (bad n) = refl
 
@@ -54,11 +54,12 @@ edges-bad : (k m n c : ℕ) (s : List ℕ) → edgeAt m (c ∷ s) ≡ none → e
 unfolding edgesFrom
 edges-bad k m n c s e = rw (e, edgesFrom)
 
-edges-good : (k m n c : ℕ) (s : List ℕ) (p : Edge × List ℕ) → edgeAt m (c ∷ s) ≡ some p → edgesFrom (suc k) m n (c ∷ s) ≡ andEdge (p .0) (edgesFrom k m (suc n) (p .1))
+edges-good : (k m n c : ℕ) (s : List ℕ) (p : WallEdge × List ℕ) → edgeAt m (c ∷ s) ≡ some p
+    → edgesFrom (suc k) m n (c ∷ s) ≡ andEdge (p .0) (edgesFrom k m (suc n) (p .1))
 unfolding edgesFrom
 edges-good k m n c s p e = rw (e, edgesFrom)
 
-edge-some : (text : List ℕ) (r : EdgeLine) → not (r .ok) ≡ false → (e : Edge) × (edgeOut text r ≡ some (e, rest (r .next) text))
+edge-some : (text : List ℕ) (r : EdgeLine) → not (r .ok) ≡ false → (e : WallEdge) × (edgeOut text r ≡ some (e, rest (r .next) text))
 unfolding edgeOut
 edge-some text r t =
     (record { source = r .source; target = r .target; label = take (r .size) (rest (r .begin) text) }, rw (not-false (r .ok) t, edgeOut))
@@ -78,22 +79,26 @@ module _ (text : List ℕ) (m : ℕ) where
     edges-end h =
         let a : m + 0 ≡ m = omega arith in
         let b : k + 0 ≡ k = omega arith in
-        let o : edgesFrom (1024 - k) m (m + 2 + k) (rest at text) ≡ good [] [] = ap (edgesFrom (1024 - k) m (m + 2 + k)) (rest-out text at h) ∙ edges-nil (1024 - k) m (m + 2 + k) in
+        let o : edgesFrom (1024 - k) m (m + 2 + k) (rest at text) ≡ good [] [] = ap (edgesFrom (1024 - k) m (m + 2 + k)) (rest-out text at h)
+        ∙ edges-nil (1024 - k) m (m + 2 + k) in
         rw (a, b) at (sym (ap (seenOf m k) o) ∙ inv)
 
     pub edges-many : at < length text → 1024 ≤ k → record { ok = false; bad = m + 2 + k; nodes = 0; edges = 0 } ≡ w
     unfolding EdgesLeft
     edges-many h g =
         let z : 1024 - k ≡ 0 = omega arith in
-        sym (ap (seenOf m k) (ap (λ (j : ℕ). edgesFrom j m (m + 2 + k) (rest at text)) z ∙ ap (edgesFrom 0 m (m + 2 + k)) (rest-in text at h) ∙ edges-full m (m + 2 + k) _ _)) ∙ inv
+        sym (ap (seenOf m k) (ap (λ (j : ℕ). edgesFrom j m (m + 2 + k) (rest at text)) z ∙ ap (edgesFrom 0 m (m + 2 + k)) (rest-in text at h)
+        ∙ edges-full m (m + 2 + k) _ _)) ∙ inv
 
     module _ (r : EdgeLine) where
-      pub edges-stop : not (r .ok) ≡ true → edgeOut text r ≡ edgeAt m (rest at text) → at < length text → k < 1024 → record { ok = false; bad = m + 2 + k; nodes = 0; edges = 0 } ≡ w
+      pub edges-stop : not (r .ok) ≡ true → edgeOut text r ≡ edgeAt m (rest at text) → at < length text → k < 1024
+          → record { ok = false; bad = m + 2 + k; nodes = 0; edges = 0 } ≡ w
       unfolding EdgesLeft
       edges-stop t q h g =
           let z : 1024 - k ≡ suc (1024 - (k + 1)) = omega arith in
           let e : edgeAt m (getD text at 0 ∷ rest (at + 1) text) ≡ none = ap (edgeAt m) (sym (rest-in text at h)) ∙ sym q ∙ edge-none text r t in
-          sym (ap (seenOf m k) (ap (λ (j : ℕ). edgesFrom j m (m + 2 + k) (rest at text)) z ∙ ap (edgesFrom (suc (1024 - (k + 1))) m (m + 2 + k)) (rest-in text at h) ∙ edges-bad (1024 - (k + 1)) m (m + 2 + k) _ _ e)) ∙ inv
+          sym (ap (seenOf m k) (ap (λ (j : ℕ). edgesFrom j m (m + 2 + k) (rest at text)) z
+          ∙ ap (edgesFrom (suc (1024 - (k + 1))) m (m + 2 + k)) (rest-in text at h) ∙ edges-bad (1024 - (k + 1)) m (m + 2 + k) _ _ e)) ∙ inv
 
       pub edges-next : not (r .ok) ≡ false → edgeOut text r ≡ edgeAt m (rest at text) → at < length text → k < 1024 → EdgesLeft text m (r .next) (k + 1) w
       unfolding EdgesLeft
@@ -104,7 +109,9 @@ module _ (text : List ℕ) (m : ℕ) where
           let e : edgeAt m (getD text at 0 ∷ rest (at + 1) text) ≡ some (f .0, rest (r .next) text) = ap (edgeAt m) (sym (rest-in text at h)) ∙ sym q ∙ f .1 in
           sym (and-edge m k (f .0) (edgesFrom (1024 - (k + 1)) m (m + 2 + (k + 1)) (rest (r .next) text)))
           ∙ ap (λ (j : ℕ). seenOf m k (andEdge (f .0) (edgesFrom (1024 - (k + 1)) m j (rest (r .next) text)))) (sym y)
-          ∙ sym (ap (seenOf m k) (ap (λ (j : ℕ). edgesFrom j m (m + 2 + k) (rest at text)) z ∙ ap (edgesFrom (suc (1024 - (k + 1))) m (m + 2 + k)) (rest-in text at h) ∙ edges-good (1024 - (k + 1)) m (m + 2 + k) _ _ (f .0, rest (r .next) text) e)) ∙ inv
+          ∙ sym (ap (seenOf m k) (ap (λ (j : ℕ). edgesFrom j m (m + 2 + k) (rest at text)) z
+          ∙ ap (edgesFrom (suc (1024 - (k + 1))) m (m + 2 + k)) (rest-in text at h)
+          ∙ edges-good (1024 - (k + 1)) m (m + 2 + k) _ _ (f .0, rest (r .next) text) e)) ∙ inv
 
 -- ---- #
 
@@ -128,7 +135,9 @@ hash-both s = refl
 
 module _ (text : List ℕ) (at : ℕ) where
   two : at + 2 ≤ length text → rest at text ≡ getD text at 0 ∷ getD text (at + 1) 0 ∷ rest (at + 2) text
-  two h = let z : at + 1 + 1 ≡ at + 2 = omega arith in rest-in text at (omega arith) ∙ ap (λ (l : List ℕ). getD text at 0 ∷ l) (rest-in text (at + 1) (omega arith) ∙ ap (λ (n : ℕ). getD text (at + 1) 0 ∷ rest n text) z)
+  two h =
+      let z : at + 1 + 1 ≡ at + 2 = omega arith in rest-in text at (omega arith)
+      ∙ ap (λ (l : List ℕ). getD text at 0 ∷ l) (rest-in text (at + 1) (omega arith) ∙ ap (λ (n : ℕ). getD text (at + 1) 0 ∷ rest n text) z)
 
   pub hash-short : length text < at + 2 → hashOut text at false ≡ hashAt (rest at text)
   unfolding hashOut rest
@@ -138,11 +147,13 @@ module _ (text : List ℕ) (at : ℕ) where
   unfolding hashOut
   hash-no-a a h q e = rw (two h, ← q) (sym (hash-first a _ _ e))
 
-  pub hash-no-b : (a b : ℕ) → at + 2 ≤ length text → a ≡ 35 → a ≡ getD text at 0 → b ≡ getD text (at + 1) 0 → (b ≡ 10 → ⊥) → hashOut text at false ≡ hashAt (rest at text)
+  pub hash-no-b : (a b : ℕ) → at + 2 ≤ length text → a ≡ 35 → a ≡ getD text at 0 → b ≡ getD text (at + 1) 0 → (b ≡ 10 → ⊥)
+      → hashOut text at false ≡ hashAt (rest at text)
   unfolding hashOut
   hash-no-b a b h z q p e = rw (two h, ← q, ← p, z) (sym (hash-second b _ e))
 
-  pub hash-yes : (a b : ℕ) → at + 2 ≤ length text → a ≡ 35 → a ≡ getD text at 0 → b ≡ 10 → b ≡ getD text (at + 1) 0 → hashOut text at true ≡ hashAt (rest at text)
+  pub hash-yes : (a b : ℕ) → at + 2 ≤ length text → a ≡ 35 → a ≡ getD text at 0 → b ≡ 10 → b ≡ getD text (at + 1) 0
+      → hashOut text at true ≡ hashAt (rest at text)
   unfolding hashOut
   hash-yes a b h z q y p = rw (two h, ← q, ← p, z, y) (sym (hash-both _))
 
@@ -161,11 +172,12 @@ from-full : (i : ℕ) (s : List ℕ) → hashAt s ≡ none → nodesFrom 0 i s �
 unfolding nodesFrom
 from-full i s h = rw (h, nodesFrom)
 
-from-bad : (k i : ℕ) (s : List ℕ) → hashAt s ≡ none → nodeAt i s ≡ none → nodesFrom (suc k) i s ≡ bad (suc i)
+from-bad : (k i : ℕ) (s : List ℕ) → hashAt s ≡ none → nodeLineAt i s ≡ none → nodesFrom (suc k) i s ≡ bad (suc i)
 unfolding nodesFrom
 from-bad k i s h e = rw (h, nodesFrom, e)
 
-from-good : (k i : ℕ) (s : List ℕ) (p : Label × List ℕ) → hashAt s ≡ none → nodeAt i s ≡ some p → nodesFrom (suc k) i s ≡ andNode (p .0) (nodesFrom k (suc i) (p .1))
+from-good : (k i : ℕ) (s : List ℕ) (p : Label × List ℕ) → hashAt s ≡ none → nodeLineAt i s ≡ some p
+    → nodesFrom (suc k) i s ≡ andNode (p .0) (nodesFrom k (suc i) (p .1))
 unfolding nodesFrom
 from-good k i s p h e = rw (h, nodesFrom, e)
 
@@ -185,11 +197,11 @@ hash-some : (text : List ℕ) (at : ℕ) (b : Bool) → hashOut text at b ≡ ha
 unfolding hashOut
 hash-some text at b q e = sym q ∙ rw (e, hashOut)
 
-read-none : (s : List ℕ) → nodeAt 0 s ≡ none → readText s ≡ bad 1
+read-none : (s : List ℕ) → nodeLineAt 0 s ≡ none → readText s ≡ bad 1
 unfolding readText
 read-none s e = rw (e, readText)
 
-read-some : (s : List ℕ) (p : Label × List ℕ) → nodeAt 0 s ≡ some p → readText s ≡ andNode (p .0) (nodesFrom 127 1 (p .1))
+read-some : (s : List ℕ) (p : Label × List ℕ) → nodeLineAt 0 s ≡ some p → readText s ≡ andNode (p .0) (nodesFrom 127 1 (p .1))
 unfolding readText
 read-some s p e = rw (e, readText)
 
@@ -198,9 +210,9 @@ unfolding rest
 rest-all text = refl
 
 module _ (text : List ℕ) where
-  module _ (f : NodeLine) (q : nodeOut text f ≡ nodeAt 0 (rest 0 text)) where
-    node-zero : nodeAt 0 text ≡ nodeOut text f
-    node-zero = ap (nodeAt 0) (sym (rest-all text)) ∙ sym q
+  module _ (f : NodeLine) (q : nodeOut text f ≡ nodeLineAt 0 (rest 0 text)) where
+    node-zero : nodeLineAt 0 text ≡ nodeOut text f
+    node-zero = ap (nodeLineAt 0) (sym (rest-all text)) ∙ sym q
 
     pub count-none : not (f .ok) ≡ true → record { ok = false; bad = 1; nodes = 0; edges = 0 } ≡ seenOf 0 0 (readText text)
     count-none t = sym (ap (seenOf 0 0) (read-none text (node-zero ∙ node-none text f t)))
@@ -223,17 +235,20 @@ module _ (text : List ℕ) where
         rw add-one (sym (ap (seenOf i 0) (ap (λ (j : ℕ). nodesFrom j i (rest at text)) z ∙ from-full i (rest at text) (hash-none text at b q t))) ∙ inv)
 
     module _ (x : NodeLine) where
-      pub nodes-stop : not (x .ok) ≡ true → nodeOut text x ≡ nodeAt i (rest at text) → b ≡ false → i < 128 → record { ok = false; bad = i + 1; nodes = 0; edges = 0 } ≡ w
+      pub nodes-stop : not (x .ok) ≡ true → nodeOut text x ≡ nodeLineAt i (rest at text) → b ≡ false → i < 128
+          → record { ok = false; bad = i + 1; nodes = 0; edges = 0 } ≡ w
       unfolding NodesLeft
       nodes-stop e p t g =
           let z : 128 - i ≡ suc (128 - (i + 1)) = omega arith in
-          rw add-one (sym (ap (seenOf i 0) (ap (λ (j : ℕ). nodesFrom j i (rest at text)) z ∙ from-bad (128 - (i + 1)) i (rest at text) (hash-none text at b q t) (sym p ∙ node-none text x e))) ∙ inv)
+          rw add-one (sym (ap (seenOf i 0) (ap (λ (j : ℕ). nodesFrom j i (rest at text)) z
+          ∙ from-bad (128 - (i + 1)) i (rest at text) (hash-none text at b q t) (sym p ∙ node-none text x e))) ∙ inv)
 
-      pub nodes-next : not (x .ok) ≡ false → nodeOut text x ≡ nodeAt i (rest at text) → b ≡ false → i < 128 → NodesLeft text (x .next) (i + 1) w
+      pub nodes-next : not (x .ok) ≡ false → nodeOut text x ≡ nodeLineAt i (rest at text) → b ≡ false → i < 128 → NodesLeft text (x .next) (i + 1) w
       unfolding NodesLeft
       nodes-next e p t g =
           let z : 128 - i ≡ suc (128 - (i + 1)) = omega arith in
           let l = take (x .size) (rest (x .begin) text) in
           sym (and-node i 0 l (nodesFrom (128 - (i + 1)) (i + 1) (rest (x .next) text)))
           ∙ ap (λ (j : ℕ). seenOf i 0 (andNode l (nodesFrom (128 - (i + 1)) j (rest (x .next) text)))) (add-one i)
-          ∙ sym (ap (seenOf i 0) (ap (λ (j : ℕ). nodesFrom j i (rest at text)) z ∙ from-good (128 - (i + 1)) i (rest at text) (l, rest (x .next) text) (hash-none text at b q t) (sym p ∙ node-some text x e))) ∙ inv
+          ∙ sym (ap (seenOf i 0) (ap (λ (j : ℕ). nodesFrom j i (rest at text)) z
+          ∙ from-good (128 - (i + 1)) i (rest at text) (l, rest (x .next) text) (hash-none text at b q t) (sym p ∙ node-some text x e))) ∙ inv

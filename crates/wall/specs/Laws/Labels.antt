@@ -1,6 +1,6 @@
 -- Labels: `labelAt` takes a label and its newline off a text, and nothing else.
 use mathlib.Core.Path.{_≡_, refl, sym, ap, _∙_}
-use mathlib.Core.Bool.{Bool, true, false, cond, _&&_}
+use mathlib.Core.Bool.{Bool, true, false, cond}
 use mathlib.Core.List.{List, [], _∷_, _++_, append-assoc}
 use mathlib.Core.Option.{Option, none, some}
 use Prim.Native.Nat.{ℕ, zero, suc, _+_, _≤_, _<_}
@@ -10,10 +10,10 @@ use lib.Dec.{leb, eqb}
 use borrow.Author.Tests.{leb-true, ne-eqb, eqb-true, eqb-false}
 use Rattle.basis.specs.Lists.{all}
 use Rattle.basis.specs.Guard.{guard}
-use Rattle.basis.specs.Members.{split, clash}
+use Rattle.basis.specs.Members.{split, clash, and-true}
 use Rattle.wall.specs.Lines.{Label, inLabel, LabelGood}
 use Rattle.wall.specs.Read.{labelIn, labelAt}
-use Rattle.wall.specs.Laws.Numbers.{absurd-none, some-is, guard-some, option, and-true}
+use Rattle.wall.specs.Laws.Numbers.{absurd-none, some-is, guard-some, option}
 
 pub in-label : (c : ℕ) → inLabel c ≡ true → (32 ≤ c) × (c ≤ 126)
 in-label c e = let a = and-true (leb 32 c) (leb c 126) e in (leb-true 32 c (a .0), leb-true c 126 (a .1))

@@ -15,8 +15,8 @@ use Rattle.basis.specs.Members.{split}
 use Rattle.wall.specs.declared.Part.{Part}
 use Rattle.wall.specs.declared.NodeLine.{NodeLine}
 use Rattle.wall.specs.declared.EdgeLine.{EdgeLine}
-use Rattle.wall.specs.Lines.{Label, Edge, inLabel}
-use Rattle.wall.specs.Read.{isDigit, numberOn, numberAt, labelIn, labelAt, nodeAt, endAt, edgeAt}
+use Rattle.wall.specs.Lines.{Label, WallEdge, inLabel}
+use Rattle.wall.specs.Read.{isDigit, numberOn, numberAt, labelIn, labelAt, nodeLineAt, endAt, edgeAt}
 use Rattle.wall.specs.Steps.{rest, behind, numberOut, labelOut, nodeOut, edgeOut}
 
 abbrev pub nothing : Part
@@ -81,7 +81,8 @@ module _ (text : List ℕ) (at k n : ℕ) where
   on-out h = rw (rest-out text at h) (on-nil k n)
 
   module _ (c : ℕ) where
-    pub on-space : c ≡ 32 → at < length text → c ≡ getD text at 0 → numberOut text (record { ok = true; value = n; next = at + 1 }) ≡ numberOn k n (rest at text)
+    pub on-space : c ≡ 32 → at < length text → c ≡ getD text at 0 → numberOut text (record { ok = true; value = n; next = at + 1 })
+        ≡ numberOn k n (rest at text)
     unfolding numberOut
     on-space e h q = rw (cell text at c q h, e) (on-end k n (rest (at + 1) text))
 
@@ -97,7 +98,8 @@ module _ (text : List ℕ) (at k n : ℕ) where
     unfolding numberOut
     on-high l g h q e = rw (cell text at c q h) (sym (on-other k n c (rest (at + 1) text) e ∙ off (isDigit c) none _ (digit-high c l g)))
 
-    pub on-digit : (w : ℕ) (r : Part) → 48 ≤ c → c ≤ 57 → w ≡ c → at < length text → c ≡ getD text at 0 → (c ≡ 32 → ⊥) → numberOut text r ≡ numberOn k (10 * n + (w - 48)) (rest (at + 1) text)
+    pub on-digit : (w : ℕ) (r : Part) → 48 ≤ c → c ≤ 57 → w ≡ c → at < length text → c ≡ getD text at 0 → (c ≡ 32 → ⊥)
+        → numberOut text r ≡ numberOn k (10 * n + (w - 48)) (rest (at + 1) text)
         → numberOut text r ≡ numberOn (suc k) n (rest at text)
     on-digit w r l g y h q e i = rw (cell text at c q h) ((rw y at i) ∙ sym (on-other k n c (rest (at + 1) text) e ∙ on (isDigit c) none _ (digit-yes c l g)))
 
@@ -115,10 +117,12 @@ module _ (text : List ℕ) (at : ℕ) where
     unfolding numberOut
     at-high l g h q = rw (cell text at c q h) (sym (at-first c (rest (at + 1) text) ∙ off (isDigit c) none _ (digit-high c l g)))
 
-    pub at-zero : (r : Part) → c ≡ 48 → at < length text → c ≡ getD text at 0 → numberOut text r ≡ numberOn 0 0 (rest (at + 1) text) → numberOut text r ≡ numberAt (rest at text)
+    pub at-zero : (r : Part) → c ≡ 48 → at < length text → c ≡ getD text at 0 → numberOut text r ≡ numberOn 0 0 (rest (at + 1) text)
+        → numberOut text r ≡ numberAt (rest at text)
     at-zero r e h q i = rw (cell text at c q h, e) (i ∙ sym (at-first 48 (rest (at + 1) text) ∙ on (isDigit 48) none _ refl))
 
-    pub at-more : (w : ℕ) (r : Part) → 48 ≤ c → c ≤ 57 → w ≡ c → at < length text → c ≡ getD text at 0 → (c ≡ 48 → ⊥) → numberOut text r ≡ numberOn 2 (w - 48) (rest (at + 1) text)
+    pub at-more : (w : ℕ) (r : Part) → 48 ≤ c → c ≤ 57 → w ≡ c → at < length text → c ≡ getD text at 0 → (c ≡ 48 → ⊥)
+        → numberOut text r ≡ numberOn 2 (w - 48) (rest (at + 1) text)
         → numberOut text r ≡ numberAt (rest at text)
     at-more w r l g y h q e i =
         rw (cell text at c q h)
@@ -181,7 +185,8 @@ in-full : (c : ℕ) (s : List ℕ) → (c ≡ 10 → ⊥) → labelIn 0 (c ∷ s
 unfolding labelIn
 in-full c s e = off (eqb c 10) none (some ([], s)) (ne-eqb c 10 e)
 
-in-other : (k c : ℕ) (s : List ℕ) → (c ≡ 10 → ⊥) → labelIn (suc k) (c ∷ s) ≡ guard (inLabel c) none (elim (labelIn k s) [ none ↦ none | some p ↦ some (c ∷ p .0, p .1) ])
+in-other : (k c : ℕ) (s : List ℕ) → (c ≡ 10 → ⊥) → labelIn (suc k) (c ∷ s)
+    ≡ guard (inLabel c) none (elim (labelIn k s) [ none ↦ none | some p ↦ some (c ∷ p .0, p .1) ])
 unfolding labelIn
 in-other k c s e = rw (ne-eqb c 10 e, labelIn)
 
@@ -205,15 +210,18 @@ module _ (text : List ℕ) (at : ℕ) where
     left-out h = ap (begun (take n (rest at text))) (sym (in-nil (49 - n)) ∙ ap (labelIn (49 - n)) (sym (rest-out text (at + n) h))) ∙ inv
 
     module _ (c : ℕ) where
-      here : at + n < length text → c ≡ getD text (at + n) 0 → (o : Option (Label × List ℕ)) → labelIn (49 - n) (c ∷ rest (at + n + 1) text) ≡ o → begun (take n (rest at text)) o ≡ labelIn 49 (rest at text)
+      here : at + n < length text → c ≡ getD text (at + n) 0 → (o : Option (Label × List ℕ)) → labelIn (49 - n) (c ∷ rest (at + n + 1) text) ≡ o
+          → begun (take n (rest at text)) o ≡ labelIn 49 (rest at text)
       unfolding LabelLeft
       here h q o e = ap (begun (take n (rest at text))) (sym e ∙ ap (labelIn (49 - n)) (sym (cell text (at + n) c q h))) ∙ inv
 
-      pub left-end : c ≡ 10 → at + n < length text → c ≡ getD text (at + n) 0 → labelOut text at (record { ok = true; value = n; next = at + n + 1 }) ≡ labelIn 49 (rest at text)
+      pub left-end : c ≡ 10 → at + n < length text → c ≡ getD text (at + n) 0
+          → labelOut text at (record { ok = true; value = n; next = at + n + 1 }) ≡ labelIn 49 (rest at text)
       unfolding labelOut
       left-end e h q =
           ap (λ (l : Label). some (l, rest (at + n + 1) text)) (sym (append-nil (take n (rest at text))))
-          ∙ here h q (some ([], rest (at + n + 1) text)) (ap (λ (z : ℕ). labelIn (49 - n) (z ∷ rest (at + n + 1) text)) e ∙ in-end (49 - n) (rest (at + n + 1) text))
+          ∙ here h q (some ([], rest (at + n + 1) text)) (ap (λ (z : ℕ). labelIn (49 - n) (z ∷ rest (at + n + 1) text)) e
+          ∙ in-end (49 - n) (rest (at + n + 1) text))
 
       pub left-full : 49 ≤ n → at + n < length text → c ≡ getD text (at + n) 0 → (c ≡ 10 → ⊥) → labelOut text at nothing ≡ labelIn 49 (rest at text)
       unfolding labelOut
@@ -227,7 +235,8 @@ module _ (text : List ℕ) (at : ℕ) where
       unfolding labelOut
       left-low g l h q e = here h q none (step e g ∙ off (inLabel c) none _ (label-low c l))
 
-      pub left-high : n < 49 → 32 ≤ c → 126 < c → at + n < length text → c ≡ getD text (at + n) 0 → (c ≡ 10 → ⊥) → labelOut text at nothing ≡ labelIn 49 (rest at text)
+      pub left-high : n < 49 → 32 ≤ c → 126 < c → at + n < length text → c ≡ getD text (at + n) 0 → (c ≡ 10 → ⊥)
+          → labelOut text at nothing ≡ labelIn 49 (rest at text)
       unfolding labelOut
       left-high g l u h q e = here h q none (step e g ∙ off (inLabel c) none _ (label-high c l u))
 
@@ -236,7 +245,8 @@ module _ (text : List ℕ) (at : ℕ) where
       left-next g l u h q e =
           let z : at + (n + 1) ≡ at + n + 1 = omega arith in
           let t : take (n + 1) (rest at text) ≡ take n (rest at text) ++ (c ∷ []) =
-          rw add-one (take-suc (drop at text) n 0 (rw length-drop (omega arith)) ∙ ap (λ (y : ℕ). take n (drop at text) ++ (y ∷ [])) (getD-drop at text n 0 ∙ sym q)) in
+          rw add-one (take-suc (drop at text) n 0 (rw length-drop (omega arith))
+          ∙ ap (λ (y : ℕ). take n (drop at text) ++ (y ∷ [])) (getD-drop at text n 0 ∙ sym q)) in
           rw (z, t) (sym (begun-more (take n (rest at text)) c (labelIn (49 - (n + 1)) (rest (at + n + 1) text)))
           ∙ here h q _ (step e g ∙ on (inLabel c) none _ (label-yes c l u)))
 
@@ -257,9 +267,11 @@ module _ (text : List ℕ) (at : ℕ) where
     unfolding labelOut
     label-first-high l u h q = rw (cell text at c q h) (sym (first-is c (rest (at + 1) text) ∙ off (inLabel c) none _ (label-high c l u)))
 
-    pub label-more : (r : Part) → 32 ≤ c → c ≤ 126 → at < length text → c ≡ getD text at 0 → labelOut text at r ≡ labelIn 49 (rest at text) → labelOut text at r ≡ labelAt (rest at text)
+    pub label-more : (r : Part) → 32 ≤ c → c ≤ 126 → at < length text → c ≡ getD text at 0 → labelOut text at r ≡ labelIn 49 (rest at text)
+        → labelOut text at r ≡ labelAt (rest at text)
     label-more r l u h q i =
-        i ∙ ap (labelIn 49) (cell text at c q h) ∙ sym (ap labelAt (cell text at c q h) ∙ first-is c (rest (at + 1) text) ∙ on (inLabel c) none _ (label-yes c l u))
+        i ∙ ap (labelIn 49) (cell text at c q h) ∙ sym (ap labelAt (cell text at c q h) ∙ first-is c (rest (at + 1) text)
+        ∙ on (inLabel c) none _ (label-yes c l u))
 
 pub ruleset lefts = (left-out, left-end, left-full, left-low, left-high)
 
@@ -273,13 +285,13 @@ number-none : (text : List ℕ) (p : Part) → not (p .ok) ≡ true → numberOu
 unfolding numberOut
 number-none text p t = rw (not-true (p .ok) t, numberOut)
 
-node-by : (i : ℕ) (s : List ℕ) (v : ℕ × List ℕ) → numberAt s ≡ some v → nodeAt i s ≡ guard (eqb (v .0) i) none (labelAt (v .1))
-unfolding nodeAt
-node-by i s v q = rw (q, nodeAt)
+node-by : (i : ℕ) (s : List ℕ) (v : ℕ × List ℕ) → numberAt s ≡ some v → nodeLineAt i s ≡ guard (eqb (v .0) i) none (labelAt (v .1))
+unfolding nodeLineAt
+node-by i s v q = rw (q, nodeLineAt)
 
-node-out : (i : ℕ) (s : List ℕ) → numberAt s ≡ none → nodeAt i s ≡ none
-unfolding nodeAt
-node-out i s q = rw (q, nodeAt)
+node-out : (i : ℕ) (s : List ℕ) → numberAt s ≡ none → nodeLineAt i s ≡ none
+unfolding nodeLineAt
+node-out i s q = rw (q, nodeLineAt)
 
 end-by : (m : ℕ) (s : List ℕ) (v : ℕ × List ℕ) → numberAt s ≡ some v → endAt m s ≡ guard (ltb (v .0) m) none (some v)
 unfolding endAt
@@ -303,16 +315,16 @@ noEdge = record { ok = false; source = 0; target = 0; begin = 0; size = 0; next 
 
 module _ (text : List ℕ) (at : ℕ) (p : Part) where
   module _ (q : numberOut text p ≡ numberAt (rest at text)) where
-    pub node-none : (i : ℕ) → not (p .ok) ≡ true → nodeOut text noNode ≡ nodeAt i (rest at text)
+    pub node-none : (i : ℕ) → not (p .ok) ≡ true → nodeOut text noNode ≡ nodeLineAt i (rest at text)
     unfolding nodeOut
     node-none i t = sym (node-out i (rest at text) (sym q ∙ number-none text p t))
 
-    pub node-other : (i : ℕ) → not (p .ok) ≡ false → (p .value ≡ i → ⊥) → nodeOut text noNode ≡ nodeAt i (rest at text)
+    pub node-other : (i : ℕ) → not (p .ok) ≡ false → (p .value ≡ i → ⊥) → nodeOut text noNode ≡ nodeLineAt i (rest at text)
     unfolding nodeOut
     node-other i t e = sym (node-by i (rest at text) _ (sym q ∙ number-some text p t) ∙ off (eqb (p .value) i) none _ (ne-eqb (p .value) i e))
 
     pub node-here : (i : ℕ) (l : Part) → not (p .ok) ≡ false → p .value ≡ i → labelOut text (p .next) l ≡ labelAt (rest (p .next) text)
-        → nodeOut text (record { ok = l .ok; begin = p .next; size = l .value; next = l .next }) ≡ nodeAt i (rest at text)
+        → nodeOut text (record { ok = l .ok; begin = p .next; size = l .value; next = l .next }) ≡ nodeLineAt i (rest at text)
     unfolding nodeOut labelOut
     node-here i l t e k = k ∙ sym (node-by i (rest at text) _ (sym q ∙ number-some text p t) ∙ on (eqb (p .value) i) none _ (eq-eqb (p .value) i e))
 
@@ -325,7 +337,8 @@ module _ (text : List ℕ) (at : ℕ) (p : Part) where
     end-past m t e = sym (end-by m (rest at text) _ (sym q ∙ number-some text p t) ∙ off (ltb (p .value) m) none _ (le-ltb (p .value) m e))
 
     pub end-here : (m : ℕ) → not (p .ok) ≡ false → p .value < m → numberOut text p ≡ endAt m (rest at text)
-    end-here m t e = number-some text p t ∙ sym (end-by m (rest at text) _ (sym q ∙ number-some text p t) ∙ on (ltb (p .value) m) none _ (lt-ltb (p .value) m e))
+    end-here m t e =
+        number-some text p t ∙ sym (end-by m (rest at text) _ (sym q ∙ number-some text p t) ∙ on (ltb (p .value) m) none _ (lt-ltb (p .value) m e))
 
   module _ (m : ℕ) (q : numberOut text p ≡ endAt m (rest at text)) where
     edge-none′ : (s : List ℕ) → endAt m s ≡ none → edgeAt m s ≡ none
@@ -345,11 +358,13 @@ module _ (text : List ℕ) (at : ℕ) (p : Part) where
     unfolding edgeOut
     edge-none t = sym (edge-none′ (rest at text) (sym q ∙ number-none text p t))
 
-    pub edge-half : (r : Part) → not (p .ok) ≡ false → numberOut text r ≡ endAt m (rest (p .next) text) → not (r .ok) ≡ true → edgeOut text noEdge ≡ edgeAt m (rest at text)
+    pub edge-half : (r : Part) → not (p .ok) ≡ false → numberOut text r ≡ endAt m (rest (p .next) text) → not (r .ok) ≡ true
+        → edgeOut text noEdge ≡ edgeAt m (rest at text)
     unfolding edgeOut
     edge-half r t k u = sym (edge-one′ (rest at text) _ (sym q ∙ number-some text p t) (sym k ∙ number-none text r u))
 
-    pub edge-here : (r l : Part) → not (p .ok) ≡ false → numberOut text r ≡ endAt m (rest (p .next) text) → not (r .ok) ≡ false → labelOut text (r .next) l ≡ labelAt (rest (r .next) text)
+    pub edge-here : (r l : Part) → not (p .ok) ≡ false → numberOut text r ≡ endAt m (rest (p .next) text) → not (r .ok) ≡ false
+        → labelOut text (r .next) l ≡ labelAt (rest (r .next) text)
         → edgeOut text (record { ok = l .ok; source = p .value; target = r .value; begin = r .next; size = l .value; next = l .next }) ≡ edgeAt m (rest at text)
     edge-here r l t k u j =
         label-by (p .value) (r .value) text (r .next) l

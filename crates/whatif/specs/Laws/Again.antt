@@ -19,7 +19,7 @@ use Rattle.links.specs.Build.{Chains}
 use Rattle.links.specs.Walk.{firstOut, nextOut, outLeft, out-all, out-cons, out-end}
 use Rattle.labels.specs.Labels.{targets, orderOf}
 use Rattle.labels.specs.Marks.{anew}
-use Rattle.labels.specs.Frames.{Listed}
+use Rattle.labels.specs.Frames.{Posted}
 use Rattle.labels.specs.Passes.{Going, taken}
 use Rattle.whatif.specs.Laws.Moving.{any-map}
 use Rattle.whatif.specs.Relabel.{Pass, touched, turn, turns, relabel, stored}
@@ -47,15 +47,18 @@ up-whole : (g : List ℕ) (s : Size) (ls up : List ℕ) (n f : ℕ) → Chains g
 unfolding upLeft leadsUp targets
 up-whole g s ls up n f c h q =
     rw (out-all g s ls n f c h q)
-    (sym (any-map (λ (e : Edge). e .target) (λ t. eqb (getD up t 0) 1) (reverse (out (graphIn g s) n)) ∙ any-back (λ (x : Edge). eqb (getD up (x .target) 0) 1) (out (graphIn g s) n)))
+    (sym (any-map (λ (e : Edge). e .target) (λ t. eqb (getD up t 0) 1) (reverse (out (graphIn g s) n))
+    ∙ any-back (λ (x : Edge). eqb (getD up (x .target) 0) 1) (out (graphIn g s) n)))
 
-pub up-next : (g ls up : List ℕ) (n e : ℕ) (Z : Bool) (t u r : ℕ) → upLeft g up n e ≡ Z → Going g ls n e → 0 < e → (u ≡ 1 → ⊥) → u ≡ getD up t 0 → t ≡ edgeIn g (e - 1) .target → r ≡ nextOut ls (e - 1) → upLeft g up n r ≡ Z
+pub up-next : (g ls up : List ℕ) (n e : ℕ) (Z : Bool) (t u r : ℕ) → upLeft g up n e ≡ Z → Going g ls n e → 0 < e → (u ≡ 1 → ⊥) → u ≡ getD up t 0
+    → t ≡ edgeIn g (e - 1) .target → r ≡ nextOut ls (e - 1) → upLeft g up n r ≡ Z
 unfolding upLeft
 up-next g ls up n e Z t u r i w p d qu qt qr =
     let z : getD up (edgeIn g (e - 1) .target) 0 ≡ u = ap (λ (k : ℕ). getD up k 0) (sym qt) ∙ sym qu in
     sym (sym i ∙ rw (out-cons g (w .size) ls n e r (w .on) p qr, z, ne-eqb u 1 d, any))
 
-module _ (g : List ℕ) (s : Size) (ls up : List ℕ) (n f e : ℕ) (i : upLeft g up n e ≡ upLeft g up n f) (c : Chains g s ls) (h : n < s .nodes) (qf : f ≡ firstOut ls n) where
+module _ (g : List ℕ) (s : Size) (ls up : List ℕ) (n f e : ℕ) (i : upLeft g up n e ≡ upLeft g up n f) (c : Chains g s ls) (h : n < s .nodes) (qf : f
+    ≡ firstOut ls n) where
   pub up-hit : (t u : ℕ) → u ≡ 1 → u ≡ getD up t 0 → t ≡ edgeIn g (e - 1) .target → Going g ls n e → 0 < e → true ≡ leadsUp (graphIn g s) up n
   unfolding upLeft
   up-hit t u d qu qt w p =
@@ -83,17 +86,17 @@ store-via ms ns n v w p q = rw (← q) p
 -- ---- one turn
 
 -- what a turn to n leaves
-pub record Turned (K : Graph) (a n : ℕ) (ms up ns vp : List ℕ) : Type 0 where
+pub record MarkTurned (K : Graph) (a n : ℕ) (ms up ns vp : List ℕ) : Type 0 where
   pub is : record { marks = ns; up = vp } ≡ turn K a n (record { marks = ms; up = up })
 
 module _ (K : Graph) (a n : ℕ) (ms up : List ℕ) (t : Bool) (q : t ≡ touched K a up n) where
   pub is-touched : t ≡ true → touched K a up n ≡ true
   is-touched e = sym q ∙ e
 
-  pub turned-yes : t ≡ true → (ns vp : List ℕ) → ns ≡ set ms n (anew K ms n) → vp ≡ set up n 1 → Turned K a n ms up ns vp
+  pub turned-yes : t ≡ true → (ns vp : List ℕ) → ns ≡ set ms n (anew K ms n) → vp ≡ set up n 1 → MarkTurned K a n ms up ns vp
   turned-yes e ns vp p o = record { is = rw (turn-yes K a n (record { marks = ms; up = up }) (sym q ∙ e), p, o) }
 
-  pub turned-no : t ≡ false → Turned K a n ms up ms up
+  pub turned-no : t ≡ false → MarkTurned K a n ms up ms up
   turned-no e = record { is = rw (turn-no K a n (record { marks = ms; up = up }) (sym q ∙ e)) }
 
 -- ---- along the order
@@ -101,25 +104,30 @@ module _ (K : Graph) (a n : ℕ) (ms up : List ℕ) (t : Bool) (q : t ≡ touche
 unfoldable pub turnsLeft : Graph → ℕ → List ℕ → ℕ → List ℕ → List ℕ → ℕ → Pass
 turnsLeft K a os k ms up i = turns K a (drop i (take k os)) (record { marks = ms; up = up })
 
-module _ (g : List ℕ) (s : Size) (ls os : List ℕ) (k : ℕ) (L : Listed g s ls os k) (a : ℕ) where
-  pub turns-next : (ms up ns vp : List ℕ) (Z : Pass) (n i : ℕ) → turnsLeft (graphIn g s) a os k ms up i ≡ Z → n ≡ getD os i 0 → i < k → Turned (graphIn g s) a n ms up ns vp → turnsLeft (graphIn g s) a os k ns vp (i + 1) ≡ Z
+module _ (g : List ℕ) (s : Size) (ls os : List ℕ) (k : ℕ) (L : Posted g s ls os k) (a : ℕ) where
+  pub turns-next : (ms up ns vp : List ℕ) (Z : Pass) (n i : ℕ) → turnsLeft (graphIn g s) a os k ms up i ≡ Z → n ≡ getD os i 0 → i < k
+      → MarkTurned (graphIn g s) a n ms up ns vp → turnsLeft (graphIn g s) a os k ns vp (i + 1) ≡ Z
   unfolding turnsLeft turns
   turns-next ms up ns vp Z n i e qn h t =
       sym (sym e ∙ rw (drop-cons (take k os) i 0 (omega (arith, taken g s ls os k L)), getD-take k os i 0 h, ← qn, add-one, t .is))
 
-  pub turns-end : (ms up : List ℕ) (i : ℕ) (ms₀ up₀ : List ℕ) → turnsLeft (graphIn g s) a os k ms up i ≡ turnsLeft (graphIn g s) a os k ms₀ up₀ 0 → k ≤ i → up₀ ≡ replicate 128 0 → ms ≡ relabel (graphIn g s) a (orderOf (graphIn g s)) ms₀
+  pub turns-end : (ms up : List ℕ) (i : ℕ) (ms₀ up₀ : List ℕ) → turnsLeft (graphIn g s) a os k ms up i ≡ turnsLeft (graphIn g s) a os k ms₀ up₀ 0 → k ≤ i
+      → up₀ ≡ replicate 128 0 → ms ≡ relabel (graphIn g s) a (orderOf (graphIn g s)) ms₀
   unfolding turnsLeft turns relabel
   turns-end ms up i ms₀ up₀ e h q =
       let z : length (take k os) ≤ i = omega (arith, taken g s ls os k L) in
-      let y : record { marks = ms; up = up } ≡ turns (graphIn g s) a (take k os) (record { marks = ms₀; up = up₀ }) = rw (drop-of-length-le (take k os) z) at e in
+      let y : record { marks = ms; up = up } ≡ turns (graphIn g s) a (take k os) (record { marks = ms₀; up = up₀ }) =
+      rw (drop-of-length-le (take k os) z) at e in
       ap (λ (w : Pass). w .marks) y ∙ rw (L .is, q)
 
-  pub turns-up : (ms up : List ℕ) (i : ℕ) (ms₀ up₀ : List ℕ) → turnsLeft (graphIn g s) a os k ms up i ≡ turnsLeft (graphIn g s) a os k ms₀ up₀ 0 → k ≤ i → up₀ ≡ replicate 128 0 → up ≡ stored (graphIn g s) a (orderOf (graphIn g s)) ms₀
+  pub turns-up : (ms up : List ℕ) (i : ℕ) (ms₀ up₀ : List ℕ) → turnsLeft (graphIn g s) a os k ms up i ≡ turnsLeft (graphIn g s) a os k ms₀ up₀ 0 → k ≤ i
+      → up₀ ≡ replicate 128 0 → up ≡ stored (graphIn g s) a (orderOf (graphIn g s)) ms₀
   unfolding turnsLeft turns stored
   turns-up ms up i ms₀ up₀ e h q =
       let z : length (take k os) ≤ i = omega (arith, taken g s ls os k L) in
-      let y : record { marks = ms; up = up } ≡ turns (graphIn g s) a (take k os) (record { marks = ms₀; up = up₀ }) = rw (drop-of-length-le (take k os) z) at e in
+      let y : record { marks = ms; up = up } ≡ turns (graphIn g s) a (take k os) (record { marks = ms₀; up = up₀ }) =
+      rw (drop-of-length-le (take k os) z) at e in
       ap (λ (w : Pass). w .up) y ∙ rw (L .is, q)
 
-pub listed-chains : (g : List ℕ) (s : Size) (ls os : List ℕ) (k : ℕ) → Listed g s ls os k → Chains g s ls
+pub listed-chains : (g : List ℕ) (s : Size) (ls os : List ℕ) (k : ℕ) → Posted g s ls os k → Chains g s ls
 listed-chains g s ls os k L = L .chains

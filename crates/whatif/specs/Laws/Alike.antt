@@ -15,15 +15,15 @@ use Rattle.store.specs.declared.Edge.{Edge}
 use Rattle.store.specs.Graph.{Graph, sameNode, nodeAt}
 use Rattle.store.specs.Numbers.{numberOf}
 use Rattle.store.specs.Words.{same-true, same-refl}
-use Rattle.reach.specs.Paths.{Path, here, along}
+use Rattle.links.specs.Paths.{Path, here, along}
 use Rattle.shape.specs.Shaped.{Runs}
 use Rattle.shape.specs.Graphed.{at-in}
 use Rattle.shape.specs.Uses.{one-number}
 use Rattle.labels.specs.Ordered.{Acyclic}
 use Rattle.labels.specs.Labels.{targets, installable, missing}
-use Rattle.whatif.specs.Alike.{Arc, standsFor, named, Alike}
+use Rattle.whatif.specs.Alike.{Arc, standsFor, named, GraphsAlike}
 use Rattle.whatif.specs.Laws.Moving.{moveEdge}
-use Rattle.whatif.specs.Laws.Laid.{Laid}
+use Rattle.whatif.specs.Laws.Laid.{GraphLaid}
 use Rattle.whatif.specs.Laws.Carried.{Carried, carried-acyclic, carried-installable, carried-missing}
 
 -- ---- numbers
@@ -61,7 +61,7 @@ module _ (H G : Graph) where
   abbrev pub across : ℕ → ℕ
   across m = numberOf (G .nodes) (nodeAt H m)
 
-  module _ (dH : Distinct (H .nodes)) (dG : Distinct (G .nodes)) (rG : All (Runs (G .nodes)) (G .edges)) (A : Alike H G) where
+  module _ (dH : Distinct (H .nodes)) (dG : Distinct (G .nodes)) (rG : All (Runs (G .nodes)) (G .edges)) (A : GraphsAlike H G) where
     across-in : (m : ℕ) → m < length (H .nodes) → (across m < length (G .nodes)) × (nodeAt G (across m) ≡ nodeAt H m)
     across-in m h = number-in (G .nodes) (nodeAt H m) (A .nodes-on (nodeAt H m) (at-in (H .nodes) m h))
 
@@ -92,14 +92,15 @@ module _ (H G : Graph) where
       path-across : {m : ℕ} → Path H 0 m → Path G 0 (across m)
       path-across here = let q : across 0 ≡ 0 = ap (numberOf (G .nodes)) (sym z) ∙ number-at (G .nodes) dG 0 sG in rw q here
       path-across (along e i p) =
-          along (moveEdge across e) (subst (λ (es : List Edge). In (moveEdge across e) es) (sym across-edges) (map-in (moveEdge across) e (H .edges) i)) (path-across p)
+          along (moveEdge across e) (subst (λ (es : List Edge). In (moveEdge across e) es) (sym across-edges) (map-in (moveEdge across) e (H .edges) i))
+          (path-across p)
 
       pub alike-reached : ((m : ℕ) → m < length (H .nodes) → Path H 0 m) → (n : ℕ) → n < length (G .nodes) → Path G 0 n
       alike-reached f n h = let r = alike-carried .all n h in rw (← r .2) (path-across (f (r .0) (r .1)))
 
 -- ---- the labels
 
-module _ (H G : Graph) (L : Laid H) (K : Laid G) (A : Alike H G) where
+module _ (H G : Graph) (L : GraphLaid H) (K : GraphLaid G) (A : GraphsAlike H G) where
   carried : Carried (across H G) H G
   carried = alike-carried H G (L .once) (K .once) (K .runs) A
 

@@ -11,7 +11,8 @@ use lib.Seq.{getD-append-seam}
 use lib.Dec.{eqb, ltb}
 use borrow.Author.Tests.{eqb-true, eqb-false, eq-eqb, ne-eqb, ltb-true, ltb-false}
 use Rattle.basis.specs.Lists.{any, filter, snoc}
-use Rattle.basis.specs.Members.{In, All, Distinct, split, either, clash, no-both, in-append, in-left, in-right, all-append, all-map, any-in, any-some, filter-in}
+use Rattle.basis.specs.Members.{In, All, Distinct, split, either, clash, no-both, in-append, in-left, in-right, all-append, all-map, any-in, any-some}
+use Rattle.basis.specs.Members.{filter-in}
 use Rattle.store.specs.declared.ConflictNode.{ConflictNode}
 use Rattle.store.specs.declared.ConflictNode.the-variants as N
 use Rattle.store.specs.declared.ConflictCause.{ConflictCause}
@@ -21,16 +22,16 @@ use Rattle.store.specs.declared.ConflictEdge.the-variants as W
 use Rattle.store.specs.declared.Edge.{Edge}
 use Rattle.store.specs.Graph.{Graph, sameNode, nodeAt, out, into, isUnresolved, isExcluded}
 use Rattle.store.specs.Words.{same-true, same-refl}
-use Rattle.reach.specs.Paths.{Path, here, along}
+use Rattle.links.specs.Paths.{Path, here, along}
 use Rattle.shape.specs.Shaped.{Runs, isEnd, fitsTarget, runs-more, distinct-snoc}
 use Rattle.labels.specs.Runs.{runsOf, everyRun, someRun}
 use Rattle.labels.specs.Ordered.{Leads, edge, onto, Acyclic}
 use Rattle.labels.specs.Labels.{targets, orderOf, conflicts, excludes, canInstall, isLacking, installable, missing, hasUnresolved}
 use Rattle.labels.specs.Facts.{reverse-in, order-ordered, install-local, lacking-local, missing-none}
 use Rattle.whatif.specs.Laws.Well.{induct, begins, before}
-use Rattle.whatif.specs.Laws.Laid.{Laid, edge-of, edge-target′, runs-at, target-below, laid-sound, in-order, laid-installable, laid-missing}
+use Rattle.whatif.specs.Laws.Laid.{GraphLaid, edge-of, edge-target′, runs-at, target-below, laid-sound, in-order, laid-installable, laid-missing}
 use Rattle.store.specs.Numbers.{numberOf}
-use Rattle.whatif.specs.Asked.{hasNode, withNode, withFirst, newEdge, asked}
+use Rattle.whatif.specs.Asked.{hasNode, nodesWith, withFirst, newEdge, asked}
 use Rattle.whatif.specs.Laws.Alike.{number-in, number-out}
 
 -- ---- the nodes
@@ -40,11 +41,11 @@ pub data With (ns : List ConflictNode) (x : ConflictNode) : List ConflictNode �
   there : In x ns → With ns x ns
   new : (In x ns → ⊥) → With ns x (snoc ns x)
 
-pub with-node : (ns : List ConflictNode) (x : ConflictNode) → With ns x (withNode ns x)
+pub with-node : (ns : List ConflictNode) (x : ConflictNode) → With ns x (nodesWith ns x)
 with-node ns x =
     split (any (sameNode x) ns)
-    (λ t. let r = any-some (sameNode x) ns t in rw (t, withNode) (there (rw (same-true x (r .0) (r .2)) (r .1))))
-    (λ t. rw (t, withNode) (new (λ i. no-both (any (sameNode x) ns) (any-in (sameNode x) x ns (same-refl x) i) t)))
+    (λ t. let r = any-some (sameNode x) ns t in rw (t, nodesWith) (there (rw (same-true x (r .0) (r .2)) (r .1))))
+    (λ t. rw (t, nodesWith) (new (λ i. no-both (any (sameNode x) ns) (any-in (sameNode x) x ns (same-refl x) i) t)))
 
 -- the nodes as they were, with the number of x among them
 pub record Kept (ns : List ConflictNode) (x : ConflictNode) (ms : List ConflictNode) : Type 0 where
@@ -73,14 +74,15 @@ kept-by ns x ms (new f) =
       grown = refl;
       inside = omega arith;
       stands = rw q (getD-append-seam ns x [] N.Root);
-      which = λ n h. split (ltb n (length ns)) (λ t. inl (ltb-true n (length ns) t)) (λ t. inr (let u : length ns ≤ n = ltb-false n (length ns) t in omega arith));
+      which =
+          λ n h. split (ltb n (length ns)) (λ t. inl (ltb-true n (length ns) t)) (λ t. inr (let u : length ns ≤ n = ltb-false n (length ns) t in omega arith));
       once = λ d. distinct-snoc ns x d f;
       from = λ y j. either (in-append y ns (x ∷ []) j) (λ k. inl k) (λ k. either k (λ e. inr e) (λ z. absurd z));
       has-x = in-right x ns (x ∷ []) (inl refl);
     }
 
-pub kept : (ns : List ConflictNode) (x : ConflictNode) → Kept ns x (withNode ns x)
-kept ns x = kept-by ns x (withNode ns x) (with-node ns x)
+pub kept : (ns : List ConflictNode) (x : ConflictNode) → Kept ns x (nodesWith ns x)
+kept ns x = kept-by ns x (nodesWith ns x) (with-node ns x)
 
 -- ---- the graph
 
@@ -124,9 +126,10 @@ module _ (G : Graph) (cl s r : ℕ) where
 
   which-edge : (e : Edge) → In e (asked G cl s r .edges) → In e (G .edges) ⊎ (e ≡ newEdge (G .nodes) cl s r)
   which-edge e i =
-      either (in-append e (G .edges) (newEdge (G .nodes) cl s r ∷ []) (subst (λ (es : List Edge). In e es) edges-are i)) (λ j. inl j) (λ j. either j (λ q. inr q) (λ z. absurd z))
+      either (in-append e (G .edges) (newEdge (G .nodes) cl s r ∷ []) (subst (λ (es : List Edge). In e es) edges-are i)) (λ j. inl j) (λ j.
+      either j (λ q. inr q) (λ z. absurd z))
 
-  module _ (L : Laid G) (i : In (N.Solvable s) (G .nodes)) where
+  module _ (L : GraphLaid G) (i : In (N.Solvable s) (G .nodes)) where
     pub chosen-below : chosen < length (G .nodes)
     chosen-below = number-in (G .nodes) (N.Solvable s) i .0
 
@@ -153,7 +156,7 @@ module _ (G : Graph) (cl s r : ℕ) where
     old-path here = here
     old-path (along e j p) = along e (old-edge e j) (old-path p)
 
-    pub asked-laid : length (asked G cl s r .nodes) ≤ 128 → Laid (asked G cl s r)
+    pub asked-laid : length (asked G cl s r .nodes) ≤ 128 → GraphLaid (asked G cl s r)
     asked-laid m =
         record {
           some = omega (arith, L .some, longer);
@@ -162,7 +165,9 @@ module _ (G : Graph) (cl s r : ℕ) where
           once = nodes-kept .once (L .once);
           runs = rw edges-are (all-append (Runs (asked G cl s r .nodes)) (G .edges) (newEdge (G .nodes) cl s r ∷ []) grown (new-runs, tt));
           unresolved = only;
-          reached = λ n h. either (nodes-kept .which n h) (λ l. old-path (L .reached n l)) (λ q. rw q (along (newEdge (G .nodes) cl s r) new-edge (old-path (L .reached chosen chosen-below))));
+          reached =
+              λ n h. either (nodes-kept .which n h) (λ l. old-path (L .reached n l)) (λ q.
+              rw q (along (newEdge (G .nodes) cl s r) new-edge (old-path (L .reached chosen chosen-below))));
         }
       where
         grown : All (Runs (asked G cl s r .nodes)) (G .edges)
@@ -280,7 +285,7 @@ module _ (G : Graph) (cl s r : ℕ) where
     aside-on n t A j = record { other = λ q. A .far (edge (rw q at j)); far = λ p. A .far (before (targets G) j p) }
 
     module _ (m : length (asked G cl s r .nodes) ≤ 128) (a : Acyclic (targets G)) where
-      M : Laid (asked G cl s r)
+      M : GraphLaid (asked G cl s r)
       M = asked-laid m
 
       c : Acyclic (targets (asked G cl s r))
@@ -289,9 +294,11 @@ module _ (G : Graph) (cl s r : ℕ) where
       -- "the labels of every package from which the chosen one can't be reached" stay
       pub stays-installable : (n : ℕ) → n < length (G .nodes) → Aside n → installable (asked G cl s r) n ≡ installable G n
       stays-installable n h A =
-          induct (targets G) (Acyclic (targets G)) a (λ n. n < length (G .nodes) → Aside n → installable (asked G cl s r) n ≡ installable G n) step (orderOf G) (order-ordered G (laid-sound G L)) n (in-order G L a n h) h A
+          induct (targets G) (Acyclic (targets G)) a (λ n. n < length (G .nodes) → Aside n
+          → installable (asked G cl s r) n ≡ installable G n) step (orderOf G) (order-ordered G (laid-sound G L)) n (in-order G L a n h) h A
         where
-          step : (n : ℕ) → ((t : ℕ) → In t (targets G n) → t < length (G .nodes) → Aside t → installable (asked G cl s r) t ≡ installable G t) → n < length (G .nodes) → Aside n → installable (asked G cl s r) n ≡ installable G n
+          step : (n : ℕ) → ((t : ℕ) → In t (targets G n) → t < length (G .nodes) → Aside t → installable (asked G cl s r) t ≡ installable G t)
+              → n < length (G .nodes) → Aside n → installable (asked G cl s r) n ≡ installable G n
           step n ih l A =
               laid-installable (asked G cl s r) M c n (omega (arith, longer))
               ∙ install-same (installable (asked G cl s r)) n l (A .other)
@@ -301,12 +308,15 @@ module _ (G : Graph) (cl s r : ℕ) where
       pub stays-missing : (n : ℕ) → n < length (G .nodes) → Aside n → missing (asked G cl s r) n ≡ missing G n
       stays-missing n h A =
           split (hasUnresolved G)
-          (λ u. induct (targets G) (Acyclic (targets G)) a (λ n. n < length (G .nodes) → Aside n → missing (asked G cl s r) n ≡ missing G n) (step u) (orderOf G) (order-ordered G (laid-sound G L)) n (in-order G L a n h) h A)
+          (λ u. induct (targets G) (Acyclic (targets G)) a (λ n. n < length (G .nodes) → Aside n
+          → missing (asked G cl s r) n ≡ missing G n) (step u) (orderOf G) (order-ordered G (laid-sound G L)) n (in-order G L a n h) h A)
           (λ u. missing-none (asked G cl s r) (laid-sound (asked G cl s r) M) c (unresolved-same ∙ u) n ∙ sym (missing-none G (laid-sound G L) a u n))
         where
-          step : hasUnresolved G ≡ true → (n : ℕ) → ((t : ℕ) → In t (targets G n) → t < length (G .nodes) → Aside t → missing (asked G cl s r) t ≡ missing G t) → n < length (G .nodes) → Aside n → missing (asked G cl s r) n ≡ missing G n
+          step : hasUnresolved G ≡ true → (n : ℕ) → ((t : ℕ) → In t (targets G n) → t < length (G .nodes) → Aside t → missing (asked G cl s r) t ≡ missing G t)
+              → n < length (G .nodes) → Aside n → missing (asked G cl s r) n ≡ missing G n
           step u n ih l A =
               laid-missing (asked G cl s r) M c n (omega (arith, longer)) (unresolved-same ∙ u)
               ∙ ap (λ (b : Bool). eqb n 1 || b)
-              (lacking-same (missing (asked G cl s r)) n (A .other) ∙ lacking-local G n (missing (asked G cl s r)) (missing G) (λ t j. ih t j (target-below G L n t j) (aside-on n t A j)))
+              (lacking-same (missing (asked G cl s r)) n (A .other) ∙ lacking-local G n (missing (asked G cl s r)) (missing G) (λ t j.
+              ih t j (target-below G L n t j) (aside-on n t A j)))
               ∙ sym (laid-missing G L a n l u)

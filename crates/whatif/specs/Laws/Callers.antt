@@ -5,7 +5,7 @@ use Prim.Native.Nat.{ℕ}
 use Rattle.store.specs.declared.Size.{Size}
 use Rattle.store.specs.Table.{graphIn}
 use Rattle.links.specs.Build.{Chains}
-use Rattle.labels.specs.Marks.{marksOf}
+use Rattle.labels.specs.Marks.{labelBits}
 use Rattle.graph.specs.declared.Made.{Made}
 use Rattle.graph.specs.declared.Made.the-variants as M
 use Rattle.graph.specs.Graphs.{Outcome, drawn, refused}
@@ -22,7 +22,7 @@ module _ (X : Outcome) (g₀ w₀ m₀ g w ms : List ℕ) (m : Made) (A : Asks X
     pub asks-chains : Chains g s w
     asks-chains = whole .1
 
-    pub asks-marks : ms ≡ marksOf (graphIn g s)
+    pub asks-marks : ms ≡ labelBits (graphIn g s)
     asks-marks = whole .3
 
   pub asks-denied : (k p : ℕ) → m ≡ M.Refused k p → X ≡ refused k p

@@ -20,7 +20,7 @@ use Rattle.labels.specs.Labels.{targets, orderOf, conflicts, excludes, canInsta
 use Rattle.labels.specs.Facts.{order-ordered, install-local, lacking-local, missing-none}
 use Rattle.whatif.specs.Laws.Well.{induct}
 use Rattle.whatif.specs.Laws.Moving.{moveEdge, map-reverse, any-map, filter-map, every-moved, some-moved}
-use Rattle.whatif.specs.Laws.Laid.{Laid, edge-of, edge-target′, runs-at, target-below, laid-sound, in-order, laid-installable, laid-missing}
+use Rattle.whatif.specs.Laws.Laid.{GraphLaid, edge-of, edge-target′, runs-at, target-below, laid-sound, in-order, laid-installable, laid-missing}
 
 -- f gives the number in G of each node of H
 pub record Carried (f : ℕ → ℕ) (H G : Graph) : Type 0 where
@@ -54,7 +54,7 @@ map-in-back f [] y i = absurd i
 map-in-back f (x ∷ l) y (inl e) = (x, inl refl, e)
 map-in-back f (x ∷ l) y (inr i) = let r = map-in-back f l y i in (r .0, inr (r .1), r .2)
 
-module _ (f : ℕ → ℕ) (H G : Graph) (L : Laid H) (K : Laid G) (c : Carried f H G) where
+module _ (f : ℕ → ℕ) (H G : Graph) (L : GraphLaid H) (K : GraphLaid G) (c : Carried f H G) where
   -- ---- what stands around a node
 
   out-moved : (m : ℕ) → m < length (H .nodes) → out G (f m) ≡ map (moveEdge f) (out H m)
@@ -74,7 +74,14 @@ module _ (f : ℕ → ℕ) (H G : Graph) (L : Laid H) (K : Laid G) (c : Carried 
   install-moved : (p : ℕ → Bool) (m : ℕ) → m < length (H .nodes) → canInstall G p (f m) ≡ canInstall H (λ t. p (f t)) m
   unfolding canInstall
   install-moved p m h =
-      rw (c .stands m h, out-moved m h, into-moved m h, any-map (moveEdge f) excludes (into H m), any-map (moveEdge f) conflicts (out H m), every-moved f p (out H m))
+      rw (
+        c .stands m h,
+        out-moved m h,
+        into-moved m h,
+        any-map (moveEdge f) excludes (into H m),
+        any-map (moveEdge f) conflicts (out H m),
+        every-moved f p (out H m),
+      )
 
   lacking-moved : (p : ℕ → Bool) (m : ℕ) → m < length (H .nodes) → isLacking G p (f m) ≡ isLacking H (λ t. p (f t)) m
   unfolding isLacking
@@ -122,13 +129,29 @@ module _ (f : ℕ → ℕ) (H G : Graph) (L : Laid H) (K : Laid G) (c : Carried 
   led a b (edge i) =
       let r = step-back a b i in
       let R = runs-at H L (r .0) (r .1) in
-      record { x = r .0 .source; y = r .0 .target; at-a = r .2; at-b = r .3; below = R .to; under = R .from; path = edge (edge-target′ H (r .0 .source) (r .0 .target) (r .0) (r .1) refl refl) }
+      record {
+        x = r .0 .source;
+        y = r .0 .target;
+        at-a = r .2;
+        at-b = r .3;
+        below = R .to;
+        under = R .from;
+        path = edge (edge-target′ H (r .0 .source) (r .0 .target) (r .0) (r .1) refl refl);
+      }
   led a b (onto {b = d} p i) =
       let w = led a d p in
       let r = step-back d b i in
       let R = runs-at H L (r .0) (r .1) in
       let q : r .0 .source ≡ w .y = c .one (r .0 .source) (w .y) (R .from) (w .below) (sym (r .2) ∙ w .at-b) in
-      record { x = w .x; y = r .0 .target; at-a = w .at-a; at-b = r .3; below = R .to; under = w .under; path = onto (w .path) (edge-target′ H (w .y) (r .0 .target) (r .0) (r .1) q refl) }
+      record {
+        x = w .x;
+        y = r .0 .target;
+        at-a = w .at-a;
+        at-b = r .3;
+        below = R .to;
+        under = w .under;
+        path = onto (w .path) (edge-target′ H (w .y) (r .0 .target) (r .0) (r .1) q refl);
+      }
 
   pub carried-acyclic : Acyclic (targets H) → Acyclic (targets G)
   carried-acyclic a n p =
@@ -141,9 +164,11 @@ module _ (f : ℕ → ℕ) (H G : Graph) (L : Laid H) (K : Laid G) (c : Carried 
   module _ (a : Acyclic (targets H)) where
     pub carried-installable : (m : ℕ) → m < length (H .nodes) → installable G (f m) ≡ installable H m
     carried-installable m h =
-        induct (targets H) (Acyclic (targets H)) a (λ m. m < length (H .nodes) → installable G (f m) ≡ installable H m) step (orderOf H) (order-ordered H (laid-sound H L)) m (in-order H L a m h) h
+        induct (targets H) (Acyclic (targets H)) a (λ m. m < length (H .nodes)
+        → installable G (f m) ≡ installable H m) step (orderOf H) (order-ordered H (laid-sound H L)) m (in-order H L a m h) h
       where
-        step : (n : ℕ) → ((t : ℕ) → In t (targets H n) → t < length (H .nodes) → installable G (f t) ≡ installable H t) → n < length (H .nodes) → installable G (f n) ≡ installable H n
+        step : (n : ℕ) → ((t : ℕ) → In t (targets H n) → t < length (H .nodes) → installable G (f t) ≡ installable H t) → n < length (H .nodes)
+            → installable G (f n) ≡ installable H n
         step n ih l =
             laid-installable G K (carried-acyclic a) (f n) (c .inside n l)
             ∙ install-moved (installable G) n l
@@ -153,7 +178,8 @@ module _ (f : ℕ → ℕ) (H G : Graph) (L : Laid H) (K : Laid G) (c : Carried 
     pub carried-missing : (m : ℕ) → m < length (H .nodes) → missing G (f m) ≡ missing H m
     carried-missing m h =
         split (hasUnresolved H)
-        (λ u. induct (targets H) (Acyclic (targets H)) a (λ m. m < length (H .nodes) → missing G (f m) ≡ missing H m) (step u) (orderOf H) (order-ordered H (laid-sound H L)) m (in-order H L a m h) h)
+        (λ u. induct (targets H) (Acyclic (targets H)) a (λ m. m < length (H .nodes)
+        → missing G (f m) ≡ missing H m) (step u) (orderOf H) (order-ordered H (laid-sound H L)) m (in-order H L a m h) h)
         (λ u. missing-none G (laid-sound G K) (carried-acyclic a) (unresolved-same ∙ u) (f m) ∙ sym (missing-none H (laid-sound H L) a u m))
       where
         first : hasUnresolved H ≡ true → (n : ℕ) → n < length (H .nodes) → eqb (f n) 1 ≡ eqb n 1
@@ -161,9 +187,11 @@ module _ (f : ℕ → ℕ) (H G : Graph) (L : Laid H) (K : Laid G) (c : Carried 
             let e : f 1 ≡ 1 = unresolved-moved u .0 in
             subst (λ (k : ℕ). eqb (f n) k ≡ eqb n 1) e (eqb-moved f n 1 (λ q. c .one n 1 l (node-there H 1 u) q))
 
-        step : hasUnresolved H ≡ true → (n : ℕ) → ((t : ℕ) → In t (targets H n) → t < length (H .nodes) → missing G (f t) ≡ missing H t) → n < length (H .nodes) → missing G (f n) ≡ missing H n
+        step : hasUnresolved H ≡ true → (n : ℕ) → ((t : ℕ) → In t (targets H n) → t < length (H .nodes) → missing G (f t) ≡ missing H t) → n < length (H .nodes)
+            → missing G (f n) ≡ missing H n
         step u n ih l =
             laid-missing G K (carried-acyclic a) (f n) (c .inside n l) (unresolved-moved u .1)
             ∙ ap (λ (b : Bool). b || isLacking G (missing G) (f n)) (first u n l)
-            ∙ ap (λ (b : Bool). eqb n 1 || b) (lacking-moved (missing G) n l ∙ lacking-local H n (λ t. missing G (f t)) (missing H) (λ t i. ih t i (target-below H L n t i)))
+            ∙ ap (λ (b : Bool). eqb n 1 || b) (lacking-moved (missing G) n l
+            ∙ lacking-local H n (λ t. missing G (f t)) (missing H) (λ t i. ih t i (target-below H L n t i)))
             ∙ sym (laid-missing H L a n l u)

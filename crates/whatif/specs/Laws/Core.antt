@@ -11,7 +11,7 @@ use lib.Seq.{getD-append-seam}
 use lib.Dec.{eqb, ltb}
 use borrow.Author.Tests.{eqb-true, eqb-false, eq-eqb, ne-eqb, ltb-true, ltb-false}
 use Rattle.basis.specs.Lists.{any, filter, first, concatMap, orElse, snoc}
-use Rattle.basis.specs.Members.{In, All, split, either, clash, no-both}
+use Rattle.basis.specs.Members.{In, All, split, either, clash, no-both, and-true}
 use Rattle.records.specs.declared.Origin.{Origin}
 use Rattle.records.specs.declared.Origin.the-variants as O
 use Rattle.records.specs.declared.Clause.{Clause}
@@ -32,10 +32,12 @@ use Rattle.store.specs.declared.ConflictEdge.the-variants as W
 use Rattle.store.specs.Graph.{Graph, handing, Added, added, full, addLink}
 use Rattle.linking.specs.declared.Party.{Party}
 use Rattle.linking.specs.declared.Party.the-variants.{Node, Neither}
-use Rattle.linking.specs.Links.{partyBy, partyOf, asList, nodesOf, solvableIn, nameIn, anyOfIn, parentIn, excludedIn, gateReason, parentReason, excludedReason, partnersOr, requirers, requirersBy, Link, link, Linked, more, short, linkAll, requireLinks, requiresOf, excludedLinks, lockLinks, constrainsLinks, forbidAll}
+use Rattle.linking.specs.Links.{partyBy, partyOf, asList, nodesNamed, solvableIn, nameForbidden, anyOfIn, parentIn, excludedIn, gateReason, parentReason}
+use Rattle.linking.specs.Links.{excludedReason, partnersOr, requirers, requirersBy, Link, link, Linked, more, short, linkAll, requireLinks, requiresOf}
+use Rattle.linking.specs.Links.{excludedLinks, lockLinks, constrainsLinks, forbidAll}
 use Rattle.expansion.specs.declared.Side.{Side}
 use Rattle.expansion.specs.declared.Side.the-variants.{Parent, Candidate}
-use Rattle.expansion.specs.Expand.{Build, Step, on, stop, startBuild, kept, onceAll, triplesOf, others, pair, pairAll, forbid, forbidIn, expand}
+use Rattle.expansion.specs.Expand.{Build, ClauseStep, on, stop, startBuild, keptBeside, onceAll, triplesOf, others, pair, pairAll, forbid, forbidIn, expand}
 use Rattle.graph.specs.Graphs.{isLearnt, Turned, go, halt, expanded, coreTurn, handed, turnAt, Built, built, stopped, buildFrom, buildOf}
 use Rattle.whatif.specs.Extended.{Extended}
 use Rattle.whatif.specs.Laws.Rebuilt.{addExcluded}
@@ -137,17 +139,14 @@ all-picked : (Q : ℕ → Type 0) (p : Rec → Bool) (f : Rec → ℕ) (rs : Lis
 all-picked Q p f [] h = tt
 all-picked Q p f (r ∷ rs) h = split (p r) (λ t. rw (t, filter) (h .0 t, all-picked Q p f rs (h .1))) (λ t. rw (t, filter) (all-picked Q p f rs (h .1)))
 
-both : (a b : Bool) → a && b ≡ true → (a ≡ true) × (b ≡ true)
-both true b e = (refl, e)
-both false b e = clash (cc)
-
 module _ (T U : Tables) (valid : Valid T) (s r : ℕ) (E : Extended T U s r) where
   -- ---- what is read of the tables
 
   origin-same : (v : ℕ) → v < length (T .variables) → originOf U v ≡ originOf T v
   unfolding originOf
   origin-same v h =
-      let q : at (U .variables) v ≡ at (T .variables) v = ap (λ (l : List Rec). at l v) (E .variables-are) ∙ List·getD-append (T .variables) (E .new) noRec v h in
+      let q : at (U .variables) v ≡ at (T .variables) v = ap (λ (l : List Rec). at l v) (E .variables-are)
+      ∙ List·getD-append (T .variables) (E .new) noRec v h in
       ap (λ (x : Rec). originBy (x .b) (x .c)) q
 
   party-same : (v : ℕ) → v < length (T .variables) → partyOf U v ≡ partyOf T v
@@ -167,7 +166,8 @@ module _ (T U : Tables) (valid : Valid T) (s r : ℕ) (E : Extended T U s r) whe
   last-clause : clauseOf U (length (T .clauses)) ≡ C.Excluded (E .clause .a) r
   unfolding clauseOf clauseIn
   last-clause =
-      let q : at (U .clauses) (length (T .clauses)) ≡ E .clause = ap (λ (l : List Rec). at l (length (T .clauses))) (E .clauses-are) ∙ getD-append-seam (T .clauses) (E .clause) [] noRec in
+      let q : at (U .clauses) (length (T .clauses)) ≡ E .clause = ap (λ (l : List Rec). at l (length (T .clauses))) (E .clauses-are)
+      ∙ getD-append-seam (T .clauses) (E .clause) [] noRec in
       rw (q, E .kind, E .what)
 
   past-clause : (Z : Tables) (i : ℕ) → length (Z .clauses) ≤ i → clauseOf Z i ≡ C.Learnt
@@ -181,7 +181,8 @@ module _ (T U : Tables) (valid : Valid T) (s r : ℕ) (E : Extended T U s r) whe
   unfolding gatePartners
   gate-same v =
       rw (E .clauses-are)
-      (ap (map (λ (x : Rec). x .b)) (filter-last (λ x. inCore x && (eqb (x .kind) 25 && eqb (x .a) v)) (T .clauses) (E .clause) (rw (not-kind 25 refl) (no (inCore (E .clause))))))
+      (ap (map (λ (x : Rec). x .b)) (filter-last (λ x. inCore x && (eqb (x .kind) 25 && eqb (x .a) v)) (T .clauses) (E .clause)
+      (rw (not-kind 25 refl) (no (inCore (E .clause))))))
     where
       no : (b : Bool) → b && false ≡ false
       no true = refl
@@ -191,7 +192,8 @@ module _ (T U : Tables) (valid : Valid T) (s r : ℕ) (E : Extended T U s r) whe
   unfolding auxPartners
   aux-same k v q =
       rw (E .clauses-are)
-      (ap (map (λ (x : Rec). x .a)) (filter-last (λ x. inCore x && (eqb (x .kind) k && eqb (x .b) v)) (T .clauses) (E .clause) (rw (not-kind k q) (no (inCore (E .clause))))))
+      (ap (map (λ (x : Rec). x .a)) (filter-last (λ x. inCore x && (eqb (x .kind) k && eqb (x .b) v)) (T .clauses) (E .clause)
+      (rw (not-kind k q) (no (inCore (E .clause))))))
     where
       no : (b : Bool) → b && false ≡ false
       no true = refl
@@ -208,7 +210,8 @@ module _ (T U : Tables) (valid : Valid T) (s r : ℕ) (E : Extended T U s r) whe
   gate-named v =
       all-picked (Named T valid) (λ x. inCore x && (eqb (x .kind) 25 && eqb (x .a) v)) (λ x. x .b) (T .clauses)
       (all-at (λ x. inCore x && (eqb (x .kind) 25 && eqb (x .a) v) ≡ true → x .b < length (T .variables)) (T .clauses)
-      (λ i h t. let k = both (eqb (at (T .clauses) i .kind) 25) (eqb (at (T .clauses) i .a) v) (both (inCore (at (T .clauses) i)) (eqb (at (T .clauses) i .kind) 25 && eqb (at (T .clauses) i .a) v) t .1) .0 in
+      (λ i h t. let k = and-true (eqb (at (T .clauses) i .kind) 25) (eqb (at (T .clauses) i .a) v)
+      (and-true (inCore (at (T .clauses) i)) (eqb (at (T .clauses) i .kind) 25 && eqb (at (T .clauses) i .a) v) t .1) .0 in
       two T valid i h 25 A.Any A.Any slots-25 (eqb-true (at (T .clauses) i .kind) 25 k) .1 .0))
 
   aux-named : (k : ℕ) (x y : Allowed) → slots k x y → (v : ℕ) → All (Named T valid) (auxPartners T k v)
@@ -216,10 +219,11 @@ module _ (T U : Tables) (valid : Valid T) (s r : ℕ) (E : Extended T U s r) whe
   aux-named k x y f v =
       all-picked (Named T valid) (λ x. inCore x && (eqb (x .kind) k && eqb (x .b) v)) (λ x. x .a) (T .clauses)
       (all-at (λ x. inCore x && (eqb (x .kind) k && eqb (x .b) v) ≡ true → x .a < length (T .variables)) (T .clauses)
-      (λ i h t. let z = both (eqb (at (T .clauses) i .kind) k) (eqb (at (T .clauses) i .b) v) (both (inCore (at (T .clauses) i)) (eqb (at (T .clauses) i .kind) k && eqb (at (T .clauses) i .b) v) t .1) .0 in
+      (λ i h t. let z = and-true (eqb (at (T .clauses) i .kind) k) (eqb (at (T .clauses) i .b) v)
+      (and-true (inCore (at (T .clauses) i)) (eqb (at (T .clauses) i .kind) k && eqb (at (T .clauses) i .b) v) t .1) .0 in
       two T valid i h k x y f (eqb-true (at (T .clauses) i .kind) k z) .0))
 
-  nodes-same : (vs : List ℕ) → All (Named T valid) vs → concatMap (nodesOf U) vs ≡ concatMap (nodesOf T) vs
+  nodes-same : (vs : List ℕ) → All (Named T valid) vs → concatMap (nodesNamed U) vs ≡ concatMap (nodesNamed T) vs
   nodes-same [] h = refl
   nodes-same (v ∷ vs) h = rw (party-same v (h .0), nodes-same vs (h .1))
 
@@ -265,7 +269,8 @@ module _ (T U : Tables) (valid : Valid T) (s r : ℕ) (E : Extended T U s r) whe
   excluded-of (C.ConstrainsExcluded a b c) h = party-same a (h .0)
   excluded-of (C.AnyOf a b) h = refl
 
-  module _ (f : Tables → Clause → Party) (same : (c : Clause) → All (Named T valid) (varsOf c) → f U c ≡ f T c) (learnt : (Z : Tables) → f Z C.Learnt ≡ Neither) (excluded : (Z : Tables) (a b : ℕ) → f Z (C.Excluded a b) ≡ Neither) where
+  module _ (f : Tables → Clause → Party) (same : (c : Clause) → All (Named T valid) (varsOf c) → f U c ≡ f T c) (learnt : (Z : Tables)
+      → f Z C.Learnt ≡ Neither) (excluded : (Z : Tables) (a b : ℕ) → f Z (C.Excluded a b) ≡ Neither) where
     clause-party : (i : ℕ) → f U (clauseOf U i) ≡ f T (clauseOf T i)
     clause-party i =
         split (ltb i (length (T .clauses)))
@@ -295,7 +300,8 @@ module _ (T U : Tables) (valid : Valid T) (s r : ℕ) (E : Extended T U s r) whe
     where
       by : (o : Option ℕ) → assignedBy T v ≡ o → parentReason U v ≡ parentReason T v
       by none q = let p : assignedBy U v ≡ none = assigned-same v ∙ q in rw (p, q, parentReason)
-      by (some i) q = let p : assignedBy U v ≡ some i = assigned-same v ∙ q in rw (p, q, parentReason) (clause-party parentIn parent-of (λ Z. refl) (λ Z a b. refl) i)
+      by (some i) q =
+          let p : assignedBy U v ≡ some i = assigned-same v ∙ q in rw (p, q, parentReason) (clause-party parentIn parent-of (λ Z. refl) (λ Z a b. refl) i)
 
   excluded-reason : (v : ℕ) → excludedReason U v ≡ excludedReason T v
   unfolding excludedReason
@@ -303,7 +309,8 @@ module _ (T U : Tables) (valid : Valid T) (s r : ℕ) (E : Extended T U s r) whe
     where
       by : (o : Option ℕ) → assignedBy T v ≡ o → excludedReason U v ≡ excludedReason T v
       by none q = let p : assignedBy U v ≡ none = assigned-same v ∙ q in rw (p, q, excludedReason)
-      by (some i) q = let p : assignedBy U v ≡ some i = assigned-same v ∙ q in rw (p, q, excludedReason) (clause-party excludedIn excluded-of (λ Z. refl) (λ Z a b. refl) i)
+      by (some i) q =
+          let p : assignedBy U v ≡ some i = assigned-same v ∙ q in rw (p, q, excludedReason) (clause-party excludedIn excluded-of (λ Z. refl) (λ Z a b. refl) i)
 
   -- ---- each clause
 
@@ -311,7 +318,8 @@ module _ (T U : Tables) (valid : Valid T) (s r : ℕ) (E : Extended T U s r) whe
   requirers-by v O.Root = refl
   requirers-by v (O.Solvable x) = refl
   requirers-by v (O.ForbidMultiple n) = refl
-  requirers-by v O.RequiresGate = partners-same (gatePartners U v) (gatePartners T v) (gateReason U v) (gateReason T v) (gate-same v) (gate-named v) (gate-reason v)
+  requirers-by v O.RequiresGate =
+      partners-same (gatePartners U v) (gatePartners T v) (gateReason U v) (gateReason T v) (gate-same v) (gate-named v) (gate-reason v)
   requirers-by v O.ConstrainsAuxiliary = refl
   requirers-by v O.Other = refl
 
@@ -341,8 +349,12 @@ module _ (T U : Tables) (valid : Valid T) (s r : ℕ) (E : Extended T U s r) whe
 
   others-same : (side : Side) (v : ℕ) → others U side v ≡ others T side v
   unfolding others
-  others-same Parent v = partners-same (auxPartners U 24 v) (auxPartners T 24 v) (excludedReason U v) (excludedReason T v) (aux-same 24 v refl) (aux-named 24 A.Solvable A.Auxiliary slots-24 v) (excluded-reason v)
-  others-same Candidate v = partners-same (auxPartners U 23 v) (auxPartners T 23 v) (parentReason U v) (parentReason T v) (aux-same 23 v refl) (aux-named 23 A.SolvableOrRoot A.Auxiliary slots-23 v) (parent-reason v)
+  others-same Parent v =
+      partners-same (auxPartners U 24 v) (auxPartners T 24 v) (excludedReason U v) (excludedReason T v) (aux-same 24 v refl)
+      (aux-named 24 A.Solvable A.Auxiliary slots-24 v) (excluded-reason v)
+  others-same Candidate v =
+      partners-same (auxPartners U 23 v) (auxPartners T 23 v) (parentReason U v) (parentReason T v) (aux-same 23 v refl)
+      (aux-named 23 A.SolvableOrRoot A.Auxiliary slots-23 v) (parent-reason v)
 
   pair-by : (side : Side) (b v : ℕ) (p : Party) (d : Build) → pairAll U side b v p d ≡ pairAll T side b v p d
   pair-by side b v Neither d = refl
@@ -380,10 +392,12 @@ module _ (T U : Tables) (valid : Valid T) (s r : ℕ) (E : Extended T U s r) whe
 
   -- ---- the new clause
 
-  turn-last : (d : Build) (l : Linked) → linkAll (link (N.Solvable s) (N.Excluded r) (W.Conflict K.Excluded) ∷ []) (handing (length (T .clauses)) (d .graph)) ≡ l → turnAt U (length (T .clauses)) d ≡ expanded (kept (handed (length (T .clauses)) d) l)
+  turn-last : (d : Build) (l : Linked) → linkAll (link (N.Solvable s) (N.Excluded r) (W.Conflict K.Excluded) ∷ []) (handing (length (T .clauses)) (d .graph))
+      ≡ l → turnAt U (length (T .clauses)) d ≡ expanded (keptBeside (handed (length (T .clauses)) d) l)
   unfolding turnAt expand excludedLinks
   turn-last d l e =
-      let q : at (U .clauses) (length (T .clauses)) ≡ E .clause = ap (λ (m : List Rec). at m (length (T .clauses))) (E .clauses-are) ∙ getD-append-seam (T .clauses) (E .clause) [] noRec in
+      let q : at (U .clauses) (length (T .clauses)) ≡ E .clause = ap (λ (m : List Rec). at m (length (T .clauses))) (E .clauses-are)
+      ∙ getD-append-seam (T .clauses) (E .clause) [] noRec in
       let u : coreAt U (length (T .clauses)) ≡ true = ap inCore q ∙ eq-eqb (E .clause .first) 1 (E .core) in
       rw (u, turnAt, last-clause, E .who, e)
 
@@ -399,7 +413,8 @@ module _ (T U : Tables) (valid : Valid T) (s r : ℕ) (E : Extended T U s r) whe
       by (go e) q = rw (q, buildFrom)
       by (halt k) q = rw (q, buildFrom)
 
-  build-more : (n i : ℕ) (b d : Build) → i + n ≡ length (T .clauses) → buildFrom n T i b ≡ built d → buildFrom (suc n) U i b ≡ ending (length (T .clauses)) (turnAt U (length (T .clauses)) d)
+  build-more : (n i : ℕ) (b d : Build) → i + n ≡ length (T .clauses) → buildFrom n T i b ≡ built d
+      → buildFrom (suc n) U i b ≡ ending (length (T .clauses)) (turnAt U (length (T .clauses)) d)
   unfolding buildFrom
   build-more zero i b d h e =
       let z : b ≡ d = cc in
@@ -407,22 +422,27 @@ module _ (T U : Tables) (valid : Valid T) (s r : ℕ) (E : Extended T U s r) whe
       rw (← z, ← y) (finish i b)
   build-more (suc n) i b d h e = by (λ c q. build-more n (suc i) c d (omega arith) q) (turnAt T i b) refl
     where
-      by : ((c : Build) → buildFrom n T (suc i) c ≡ built d → buildFrom (suc n) U (suc i) c ≡ ending (length (T .clauses)) (turnAt U (length (T .clauses)) d)) → (t : Turned) → turnAt T i b ≡ t → buildFrom (suc (suc n)) U i b ≡ ending (length (T .clauses)) (turnAt U (length (T .clauses)) d)
+      by : ((c : Build) → buildFrom n T (suc i) c ≡ built d → buildFrom (suc n) U (suc i) c ≡ ending (length (T .clauses)) (turnAt U (length (T .clauses)) d))
+          → (t : Turned) → turnAt T i b ≡ t → buildFrom (suc (suc n)) U i b ≡ ending (length (T .clauses)) (turnAt U (length (T .clauses)) d)
       by rest (go c) q =
           let u : turnAt U i b ≡ go c = turn-same i b (omega arith) ∙ q in
           rw (u, buildFrom) (rest c (rw (q, buildFrom) at e))
       by rest (halt k) q = let z : stopped k i ≡ built d = rw (q, buildFrom) at e in clash (cc)
 
-  build-extended : (d : Build) → buildOf T ≡ built d → (l : Linked) → linkAll (link (N.Solvable s) (N.Excluded r) (W.Conflict K.Excluded) ∷ []) (handing (length (T .clauses)) (d .graph)) ≡ l → buildOf U ≡ ending (length (T .clauses)) (expanded (kept (handed (length (T .clauses)) d) l))
+  build-extended : (d : Build) → buildOf T ≡ built d → (l : Linked)
+      → linkAll (link (N.Solvable s) (N.Excluded r) (W.Conflict K.Excluded) ∷ []) (handing (length (T .clauses)) (d .graph)) ≡ l
+      → buildOf U ≡ ending (length (T .clauses)) (expanded (keptBeside (handed (length (T .clauses)) d) l))
   unfolding buildOf
   build-extended d e l q = rw longer (build-more (length (T .clauses)) 0 startBuild d (omega arith) e ∙ ap (ending (length (T .clauses))) (turn-last d l q))
 
   -- the graph rules for the core with the new clause: the link added behind the core
-  pub extended-built : (d : Build) → buildOf T ≡ built d → (k : ℕ) (h : Graph) → addExcluded (handing (length (T .clauses)) (d .graph)) s r ≡ added k h → buildOf U ≡ built (record { graph = h; last = d .last; made = d .made })
+  pub extended-built : (d : Build) → buildOf T ≡ built d → (k : ℕ) (h : Graph) → addExcluded (handing (length (T .clauses)) (d .graph)) s r ≡ added k h
+      → buildOf U ≡ built (record { graph = h; last = d .last; made = d .made })
   unfolding linkAll
   extended-built d e k h q = build-extended d e (more h) (rw (q, linkAll))
 
   -- no room: 8, "place the number of clauses"
-  pub extended-full : (d : Build) → buildOf T ≡ built d → addExcluded (handing (length (T .clauses)) (d .graph)) s r ≡ full → buildOf U ≡ stopped 8 (length (T .clauses))
+  pub extended-full : (d : Build) → buildOf T ≡ built d → addExcluded (handing (length (T .clauses)) (d .graph)) s r ≡ full
+      → buildOf U ≡ stopped 8 (length (T .clauses))
   unfolding linkAll
   extended-full d e q = build-extended d e short (rw (q, linkAll))

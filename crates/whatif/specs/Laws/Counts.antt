@@ -28,7 +28,8 @@ mark-some p (r ∷ rs) j n h q =
     (λ t. at (mark-some p rs (suc j)) n (rw (t, filter) at h) (rw (t, marksBy) at q))
     (λ t. mark-some p rs (suc j) n (rw (t, filter) at h) (rw (t, marksBy) at q))
   where
-    at : ((n : ℕ) → n < length (filter p rs) → getD (marksBy p rs (suc j)) n 0 ≡ 0 → ⊥) → (n : ℕ) → n < suc (length (filter p rs)) → getD (suc j ∷ marksBy p rs (suc j)) n 0 ≡ 0 → ⊥
+    at : ((n : ℕ) → n < length (filter p rs) → getD (marksBy p rs (suc j)) n 0 ≡ 0 → ⊥) → (n : ℕ) → n < suc (length (filter p rs))
+        → getD (suc j ∷ marksBy p rs (suc j)) n 0 ≡ 0 → ⊥
     at rest zero h q = omega arith
     at rest (suc n) h q = rest n (omega arith) q
 
@@ -40,7 +41,8 @@ mark-none p (r ∷ rs) j n h =
     (λ t. rw (t, marksBy) (at (mark-none p rs (suc j)) n (rw (t, filter) at h)))
     (λ t. rw (t, marksBy) (mark-none p rs (suc j) n (rw (t, filter) at h)))
   where
-    at : ((n : ℕ) → length (filter p rs) ≤ n → getD (marksBy p rs (suc j)) n 0 ≡ 0) → (n : ℕ) → suc (length (filter p rs)) ≤ n → getD (suc j ∷ marksBy p rs (suc j)) n 0 ≡ 0
+    at : ((n : ℕ) → length (filter p rs) ≤ n → getD (marksBy p rs (suc j)) n 0 ≡ 0) → (n : ℕ) → suc (length (filter p rs)) ≤ n
+        → getD (suc j ∷ marksBy p rs (suc j)) n 0 ≡ 0
     at rest zero h = let f : ⊥ = omega arith in absurd f
     at rest (suc n) h = rest n (omega arith)
 

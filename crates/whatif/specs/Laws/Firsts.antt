@@ -21,19 +21,21 @@ use Rattle.store.specs.declared.ConflictCause.the-variants as K
 use Rattle.store.specs.declared.ConflictEdge.{ConflictEdge}
 use Rattle.store.specs.declared.ConflictEdge.the-variants as W
 use Rattle.store.specs.declared.Edge.{Edge}
-use Rattle.store.specs.Graph.{Graph, Added, added, full, sameNode, addNode, addEdge, addLink, nodeAt, firstAt, lastOf, front, settle}
+use Rattle.store.specs.Graph.{Graph, Added, added, full, sameNode, addNode, addEdge, addLink, nodeAt, firstAt, lastOne, front, settle}
 use Rattle.store.specs.Words.{same-true, same-refl}
-use Rattle.triples.specs.Triple.{Triple, sameTriple}
+use Rattle.expansion.specs.Triple.{Triple, sameTriple}
 use Rattle.linking.specs.declared.Party.{Party}
 use Rattle.linking.specs.declared.Party.the-variants.{Node, Neither}
-use Rattle.linking.specs.Links.{partyOf, solvableIn, nameIn, requirers, Link, Linked, more, short, linkAll, requiresOf, excludedLinks, lockLinks, constrainsLinks, previousLinks, forbidAll}
+use Rattle.linking.specs.Links.{partyOf, solvableIn, nameForbidden, requirers, Link, Linked, more, short, linkAll, requiresOf, excludedLinks, lockLinks}
+use Rattle.linking.specs.Links.{constrainsLinks, previousLinks, forbidAll}
 use Rattle.expansion.specs.declared.Side.{Side}
 use Rattle.expansion.specs.declared.Side.the-variants.{Parent, Candidate}
-use Rattle.expansion.specs.Expand.{Build, Step, on, stop, startBuild, kept, noted, once, onceAll, triplesOf, others, pair, pairAll, lastly, forbid, forbidIn, expand}
+use Rattle.expansion.specs.Expand.{Build, ClauseStep, on, stop, startBuild, keptBeside, noted, once, onceAll, triplesOf, others, pair, pairAll, lastly, forbid}
+use Rattle.expansion.specs.Expand.{forbidIn, expand}
 use Rattle.graph.specs.Graphs.{isLearnt, Turned, go, halt, expanded, coreTurn, handed, turnAt, Built, built, stopped, buildFrom, buildOf}
 use Rattle.shape.specs.Shaped.{Shaped}
 use Rattle.shape.specs.Graphed.{graphed-settle}
-use Rattle.whatif.specs.Asked.{hasNode, withNode, withFirst, asked}
+use Rattle.whatif.specs.Asked.{hasNode, nodesWith, withFirst, asked}
 use Rattle.whatif.specs.Laws.Settling.{stays, settle-from, settle-to, stays-same}
 
 -- ---- as many clauses as nodes
@@ -50,7 +52,7 @@ abbrev LinkedMatched : Linked → Type 0
 LinkedMatched (more g) = Matched g
 LinkedMatched short = Unit {0}
 
-abbrev StepMatched : Step → Type 0
+abbrev StepMatched : ClauseStep → Type 0
 StepMatched (on b) = Matched (b .graph)
 StepMatched stop = Unit {0}
 
@@ -94,7 +96,8 @@ link-matched g x y w m = first (addNode g x) refl
     first (added j k) p = second j k p (rw p at (node-matched g x m)) (addNode k y) refl
     first full p = rw (p, addLink) tt
 
-link-step : (l : Link) (ls : List Link) (g : Graph) → ((h : Graph) → Matched h → LinkedMatched (linkAll ls h)) → Matched g → (a : Added) → addLink g (l .source) (l .target) (l .weight) ≡ a → LinkedMatched (linkAll (l ∷ ls) g)
+link-step : (l : Link) (ls : List Link) (g : Graph) → ((h : Graph) → Matched h → LinkedMatched (linkAll ls h)) → Matched g → (a : Added)
+    → addLink g (l .source) (l .target) (l .weight) ≡ a → LinkedMatched (linkAll (l ∷ ls) g)
 unfolding linkAll
 link-step l ls g f m (added i h) q = rw (q, linkAll) (f h (rw q at (link-matched g (l .source) (l .target) (l .weight) m)))
 link-step l ls g f m full q = rw (q, linkAll) tt
@@ -104,7 +107,7 @@ unfolding linkAll
 links-matched [] g m = m
 links-matched (l ∷ ls) g m = link-step l ls g (λ h u. links-matched ls h u) m (addLink g (l .source) (l .target) (l .weight)) refl
 
-kept-matched : (b : Build) (l : Linked) → LinkedMatched l → StepMatched (kept b l)
+kept-matched : (b : Build) (l : Linked) → LinkedMatched l → StepMatched (keptBeside b l)
 kept-matched b (more g) m = m
 kept-matched b short m = m
 
@@ -125,7 +128,8 @@ once-matched b t m =
     (noted-matched b t (addLink (b .graph) (t .parent) (t .candidate) (W.Conflict (K.Constrains (t .vset))))
     (link-matched (b .graph) (t .parent) (t .candidate) (W.Conflict (K.Constrains (t .vset))) m)))
 
-once-step : (t : Triple) (ts : List Triple) (b : Build) → ((c : Build) → Matched (c .graph) → StepMatched (onceAll ts c)) → Matched (b .graph) → (s : Step) → once b t ≡ s → StepMatched (onceAll (t ∷ ts) b)
+once-step : (t : Triple) (ts : List Triple) (b : Build) → ((c : Build) → Matched (c .graph) → StepMatched (onceAll ts c)) → Matched (b .graph)
+    → (s : ClauseStep) → once b t ≡ s → StepMatched (onceAll (t ∷ ts) b)
 unfolding onceAll
 once-step t ts b f m (on c) q = rw (q, onceAll) (f c (rw q at (once-matched b t m)))
 once-step t ts b f m stop q = rw (q, onceAll) tt
@@ -146,7 +150,8 @@ forbid-matched g p s m = by (addNode g (N.Solvable s)) refl
 forbids-matched : (b : Build) (ss ns : List ℕ) → Matched (b .graph) → StepMatched (forbidIn b ss ns)
 forbids-matched b [] ns m = m
 forbids-matched b (s ∷ ss) [] m = m
-forbids-matched b (s ∷ ss) (n ∷ ns) m = lastly-matched b n s (forbidAll (b .graph) (getD (b .last) n none) s) (forbid-matched (b .graph) (getD (b .last) n none) s m)
+forbids-matched b (s ∷ ss) (n ∷ ns) m =
+    lastly-matched b n s (forbidAll (b .graph) (getD (b .last) n none) s) (forbid-matched (b .graph) (getD (b .last) n none) s m)
 
 module _ (T : Tables) where
   pairs-matched : (side : Side) (b v : ℕ) (p : Party) (d : Build) → Matched (d .graph) → StepMatched (pairAll T side b v p d)
@@ -158,15 +163,16 @@ module _ (T : Tables) where
   expand-matched C.InstallRoot d m = m
   expand-matched (C.Excluded x r) d m = kept-matched d (linkAll (excludedLinks T x r) (d .graph)) (links-matched (excludedLinks T x r) (d .graph) m)
   expand-matched C.Learnt d m = m
-  expand-matched (C.Requires x q) d m = kept-matched d (linkAll (requiresOf T q (requirers T x)) (d .graph)) (links-matched (requiresOf T q (requirers T x)) (d .graph) m)
+  expand-matched (C.Requires x q) d m =
+      kept-matched d (linkAll (requiresOf T q (requirers T x)) (d .graph)) (links-matched (requiresOf T q (requirers T x)) (d .graph) m)
   expand-matched (C.Lock x y) d m = kept-matched d (linkAll (lockLinks T x y) (d .graph)) (links-matched (lockLinks T x y) (d .graph) m)
-  expand-matched (C.ForbidMultipleInstances x y) d m = forbids-matched d (solvableIn (originOf T x)) (nameIn (originOf T y)) m
+  expand-matched (C.ForbidMultipleInstances x y) d m = forbids-matched d (solvableIn (originOf T x)) (nameForbidden (originOf T y)) m
   expand-matched (C.Constrains x y v) d m = kept-matched d (linkAll (constrainsLinks T x y v) (d .graph)) (links-matched (constrainsLinks T x y v) (d .graph) m)
   expand-matched (C.ConstrainsParent x y v) d m = pairs-matched Parent y v (partyOf T x) d m
   expand-matched (C.ConstrainsExcluded x y v) d m = pairs-matched Candidate y v (partyOf T x) d m
   expand-matched (C.AnyOf x y) d m = m
 
-  expanded-matched : (s : Step) → StepMatched s → TurnMatched (expanded s)
+  expanded-matched : (s : ClauseStep) → StepMatched s → TurnMatched (expanded s)
   expanded-matched (on b) m = m
   expanded-matched stop m = m
 
@@ -179,7 +185,8 @@ module _ (T : Tables) where
       (λ u. rw (t, turnAt, u, coreTurn) (expanded-matched (expand T (clauseOf T i) (handed i b)) (expand-matched (clauseOf T i) (handed i b) m))))
       (λ t. rw (t, turnAt) m)
 
-  build-step : (n i : ℕ) (b : Build) → ((c : Build) → Matched (c .graph) → BuiltMatched (buildFrom n T (suc i) c)) → Matched (b .graph) → (t : Turned) → turnAt T i b ≡ t → BuiltMatched (buildFrom (suc n) T i b)
+  build-step : (n i : ℕ) (b : Build) → ((c : Build) → Matched (c .graph) → BuiltMatched (buildFrom n T (suc i) c)) → Matched (b .graph) → (t : Turned)
+      → turnAt T i b ≡ t → BuiltMatched (buildFrom (suc n) T i b)
   unfolding buildFrom
   build-step n i b f m (go c) q = rw (q, buildFrom) (f c (rw q at (turn-matched i b m)))
   build-step n i b f m (halt k) q = rw (q, buildFrom) tt
@@ -220,7 +227,8 @@ first-one (n ∷ ns) (c ∷ fs) x f g d p q =
     (λ e. either q (λ u. e .1 ∙ sym (u .1)) (λ v. absurd (d .0 (rw (← e .0) (first-in ns fs x g v)))))
     (λ r. either q (λ u. absurd (d .0 (rw (← u .0) (first-in ns fs x f r)))) (λ v. first-one ns fs x f g (d .1) r v))
 
-first-append : (ns ks : List ConflictNode) (fs gs : List ℕ) (x : ConflictNode) (f : ℕ) → length fs ≡ length ns → First (ns ++ ks) (fs ++ gs) x f → First ns fs x f ⊎ First ks gs x f
+first-append : (ns ks : List ConflictNode) (fs gs : List ℕ) (x : ConflictNode) (f : ℕ) → length fs ≡ length ns → First (ns ++ ks) (fs ++ gs) x f
+    → First ns fs x f ⊎ First ks gs x f
 first-append [] ks [] gs x f m p = inr p
 first-append [] ks (c ∷ fs) gs x f m p = let z : ⊥ = omega (arith, m) in absurd z
 first-append (n ∷ ns) ks [] gs x f m p = let z : ⊥ = omega (arith, m) in absurd z
@@ -229,15 +237,15 @@ first-append (n ∷ ns) ks (c ∷ fs) gs x f m p =
 
 -- ---- the last before the others
 
-moved : {A : Type 0} (l : List A) → length (lastOf l ++ front l) ≡ length l
-moved l = rw (length-append (lastOf l) (front l)) (count l)
+moved : {A : Type 0} (l : List A) → length (lastOne l ++ front l) ≡ length l
+moved l = rw (length-append (lastOne l) (front l)) (count l)
   where
-    count : {A : Type 0} (l : List A) → length (lastOf l) + length (front l) ≡ length l
+    count : {A : Type 0} (l : List A) → length (lastOne l) + length (front l) ≡ length l
     count [] = refl
     count (x ∷ []) = refl
     count (x ∷ y ∷ l) = omega (arith, count (y ∷ l))
 
-last-snoc : {A : Type 0} (l : List A) (z : A) → lastOf (snoc l z) ≡ z ∷ []
+last-snoc : {A : Type 0} (l : List A) (z : A) → lastOne (snoc l z) ≡ z ∷ []
 last-snoc [] z = refl
 last-snoc (x ∷ []) z = refl
 last-snoc (x ∷ y ∷ l) z = last-snoc (y ∷ l) z
@@ -247,10 +255,10 @@ front-snoc [] z = refl
 front-snoc (x ∷ []) z = refl
 front-snoc {A = A} (x ∷ y ∷ l) z = ap (λ (k : List A). x ∷ k) (front-snoc (y ∷ l) z)
 
-gone-snoc : {A : Type 0} (l : List A) (z : A) → lastOf (snoc l z) ++ front (snoc l z) ≡ z ∷ l
+gone-snoc : {A : Type 0} (l : List A) (z : A) → lastOne (snoc l z) ++ front (snoc l z) ≡ z ∷ l
 gone-snoc {A = A} l z = ap (λ (k : List A). k ++ front (snoc l z)) (last-snoc l z) ∙ ap (λ (k : List A). z ∷ k) (front-snoc l z)
 
-last-first : (ns : List ConflictNode) (fs : List ℕ) (x : ConflictNode) (f : ℕ) → length fs ≡ length ns → First (lastOf ns) (lastOf fs) x f → First ns fs x f
+last-first : (ns : List ConflictNode) (fs : List ℕ) (x : ConflictNode) (f : ℕ) → length fs ≡ length ns → First (lastOne ns) (lastOne fs) x f → First ns fs x f
 last-first [] fs x f m p = absurd p
 last-first (n ∷ ns) [] x f m p = let z : ⊥ = omega (arith, m) in absurd z
 last-first (n ∷ []) (c ∷ []) x f m p = p
@@ -265,7 +273,7 @@ front-first (n ∷ []) (c ∷ fs) x f m p = absurd p
 front-first (n ∷ k ∷ ns) (c ∷ []) x f m p = let z : ⊥ = omega (arith, m) in absurd z
 front-first (n ∷ k ∷ ns) (c ∷ d ∷ fs) x f m p = either p (λ e. inl e) (λ q. inr (front-first (k ∷ ns) (d ∷ fs) x f (omega (arith, m)) q))
 
-last-same : (ns : List ConflictNode) (fs : List ℕ) → length fs ≡ length ns → length (lastOf fs) ≡ length (lastOf ns)
+last-same : (ns : List ConflictNode) (fs : List ℕ) → length fs ≡ length ns → length (lastOne fs) ≡ length (lastOne ns)
 last-same [] [] m = refl
 last-same [] (c ∷ fs) m = let z : ⊥ = omega (arith, m) in absurd z
 last-same (n ∷ ns) [] m = let z : ⊥ = omega (arith, m) in absurd z
@@ -274,9 +282,11 @@ last-same (n ∷ []) (c ∷ d ∷ fs) m = let z : ⊥ = omega (arith, m) in absu
 last-same (n ∷ k ∷ ns) (c ∷ []) m = let z : ⊥ = omega (arith, m) in absurd z
 last-same (n ∷ k ∷ ns) (c ∷ d ∷ fs) m = last-same (k ∷ ns) (d ∷ fs) (omega (arith, m))
 
-gone-first : (ns : List ConflictNode) (fs : List ℕ) (x : ConflictNode) (f : ℕ) → length fs ≡ length ns → First (lastOf ns ++ front ns) (lastOf fs ++ front fs) x f → First ns fs x f
+gone-first : (ns : List ConflictNode) (fs : List ℕ) (x : ConflictNode) (f : ℕ) → length fs ≡ length ns
+    → First (lastOne ns ++ front ns) (lastOne fs ++ front fs) x f → First ns fs x f
 gone-first ns fs x f m p =
-    either (first-append (lastOf ns) (front ns) (lastOf fs) (front fs) x f (last-same ns fs m) p) (λ u. last-first ns fs x f m u) (λ v. front-first ns fs x f m v)
+    either (first-append (lastOne ns) (front ns) (lastOne fs) (front fs) x f (last-same ns fs m) p) (λ u. last-first ns fs x f m u) (λ v.
+    front-first ns fs x f m v)
 
 -- ---- one more node, with the clause that adds it
 
@@ -284,23 +294,24 @@ data Adds (ns : List ConflictNode) (fs : List ℕ) (x : ConflictNode) (c : ℕ) 
   old : In x ns → Adds ns fs x c ns fs
   new : (In x ns → ⊥) → Adds ns fs x c (snoc ns x) (snoc fs c)
 
-adds : (ns : List ConflictNode) (fs : List ℕ) (x : ConflictNode) (c : ℕ) → Adds ns fs x c (withNode ns x) (withFirst ns x fs c)
+adds : (ns : List ConflictNode) (fs : List ℕ) (x : ConflictNode) (c : ℕ) → Adds ns fs x c (nodesWith ns x) (withFirst ns x fs c)
 adds ns fs x c =
     split (hasNode ns x)
-    (λ t. let r = any-some (sameNode x) ns t in rw (t, withNode, withFirst) (old (rw (same-true x (r .0) (r .2)) (r .1))))
-    (λ t. rw (t, withNode, withFirst) (new (λ i. no-both (hasNode ns x) (any-in (sameNode x) x ns (same-refl x) i) t)))
+    (λ t. let r = any-some (sameNode x) ns t in rw (t, nodesWith, withFirst) (old (rw (same-true x (r .0) (r .2)) (r .1))))
+    (λ t. rw (t, nodesWith, withFirst) (new (λ i. no-both (hasNode ns x) (any-in (sameNode x) x ns (same-refl x) i) t)))
 
-adds-matched : (ns : List ConflictNode) (fs : List ℕ) (x : ConflictNode) (c : ℕ) → length fs ≡ length ns → (ms : List ConflictNode) (gs : List ℕ) → Adds ns fs x c ms gs → length gs ≡ length ms
+adds-matched : (ns : List ConflictNode) (fs : List ℕ) (x : ConflictNode) (c : ℕ) → length fs ≡ length ns → (ms : List ConflictNode) (gs : List ℕ)
+    → Adds ns fs x c ms gs → length gs ≡ length ms
 adds-matched ns fs x c m ms gs (old i) = m
 adds-matched ns fs x c m ms gs (new f) = both-more ns fs x c m
 
 -- ---- where unresolved goes
 
 abbrev goneNodes : List ConflictNode → List ConflictNode
-goneNodes ns = N.Root ∷ lastOf (drop 2 ns) ++ front (drop 2 ns)
+goneNodes ns = N.Root ∷ lastOne (drop 2 ns) ++ front (drop 2 ns)
 
 abbrev goneFirsts : List ℕ → List ℕ
-goneFirsts fs = 65535 ∷ lastOf (drop 2 fs) ++ front (drop 2 fs)
+goneFirsts fs = 65535 ∷ lastOne (drop 2 fs) ++ front (drop 2 fs)
 
 gone-matched : (ns : List ConflictNode) (fs : List ℕ) → 2 ≤ length ns → length fs ≡ length ns → length (goneFirsts fs) ≡ length (goneNodes ns)
 gone-matched [] fs h m = let z : ⊥ = omega arith in absurd z
@@ -310,14 +321,17 @@ gone-matched (a ∷ b ∷ ns) (c ∷ []) h m = let z : ⊥ = omega (arith, m) in
 gone-matched (a ∷ b ∷ ns) (c ∷ d ∷ fs) h m = ap suc (moved fs ∙ omega (arith, m) ∙ sym (moved ns))
 
 -- asking behind the removal and removing behind the question: each node keeps its clause
-gone-adds : (ns : List ConflictNode) (fs : List ℕ) (x : ConflictNode) (c : ℕ) → 2 ≤ length ns → length fs ≡ length ns → (In x (goneNodes ns) → In x ns) → (In x ns → In x (goneNodes ns))
-    → (ms ks : List ConflictNode) (gs hs : List ℕ) → Adds (goneNodes ns) (goneFirsts fs) x c ms gs → Adds ns fs x c ks hs → (y : ConflictNode) (f : ℕ) → First ms gs y f → First (goneNodes ks) (goneFirsts hs) y f
+gone-adds : (ns : List ConflictNode) (fs : List ℕ) (x : ConflictNode) (c : ℕ) → 2 ≤ length ns → length fs ≡ length ns → (In x (goneNodes ns) → In x ns)
+    → (In x ns → In x (goneNodes ns))
+    → (ms ks : List ConflictNode) (gs hs : List ℕ) → Adds (goneNodes ns) (goneFirsts fs) x c ms gs → Adds ns fs x c ks hs → (y : ConflictNode) (f : ℕ)
+    → First ms gs y f → First (goneNodes ks) (goneFirsts hs) y f
 gone-adds ns fs x c h m to back ms ks gs hs (old i) (old j) y f p = p
 gone-adds ns fs x c h m to back ms ks gs hs (old i) (new g) y f p = absurd (g (to i))
 gone-adds ns fs x c h m to back ms ks gs hs (new g) (old j) y f p = absurd (g (back j))
 gone-adds ns fs x c h m to back ms ks gs hs (new g) (new k) y f p = by ns fs h m p
   where
-    by : (ns : List ConflictNode) (fs : List ℕ) → 2 ≤ length ns → length fs ≡ length ns → First (snoc (goneNodes ns) x) (snoc (goneFirsts fs) c) y f → First (goneNodes (snoc ns x)) (goneFirsts (snoc fs c)) y f
+    by : (ns : List ConflictNode) (fs : List ℕ) → 2 ≤ length ns → length fs ≡ length ns → First (snoc (goneNodes ns) x) (snoc (goneFirsts fs) c) y f
+        → First (goneNodes (snoc ns x)) (goneFirsts (snoc fs c)) y f
     by [] fs h m p = let z : ⊥ = omega arith in absurd z
     by (a ∷ []) fs h m p = let z : ⊥ = omega arith in absurd z
     by (a ∷ b ∷ ns) [] h m p = let z : ⊥ = omega (arith, m) in absurd z
@@ -361,13 +375,16 @@ module _ (T : Tables) (H : Graph) (cl s r : ℕ) (S : Shaped T H) (i : In (N.Sol
   two : (G : Graph) → Shaped T G → 2 ≤ length (G .nodes)
   two G P = let l : length (G .nodes) ≡ suc (suc (length (P .rest))) = ap length (P .nodes-are) in omega arith
 
-  on-by : stays H ≡ false → (x : ConflictNode) (f : ℕ) → First (asked (settle H) cl s r .nodes) (asked (settle H) cl s r .firsts) x f → First (settle (asked H cl s r) .nodes) (settle (asked H cl s r) .firsts) x f
+  on-by : stays H ≡ false → (x : ConflictNode) (f : ℕ) → First (asked (settle H) cl s r .nodes) (asked (settle H) cl s r .firsts) x f
+      → First (settle (asked H cl s r) .nodes) (settle (asked H cl s r) .firsts) x f
   on-by t x f p =
       let u : stays (asked H cl s r) ≡ false = stays-same T H cl s r S i S⁺ ∙ t in
       let a : Adds (goneNodes (H .nodes)) (settle H .firsts) (N.Excluded r) cl (asked (settle H) cl s r .nodes) (asked (settle H) cl s r .firsts) =
-      subst (λ (l : List ConflictNode). Adds l (settle H .firsts) (N.Excluded r) cl (asked (settle H) cl s r .nodes) (asked (settle H) cl s r .firsts)) (gone-nodes H t) (asked-adds (settle H) cl s r) in
+      subst (λ (l : List ConflictNode). Adds l (settle H .firsts) (N.Excluded r) cl (asked (settle H) cl s r .nodes) (asked (settle H) cl s r .firsts))
+      (gone-nodes H t) (asked-adds (settle H) cl s r) in
       let b : Adds (goneNodes (H .nodes)) (goneFirsts (H .firsts)) (N.Excluded r) cl (asked (settle H) cl s r .nodes) (asked (settle H) cl s r .firsts) =
-      subst (λ (l : List ℕ). Adds (goneNodes (H .nodes)) l (N.Excluded r) cl (asked (settle H) cl s r .nodes) (asked (settle H) cl s r .firsts)) (gone-firsts H t) a in
+      subst (λ (l : List ℕ). Adds (goneNodes (H .nodes)) l (N.Excluded r) cl (asked (settle H) cl s r .nodes) (asked (settle H) cl s r .firsts))
+      (gone-firsts H t) a in
       let q : First (goneNodes (asked H cl s r .nodes)) (goneFirsts (asked H cl s r .firsts)) x f =
       gone-adds (H .nodes) (H .firsts) (N.Excluded r) cl (two H S) m
       (λ j. settle-from T H S (N.Excluded r) (subst (λ (l : List ConflictNode). In (N.Excluded r) l) (sym (gone-nodes H t)) j) .0)
@@ -376,19 +393,26 @@ module _ (T : Tables) (H : Graph) (cl s r : ℕ) (S : Shaped T H) (i : In (N.Sol
       subst (λ (l : List ℕ). First (settle (asked H cl s r) .nodes) l x f) (sym (gone-firsts (asked H cl s r) u))
       (subst (λ (l : List ConflictNode). First l (goneFirsts (asked H cl s r .firsts)) x f) (sym (gone-nodes (asked H cl s r) u)) q)
 
-  firsts-on : (x : ConflictNode) (f : ℕ) → First (asked (settle H) cl s r .nodes) (asked (settle H) cl s r .firsts) x f → First (settle (asked H cl s r) .nodes) (settle (asked H cl s r) .firsts) x f
+  firsts-on : (x : ConflictNode) (f : ℕ) → First (asked (settle H) cl s r .nodes) (asked (settle H) cl s r .firsts) x f
+      → First (settle (asked H cl s r) .nodes) (settle (asked H cl s r) .firsts) x f
   firsts-on x f p =
       split (stays H)
-      (λ t. let q : First (asked H cl s r .nodes) (asked H cl s r .firsts) x f = subst (λ (G : Graph). First (asked G cl s r .nodes) (asked G cl s r .firsts) x f) (settle-stays H t) p in
+      (λ t. let q : First (asked H cl s r .nodes) (asked H cl s r .firsts) x f = subst (λ (G : Graph).
+      First (asked G cl s r .nodes) (asked G cl s r .firsts) x f) (settle-stays H t) p in
       subst (λ (G : Graph). First (G .nodes) (G .firsts) x f) (sym (settle-stays (asked H cl s r) (stays-same T H cl s r S i S⁺ ∙ t))) q)
       (λ t. on-by t x f p)
 
   -- two nodes that stand for the same were first added by the same clause
-  pub asked-firsts : (n j : ℕ) → n < length (asked (settle H) cl s r .nodes) → j < length (settle (asked H cl s r) .nodes) → nodeAt (asked (settle H) cl s r) n ≡ nodeAt (settle (asked H cl s r)) j → firstAt (asked (settle H) cl s r) n ≡ firstAt (settle (asked H cl s r)) j
+  pub asked-firsts : (n j : ℕ) → n < length (asked (settle H) cl s r .nodes) → j < length (settle (asked H cl s r) .nodes)
+      → nodeAt (asked (settle H) cl s r) n ≡ nodeAt (settle (asked H cl s r)) j → firstAt (asked (settle H) cl s r) n ≡ firstAt (settle (asked H cl s r)) j
   asked-firsts n j h k e =
       let mK : Matched (asked (settle H) cl s r) = asked-matched (settle H) cl s r (settle-matched H (two H S) m) in
       let mM : Matched (settle (asked H cl s r)) = settle-matched (asked H cl s r) (two (asked H cl s r) S⁺) (asked-matched H cl s r m) in
-      let p = firsts-on (nodeAt (asked (settle H) cl s r) n) (firstAt (asked (settle H) cl s r) n) (first-at (asked (settle H) cl s r .nodes) (asked (settle H) cl s r .firsts) mK n h) in
-      let q : First (settle (asked H cl s r) .nodes) (settle (asked H cl s r) .firsts) (nodeAt (settle (asked H cl s r)) j) (firstAt (asked (settle H) cl s r) n) = subst (λ (y : ConflictNode). First (settle (asked H cl s r) .nodes) (settle (asked H cl s r) .firsts) y (firstAt (asked (settle H) cl s r) n)) e p in
-      first-one (settle (asked H cl s r) .nodes) (settle (asked H cl s r) .firsts) (nodeAt (settle (asked H cl s r)) j) (firstAt (asked (settle H) cl s r) n) (firstAt (settle (asked H cl s r)) j) (graphed-settle T (asked H cl s r) S⁺ .once)
+      let p = firsts-on (nodeAt (asked (settle H) cl s r) n) (firstAt (asked (settle H) cl s r) n)
+      (first-at (asked (settle H) cl s r .nodes) (asked (settle H) cl s r .firsts) mK n h) in
+      let q : First (settle (asked H cl s r) .nodes) (settle (asked H cl s r) .firsts) (nodeAt (settle (asked H cl s r)) j)
+      (firstAt (asked (settle H) cl s r) n) = subst (λ (y : ConflictNode).
+      First (settle (asked H cl s r) .nodes) (settle (asked H cl s r) .firsts) y (firstAt (asked (settle H) cl s r) n)) e p in
+      first-one (settle (asked H cl s r) .nodes) (settle (asked H cl s r) .firsts) (nodeAt (settle (asked H cl s r)) j) (firstAt (asked (settle H) cl s r) n)
+      (firstAt (settle (asked H cl s r)) j) (graphed-settle T (asked H cl s r) S⁺ .once)
       q (first-at (settle (asked H cl s r) .nodes) (settle (asked H cl s r) .firsts) mM j k)

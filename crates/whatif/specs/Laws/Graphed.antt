@@ -10,7 +10,7 @@ use lib.ListN.{length, length-append}
 use lib.Dec.{ltb, leb}
 use borrow.Author.Tests.{leb-true, ltb-true}
 use Rattle.basis.specs.Lists.{filter, snoc}
-use Rattle.basis.specs.Members.{In, All, split, clash, all-append}
+use Rattle.basis.specs.Members.{In, All, split, clash, all-append, and-true}
 use Rattle.records.specs.Tables.{Tables}
 use Rattle.index.specs.Promise.{Valid}
 use Rattle.store.specs.declared.ConflictNode.{ConflictNode}
@@ -24,8 +24,8 @@ use Rattle.cycles.specs.Laws.Found.{none-free}
 use Rattle.graph.specs.Graphs.{Outcome, drawn, refused, graphOf}
 use Rattle.shape.specs.Shaped.{Known}
 use Rattle.shape.specs.Graphed.{Graphed, graphed}
-use Rattle.whatif.specs.Asked.{hasNode, withNode, newEdge, asked, known, goneCount, fits, unlessCycle, questionOf}
-use Rattle.whatif.specs.Laws.Laid.{Laid, drawn-laid, laid-sound}
+use Rattle.whatif.specs.Asked.{hasNode, nodesWith, newEdge, asked, known, goneCount, fitsGraph, unlessCycle, questionOf}
+use Rattle.whatif.specs.Laws.Laid.{GraphLaid, drawn-laid, laid-sound}
 use Rattle.whatif.specs.Laws.Asked.{asked-laid, asked-acyclic, edges-are}
 use Rattle.whatif.specs.Laws.Tests.{is-in}
 
@@ -35,7 +35,7 @@ pub record Given (T : Tables) (G : Graph) (s r : ℕ) (K : Graph) : Type 0 where
   pub solvable : s < length (T .solvables)
   pub reason : r < length (T .reasons)
   pub node : hasNode (G .nodes) (N.Solvable s) ≡ true
-  pub room : fits G r ≡ true
+  pub room : fitsGraph G r ≡ true
   pub free : cycleOf G ≡ none
 
 and-both : (a b c : Bool) → a && (b && c) ≡ true → (a ≡ true) × (b ≡ true) × (c ≡ true)
@@ -43,44 +43,49 @@ and-both true true c e = (refl, refl, e)
 and-both true false c e = clash (cc)
 and-both false b c e = clash (cc)
 
-and-true : (a b : Bool) → a && b ≡ true → (a ≡ true) × (b ≡ true)
-and-true true b e = (refl, e)
-and-true false b e = clash (cc)
-
 module _ (T : Tables) (G : Graph) (s r : ℕ) (K : Graph) where
-  by-cycle : (o : Option ℕ) → cycleOf G ≡ o → unlessCycle o (drawn (asked G (length (T .clauses)) s r)) ≡ drawn K → known T G s r ≡ true → fits G r ≡ true → Given T G s r K
+  by-cycle : (o : Option ℕ) → cycleOf G ≡ o → unlessCycle o (drawn (asked G (length (T .clauses)) s r)) ≡ drawn K → known T G s r ≡ true → fitsGraph G r ≡ true
+      → Given T G s r K
   by-cycle none e q k f =
       let z = and-both (ltb s (length (T .solvables))) (ltb r (length (T .reasons))) (hasNode (G .nodes) (N.Solvable s)) k in
       let x : asked G (length (T .clauses)) s r ≡ K = cc in
-      record { is = sym x; solvable = ltb-true s (length (T .solvables)) (z .0); reason = ltb-true r (length (T .reasons)) (z .1); node = z .2; room = f; free = e }
+      record {
+        is = sym x;
+        solvable = ltb-true s (length (T .solvables)) (z .0);
+        reason = ltb-true r (length (T .reasons)) (z .1);
+        node = z .2;
+        room = f;
+        free = e;
+      }
   by-cycle (some n) e q k f = clash (cc)
 
   pub question-given : questionOf T G s r ≡ drawn K → Given T G s r K
   unfolding questionOf
   question-given q =
       split (known T G s r)
-      (λ k. split (fits G r)
+      (λ k. split (fitsGraph G r)
       (λ f. by-cycle (cycleOf G) refl (rw (k, f) at q) k f)
       (λ f. let z : refused 8 (length (T .clauses)) ≡ drawn K = rw (k, f) at q in clash (cc)))
       (λ k. let z : refused 4 0 ≡ drawn K = rw k at q in clash (cc))
 
 -- ---- the promise
 
-same-filter : (ns : List ConflictNode) (r : ℕ) → length (filter isSolvable (withNode ns (N.Excluded r))) ≡ length (filter isSolvable ns)
-same-filter ns r = split (hasNode ns (N.Excluded r)) (λ t. rw (t, withNode)) (λ t. rw (t, withNode) (ap length (last ns)))
+same-filter : (ns : List ConflictNode) (r : ℕ) → length (filter isSolvable (nodesWith ns (N.Excluded r))) ≡ length (filter isSolvable ns)
+same-filter ns r = split (hasNode ns (N.Excluded r)) (λ t. rw (t, nodesWith)) (λ t. rw (t, nodesWith) (ap length (last ns)))
   where
     last : (ms : List ConflictNode) → filter isSolvable (snoc ms (N.Excluded r)) ≡ filter isSolvable ms
     last [] = refl
     last (x ∷ ms) = split (isSolvable x) (λ t. rw (t, filter) (ap (λ (l : List ConflictNode). x ∷ l) (last ms))) (λ t. rw (t, filter) (last ms))
 
-known-with : (T : Tables) (ns : List ConflictNode) (r : ℕ) → All (Known T) ns → r < length (T .reasons) → All (Known T) (withNode ns (N.Excluded r))
-known-with T ns r a h = split (hasNode ns (N.Excluded r)) (λ t. rw (t, withNode) a) (λ t. rw (t, withNode) (all-append (Known T) ns (N.Excluded r ∷ []) a (h, tt)))
+known-with : (T : Tables) (ns : List ConflictNode) (r : ℕ) → All (Known T) ns → r < length (T .reasons) → All (Known T) (nodesWith ns (N.Excluded r))
+known-with T ns r a h =
+    split (hasNode ns (N.Excluded r)) (λ t. rw (t, nodesWith) a) (λ t. rw (t, nodesWith) (all-append (Known T) ns (N.Excluded r ∷ []) a (h, tt)))
 
-tail-with : (ns tail : List ConflictNode) (r : ℕ) → ns ≡ N.Root ∷ tail → (t : List ConflictNode) × (withNode ns (N.Excluded r) ≡ N.Root ∷ t)
+tail-with : (ns tail : List ConflictNode) (r : ℕ) → ns ≡ N.Root ∷ tail → (t : List ConflictNode) × (nodesWith ns (N.Excluded r) ≡ N.Root ∷ t)
 tail-with ns tail r q =
     split (hasNode ns (N.Excluded r))
-    (λ t. (tail, rw (t, withNode) q))
-    (λ t. (snoc tail (N.Excluded r), rw (t, withNode) (ap (λ (l : List ConflictNode). snoc l (N.Excluded r)) q)))
+    (λ t. (tail, rw (t, nodesWith) q))
+    (λ t. (snoc tail (N.Excluded r), rw (t, nodesWith) (ap (λ (l : List ConflictNode). snoc l (N.Excluded r)) q)))
 
 module _ (T : Tables) (valid : Valid T) (G : Graph) (d : graphOf T ≡ drawn G) (s r : ℕ) (K : Graph) (q : questionOf T G s r ≡ drawn K) where
   gave : Given T G s r K
@@ -89,7 +94,7 @@ module _ (T : Tables) (valid : Valid T) (G : Graph) (d : graphOf T ≡ drawn G) 
   P : Graphed T G
   P = graphed T valid G d .0
 
-  here-laid : Laid G
+  here-laid : GraphLaid G
   here-laid = drawn-laid T valid G d
 
   pub given-free : Acyclic (targets G)
@@ -98,16 +103,19 @@ module _ (T : Tables) (valid : Valid T) (G : Graph) (d : graphOf T ≡ drawn G) 
   chosen-in : In (N.Solvable s) (G .nodes)
   chosen-in = is-in (G .nodes) (N.Solvable s) (gave .node)
 
-  pub given-nodes : length (withNode (G .nodes) (N.Excluded r)) ≤ 128
+  pub given-nodes : length (nodesWith (G .nodes) (N.Excluded r)) ≤ 128
   given-nodes =
-      let f = and-true (leb (length (withNode (G .nodes) (N.Excluded r)) + goneCount G) 128) (ltb (length (G .edges)) 1024) (gave .room) in
-      let l : length (withNode (G .nodes) (N.Excluded r)) + goneCount G ≤ 128 = leb-true (length (withNode (G .nodes) (N.Excluded r)) + goneCount G) 128 (f .0) in
+      let f = and-true (leb (length (nodesWith (G .nodes) (N.Excluded r)) + goneCount G) 128) (ltb (length (G .edges)) 1024) (gave .room) in
+      let l : length (nodesWith (G .nodes) (N.Excluded r)) + goneCount G ≤ 128 =
+      leb-true (length (nodesWith (G .nodes) (N.Excluded r)) + goneCount G) 128 (f .0) in
       omega arith
 
   few-edges : length (G .edges) < 1024
-  few-edges = ltb-true (length (G .edges)) 1024 (and-true (leb (length (withNode (G .nodes) (N.Excluded r)) + goneCount G) 128) (ltb (length (G .edges)) 1024) (gave .room) .1)
+  few-edges =
+      ltb-true (length (G .edges)) 1024 (and-true (leb (length (nodesWith (G .nodes) (N.Excluded r)) + goneCount G) 128) (ltb (length (G .edges)) 1024)
+      (gave .room) .1)
 
-  pub given-laid : Laid (asked G (length (T .clauses)) s r)
+  pub given-laid : GraphLaid (asked G (length (T .clauses)) s r)
   unfolding asked
   given-laid = asked-laid G (length (T .clauses)) s r here-laid chosen-in given-nodes
 

@@ -16,7 +16,7 @@ use Rattle.index.specs.Promise.{Valid}
 use Rattle.store.specs.declared.ConflictNode.the-variants as N
 use Rattle.store.specs.declared.Edge.{Edge}
 use Rattle.store.specs.Graph.{Graph, out, nodeAt, unreached}
-use Rattle.reach.specs.Paths.{Path}
+use Rattle.links.specs.Paths.{Path}
 use Rattle.graph.specs.Graphs.{drawn, graphOf}
 use Rattle.shape.specs.Shaped.{Runs}
 use Rattle.shape.specs.Graphed.{Graphed, graphed}
@@ -25,9 +25,9 @@ use Rattle.labels.specs.Ordered.{Acyclic}
 use Rattle.labels.specs.Labels.{targets, orderOf, canInstall, isLacking, installable, missing, hasUnresolved}
 use Rattle.labels.specs.Facts.{Sound, installable-settled, missing-settled}
 use Rattle.labels.specs.Laws.Paths.{edge-target, target-edge}
-use Rattle.settled.specs.Settled.{path-ordered, all-reached}
+use Rattle.shape.specs.Settled.{path-ordered, all-reached}
 
-pub record Laid (G : Graph) : Type 0 where
+pub record GraphLaid (G : Graph) : Type 0 where
   pub some : 0 < length (G .nodes)
   pub root : nodeAt G 0 ≡ N.Root
   pub most : length (G .nodes) ≤ 128
@@ -37,10 +37,18 @@ pub record Laid (G : Graph) : Type 0 where
   pub reached : (n : ℕ) → n < length (G .nodes) → Path G 0 n
 
 -- a drawn graph is
-pub drawn-laid : (T : Tables) → Valid T → (G : Graph) → graphOf T ≡ drawn G → Laid G
+pub drawn-laid : (T : Tables) → Valid T → (G : Graph) → graphOf T ≡ drawn G → GraphLaid G
 drawn-laid T v G d =
     let P : Graphed T G = graphed T v G d .0 in
-    record { some = some-node T G P; root = root-first T G P; most = P .nodes-most; once = P .once; runs = P .edges; unresolved = P .unresolved; reached = all-reached T v G d }
+    record {
+      some = some-node T G P;
+      root = root-first T G P;
+      most = P .nodes-most;
+      once = P .once;
+      runs = P .edges;
+      unresolved = P .unresolved;
+      reached = all-reached T v G d;
+    }
 
 -- ---- edges and targets
 
@@ -51,7 +59,7 @@ edge-of G n t i = let r = target-edge G n t i in (r .0, r .1, r .2, sym (r .3))
 pub edge-target′ : (G : Graph) (n t : ℕ) (e : Edge) → In e (G .edges) → e .source ≡ n → e .target ≡ t → In t (targets G n)
 edge-target′ G n t e i p q = rw (← p, ← q) (edge-target G e i)
 
-module _ (G : Graph) (L : Laid G) where
+module _ (G : Graph) (L : GraphLaid G) where
   pub runs-at : (e : Edge) → In e (G .edges) → Runs (G .nodes) e
   runs-at e i = all-in (Runs (G .nodes)) (G .edges) e (L .runs) i
 

@@ -56,7 +56,8 @@ module _ (f : ℕ → ℕ) where
   runs-moved [] = refl
   runs-moved (e ∷ es) = by (e .weight) refl (runs-moved es)
     where
-      by : (w : ConflictEdge) → e .weight ≡ w → runsOf (map (moveEdge f) es) ≡ map (moveRun f) (runsOf es) → runsOf (map (moveEdge f) (e ∷ es)) ≡ map (moveRun f) (runsOf (e ∷ es))
+      by : (w : ConflictEdge) → e .weight ≡ w → runsOf (map (moveEdge f) es) ≡ map (moveRun f) (runsOf es)
+          → runsOf (map (moveEdge f) (e ∷ es)) ≡ map (moveRun f) (runsOf (e ∷ es))
       by (W.Requires q) p r = rw (p, runsOf, r) (add-moved q (e .target) (runsOf es))
       by (W.Conflict c) p r = rw (p, runsOf) r
 

@@ -11,18 +11,18 @@ use Rattle.records.specs.Tables.{Tables}
 use Rattle.index.specs.Promise.{Valid}
 use Rattle.store.specs.declared.ConflictNode.the-variants as N
 use Rattle.store.specs.Graph.{Graph, nodeAt}
-use Rattle.reach.specs.Paths.{Path}
+use Rattle.links.specs.Paths.{Path}
 use Rattle.labels.specs.Labels.{targets, orderOf, installable, missing}
-use Rattle.labels.specs.Marks.{marksOf}
+use Rattle.labels.specs.Marks.{labelBits}
 use Rattle.labels.specs.Ordered.{Acyclic}
 use Rattle.cycles.specs.Cycles.{cycleOf}
 use Rattle.graph.specs.Graphs.{Outcome, drawn, refused, graphOf}
 use Rattle.shape.specs.Graphed.{Graphed}
-use Rattle.whatif.specs.Asked.{hasNode, asked, known, fits, unlessCycle, questionOf, askDrawn, askTables}
-use Rattle.whatif.specs.Alike.{Same}
+use Rattle.whatif.specs.Asked.{hasNode, asked, known, fitsGraph, unlessCycle, questionOf, askDrawn, askTables}
+use Rattle.whatif.specs.Alike.{SameGraph}
 use Rattle.whatif.specs.Extended.{Extended}
 use Rattle.whatif.specs.Relabel.{relabel}
-use Rattle.whatif.specs.Laws.Laid.{Laid, drawn-laid}
+use Rattle.whatif.specs.Laws.Laid.{GraphLaid, drawn-laid}
 use Rattle.whatif.specs.Laws.Asked.{chosen}
 use Rattle.whatif.specs.Laws.WhatIf.{Rebuilt, what-if, what-if-drawn, what-if-full}
 use Rattle.whatif.specs.Laws.Relabelled.{relabelled-anew, kept-anew}
@@ -60,10 +60,10 @@ module _ (T : Tables) (valid : Valid T) (s r : ℕ) where
 
     -- "The outcome must be what the graph rules give for the file's core with one more Excluded clause at its end .. : the same nodes, edges
     -- and labels, compared by what a node stands for"
-    pub outcome-same : (U : Tables) → Extended T U s r → (M : Graph) × (graphOf U ≡ drawn M) × Same K M
+    pub outcome-same : (U : Tables) → Extended T U s r → (M : Graph) × (graphOf U ≡ drawn M) × SameGraph K M
     outcome-same U E =
         let w = what-if T valid U s r E (gave .reason) G (A .draws) chosen-in (gave .room) (given-free T valid G (A .draws) s r K (A .gives)) in
-        (w .0, w .1, subst (λ (X : Graph). Same X (w .0)) (sym (gave .is)) (w .2 .same))
+        (w .0, w .1, subst (λ (X : Graph). SameGraph X (w .0)) (sym (gave .is)) (w .2 .same))
 
     -- what every drawn graph promises holds of it, and it has no cycle
     pub outcome-graphed : Graphed T K
@@ -79,22 +79,25 @@ module _ (T : Tables) (valid : Valid T) (s r : ℕ) where
     unfolding asked
     outcome-kept ms n f =
         subst (λ (X : Graph). getD (relabel X (chosen G (length (T .clauses)) s r) (orderOf X) ms) n 0 ≡ getD ms n 0) (sym (gave .is))
-        (kept-anew G (length (T .clauses)) s r (drawn-laid T valid G (A .draws)) chosen-in (given-nodes T valid G (A .draws) s r K (A .gives)) (given-free T valid G (A .draws) s r K (A .gives)) ms n f)
+        (kept-anew G (length (T .clauses)) s r (drawn-laid T valid G (A .draws)) chosen-in (given-nodes T valid G (A .draws) s r K (A .gives))
+        (given-free T valid G (A .draws) s r K (A .gives)) ms n f)
 
     -- and from the labels of the graph as it is, it makes those of the graph asked for
-    pub outcome-labels : relabel K (chosen G (length (T .clauses)) s r) (orderOf K) (marksOf G) ≡ marksOf K
+    pub outcome-labels : relabel K (chosen G (length (T .clauses)) s r) (orderOf K) (labelBits G) ≡ labelBits K
     unfolding asked
     outcome-labels =
-        subst (λ (X : Graph). relabel X (chosen G (length (T .clauses)) s r) (orderOf X) (marksOf G) ≡ marksOf X) (sym (gave .is))
-        (relabelled-anew G (length (T .clauses)) s r (drawn-laid T valid G (A .draws)) chosen-in (given-nodes T valid G (A .draws) s r K (A .gives)) (given-free T valid G (A .draws) s r K (A .gives)))
+        subst (λ (X : Graph). relabel X (chosen G (length (T .clauses)) s r) (orderOf X) (labelBits G) ≡ labelBits X) (sym (gave .is))
+        (relabelled-anew G (length (T .clauses)) s r (drawn-laid T valid G (A .draws)) chosen-in (given-nodes T valid G (A .draws) s r K (A .gives))
+        (given-free T valid G (A .draws) s r K (A .gives)))
 
   -- "8 as in the build, unresolved counted, place the number of clauses": for a graph that is drawn and a question that is known, 8 exactly
   -- where the longer core gets it, with a cycle or without
-  module _ (G : Graph) (d : graphOf T ≡ drawn G) (U : Tables) (E : Extended T U s r) (h : r < length (T .reasons)) (t : hasNode (G .nodes) (N.Solvable s) ≡ true) where
-    pub full-same : fits G r ≡ false → graphOf U ≡ refused 8 (length (T .clauses))
+  module _ (G : Graph) (d : graphOf T ≡ drawn G) (U : Tables) (E : Extended T U s r) (h : r < length (T .reasons)) (t : hasNode (G .nodes) (N.Solvable s)
+      ≡ true) where
+    pub full-same : fitsGraph G r ≡ false → graphOf U ≡ refused 8 (length (T .clauses))
     full-same f = what-if-full T valid U s r E h G d (is-in (G .nodes) (N.Solvable s) t) f
 
-    pub room-same : fits G r ≡ true → graphOf U ≡ refused 8 (length (T .clauses)) → ⊥
+    pub room-same : fitsGraph G r ≡ true → graphOf U ≡ refused 8 (length (T .clauses)) → ⊥
     room-same f e =
         let w = what-if-drawn T valid U s r E h G d (is-in (G .nodes) (N.Solvable s) t) f in
         let z : drawn (w .0) ≡ refused 8 (length (T .clauses)) = sym (w .1) ∙ e in

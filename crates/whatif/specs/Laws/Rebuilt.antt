@@ -19,19 +19,20 @@ use Rattle.store.specs.declared.ConflictNode.the-variants as N
 use Rattle.store.specs.declared.ConflictCause.the-variants as C
 use Rattle.store.specs.declared.ConflictEdge.the-variants as W
 use Rattle.store.specs.declared.Edge.{Edge}
-use Rattle.store.specs.Graph.{Graph, handing, Added, added, full, sameNode, addNode, addEdge, addLink, nodeAt, isUnresolved, lastOf, front, settle, reached, unreached}
+use Rattle.store.specs.Graph.{Graph, handing, Added, added, full, sameNode, addNode, addEdge, addLink, nodeAt, isUnresolved, lastOne, front, settle, reached}
+use Rattle.store.specs.Graph.{unreached}
 use Rattle.store.specs.Words.{same-true, same-refl}
-use Rattle.reach.specs.Paths.{Path, Whole, path-reached, upto-in}
+use Rattle.links.specs.Paths.{Path, GraphWhole, path-reached, upto-in}
 use Rattle.shape.specs.Shaped.{Known, Runs, Shaped, Good, shaped-link, shaped-hand}
 use Rattle.shape.specs.Graphed.{Graphed, Cut, cut, length-snoc, graphed-settle, at-in}
 use Rattle.shape.specs.Uses.{some-node, root-first}
 use Rattle.labels.specs.Ordered.{Acyclic}
 use Rattle.labels.specs.Labels.{targets, installable, missing, hasUnresolved}
-use Rattle.whatif.specs.Laws.Laid.{Laid, laid-sound, runs-at}
+use Rattle.whatif.specs.Laws.Laid.{GraphLaid, laid-sound, runs-at}
 use Rattle.store.specs.Numbers.{numberOf}
-use Rattle.whatif.specs.Alike.{Alike}
+use Rattle.whatif.specs.Alike.{GraphsAlike}
 use Rattle.whatif.specs.Laws.Alike.{number-in, number-out, alike-reached, alike-acyclic, alike-installable, alike-missing}
-use Rattle.whatif.specs.Asked.{hasNode, withNode, withFirst, newEdge, asked, goneCount}
+use Rattle.whatif.specs.Asked.{hasNode, nodesWith, withFirst, newEdge, asked, goneCount}
 use Rattle.whatif.specs.Laws.Asked.{With, there, new, with-node, Kept, kept, asked-laid, asked-acyclic}
 use Rattle.whatif.specs.Laws.Settling.{stays, settle-from, settle-to, chosen-settled, stays-same, asked-alike}
 
@@ -52,9 +53,11 @@ place-out x (y ∷ ns) a f =
 
 node-old : (g : Graph) (x : ConflictNode) → In x (g .nodes) → addNode g x ≡ added (numberOf (g .nodes) x) g
 unfolding addNode
-node-old g x i = let q : place (sameNode x) (g .nodes) 0 ≡ some (numberOf (g .nodes) x) = place-there x (g .nodes) 0 i ∙ ap some (omega arith) in rw (q, addNode)
+node-old g x i =
+    let q : place (sameNode x) (g .nodes) 0 ≡ some (numberOf (g .nodes) x) = place-there x (g .nodes) 0 i ∙ ap some (omega arith) in rw (q, addNode)
 
-node-new : (g : Graph) (x : ConflictNode) → (In x (g .nodes) → ⊥) → length (g .nodes) < 128 → addNode g x ≡ added (length (g .nodes)) (record { nodes = snoc (g .nodes) x; edges = g .edges; firsts = snoc (g .firsts) (g .hand); hand = g .hand })
+node-new : (g : Graph) (x : ConflictNode) → (In x (g .nodes) → ⊥) → length (g .nodes) < 128
+    → addNode g x ≡ added (length (g .nodes)) (record { nodes = snoc (g .nodes) x; edges = g .edges; firsts = snoc (g .firsts) (g .hand); hand = g .hand })
 unfolding addNode
 node-new g x f h = rw (place-out x (g .nodes) 0 f, addNode, lt-ltb (length (g .nodes)) 128 h)
 
@@ -64,32 +67,34 @@ node-full g x f h = rw (place-out x (g .nodes) 0 f, addNode, le-ltb (length (g .
 
 -- the graph with node x, which stays as it is where it has one
 abbrev grownBy : Graph → ConflictNode → Graph
-grownBy g x = record { nodes = withNode (g .nodes) x; edges = g .edges; firsts = withFirst (g .nodes) x (g .firsts) (g .hand); hand = g .hand }
+grownBy g x = record { nodes = nodesWith (g .nodes) x; edges = g .edges; firsts = withFirst (g .nodes) x (g .firsts) (g .hand); hand = g .hand }
 
-node-with : (g : Graph) (x : ConflictNode) → length (withNode (g .nodes) x) ≤ 128 → addNode g x ≡ added (numberOf (g .nodes) x) (grownBy g x)
+node-with : (g : Graph) (x : ConflictNode) → length (nodesWith (g .nodes) x) ≤ 128 → addNode g x ≡ added (numberOf (g .nodes) x) (grownBy g x)
 node-with g x h =
     split (hasNode (g .nodes) x)
     (λ t. let r = any-some (sameNode x) (g .nodes) t in
     let i : In x (g .nodes) = rw (same-true x (r .0) (r .2)) (r .1) in
-    rw (t, withNode, withFirst) (node-old g x i))
+    rw (t, nodesWith, withFirst) (node-old g x i))
     (λ t. let f : In x (g .nodes) → ⊥ = λ i. no-both (hasNode (g .nodes) x) (any-in (sameNode x) x (g .nodes) (same-refl x) i) t in
     let l : length (snoc (g .nodes) x) ≡ length (g .nodes) + 1 = length-append (g .nodes) (x ∷ []) in
-    let m : length (snoc (g .nodes) x) ≤ 128 = rw (t, withNode) at h in
-    rw (t, withNode, withFirst, number-out (g .nodes) x f) (node-new g x f (omega arith)))
+    let m : length (snoc (g .nodes) x) ≤ 128 = rw (t, nodesWith) at h in
+    rw (t, nodesWith, withFirst, number-out (g .nodes) x f) (node-new g x f (omega arith)))
 
 abbrev pub addExcluded : Graph → ℕ → ℕ → Added
 addExcluded H s r = addLink H (N.Solvable s) (N.Excluded r) (W.Conflict C.Excluded)
 
 -- with room, the link makes the graph asked for, of the graph before unresolved may go
-pub link-asked : (H : Graph) (cl s r : ℕ) → In (N.Solvable s) (H .nodes) → length (asked H cl s r .nodes) ≤ 128 → length (H .edges) < 1024 → addExcluded (handing cl H) s r ≡ added (length (H .edges)) (asked H cl s r)
+pub link-asked : (H : Graph) (cl s r : ℕ) → In (N.Solvable s) (H .nodes) → length (asked H cl s r .nodes) ≤ 128 → length (H .edges) < 1024
+    → addExcluded (handing cl H) s r ≡ added (length (H .edges)) (asked H cl s r)
 unfolding addLink addEdge asked
 link-asked H cl s r i n e =
     rw (node-old (handing cl H) (N.Solvable s) i, addLink, node-with (handing cl H) (N.Excluded r) n, lt-ltb (length (H .edges)) 1024 e)
 
 -- else 8
-pub link-full-node : (H : Graph) (cl s r : ℕ) → In (N.Solvable s) (H .nodes) → length (H .nodes) ≤ 128 → 128 < length (asked H cl s r .nodes) → addExcluded (handing cl H) s r ≡ full
+pub link-full-node : (H : Graph) (cl s r : ℕ) → In (N.Solvable s) (H .nodes) → length (H .nodes) ≤ 128 → 128 < length (asked H cl s r .nodes)
+    → addExcluded (handing cl H) s r ≡ full
 unfolding addLink asked
-link-full-node H cl s r i m n = by (withNode (H .nodes) (N.Excluded r)) (with-node (H .nodes) (N.Excluded r)) n
+link-full-node H cl s r i m n = by (nodesWith (H .nodes) (N.Excluded r)) (with-node (H .nodes) (N.Excluded r)) n
   where
     by : (ms : List ConflictNode) → With (H .nodes) (N.Excluded r) ms → 128 < length ms → addExcluded (handing cl H) s r ≡ full
     by ms (there j) h = let f : ⊥ = omega arith in absurd f
@@ -97,7 +102,8 @@ link-full-node H cl s r i m n = by (withNode (H .nodes) (N.Excluded r)) (with-no
         let l : length (snoc (H .nodes) (N.Excluded r)) ≡ length (H .nodes) + 1 = length-append (H .nodes) (N.Excluded r ∷ []) in
         rw (node-old (handing cl H) (N.Solvable s) i, addLink, node-full (handing cl H) (N.Excluded r) f (omega arith))
 
-pub link-full-edge : (H : Graph) (cl s r : ℕ) → In (N.Solvable s) (H .nodes) → length (asked H cl s r .nodes) ≤ 128 → 1024 ≤ length (H .edges) → addExcluded (handing cl H) s r ≡ full
+pub link-full-edge : (H : Graph) (cl s r : ℕ) → In (N.Solvable s) (H .nodes) → length (asked H cl s r .nodes) ≤ 128 → 1024 ≤ length (H .edges)
+    → addExcluded (handing cl H) s r ≡ full
 unfolding addLink addEdge asked
 link-full-edge H cl s r i n e =
     rw (node-old (handing cl H) (N.Solvable s) i, addLink, node-with (handing cl H) (N.Excluded r) n, le-ltb (length (H .edges)) 1024 e)
@@ -143,7 +149,7 @@ module _ (T : Tables) (H : Graph) (S : Shaped T H) where
       (λ t. rw t (omega arith))
       (λ t. let p : H .nodes ≡ N.Root ∷ N.UnresolvedDependency ∷ S .rest = S .nodes-are in rw (t, p) (omega (arith, moved (S .rest))))
     where
-      moved : (l : List ConflictNode) → length (lastOf l ++ front l) ≡ length l
+      moved : (l : List ConflictNode) → length (lastOne l ++ front l) ≡ length l
       moved [] = refl
       moved (x ∷ l) =
           let c : Cut (x ∷ l) = cut x l in
@@ -154,7 +160,8 @@ module _ (T : Tables) (H : Graph) (S : Shaped T H) where
   pub count-settled : length (settle H .nodes) + goneCount (settle H) ≡ length (H .nodes)
   count-settled = rw settled-unresolved settled-count
 
-  same-with : (x : ConflictNode) → (x ≡ N.UnresolvedDependency → ⊥) → (ms ks : List ConflictNode) → With (settle H .nodes) x ms → With (H .nodes) x ks → length ms + goneCount (settle H) ≡ length ks
+  same-with : (x : ConflictNode) → (x ≡ N.UnresolvedDependency → ⊥) → (ms ks : List ConflictNode) → With (settle H .nodes) x ms → With (H .nodes) x ks
+      → length ms + goneCount (settle H) ≡ length ks
   same-with x d ms ks (there i) (there j) = count-settled
   same-with x d ms ks (there i) (new g) = absurd (g (settle-from T H S x i .0))
   same-with x d ms ks (new f) (there j) = absurd (f (settle-to T H S x j (λ q. absurd (d q))))
@@ -165,7 +172,8 @@ module _ (T : Tables) (H : Graph) (S : Shaped T H) where
   pub count-asked : (cl s r : ℕ) → length (asked (settle H) cl s r .nodes) + goneCount (settle H) ≡ length (asked H cl s r .nodes)
   unfolding asked
   count-asked cl s r =
-      same-with (N.Excluded r) (λ q. clash (cc)) (withNode (settle H .nodes) (N.Excluded r)) (withNode (H .nodes) (N.Excluded r)) (with-node (settle H .nodes) (N.Excluded r)) (with-node (H .nodes) (N.Excluded r))
+      same-with (N.Excluded r) (λ q. clash (cc)) (nodesWith (settle H .nodes) (N.Excluded r)) (nodesWith (H .nodes) (N.Excluded r))
+      (with-node (settle H .nodes) (N.Excluded r)) (with-node (H .nodes) (N.Excluded r))
 
 -- ---- (D): what every node is reached in gets no 9
 
@@ -173,7 +181,7 @@ first-all : (p : ℕ → Bool) (l : List ℕ) → ((n : ℕ) → In n l → p n 
 first-all p [] h = refl
 first-all p (x ∷ l) h = rw (h x (inl refl), first) (first-all p l (λ n i. h n (inr i)))
 
-pub no-nine : (G : Graph) → Whole G → ((n : ℕ) → n < length (G .nodes) → Path G 0 n) → unreached G ≡ none
+pub no-nine : (G : Graph) → GraphWhole G → ((n : ℕ) → n < length (G .nodes) → Path G 0 n) → unreached G ≡ none
 unfolding unreached
 no-nine G w f =
     first-all (λ n. not (has n (reached G))) (upto (length (G .nodes)) 0)
@@ -183,7 +191,9 @@ no-nine G w f =
 
 -- ---- the theorem
 
-module _ (T : Tables) (H : Graph) (S : Shaped T H) (L : Laid (settle H)) (cl s r : ℕ) (i : In (N.Solvable s) (settle H .nodes)) (k : r < length (T .reasons)) (ks : s < length (T .solvables)) (n : length (asked (settle H) cl s r .nodes) + goneCount (settle H) ≤ 128) (e : length (settle H .edges) < 1024) where
+module _ (T : Tables) (H : Graph) (S : Shaped T H) (L : GraphLaid (settle H)) (cl s r : ℕ) (i : In (N.Solvable s) (settle H .nodes)) (k : r
+    < length (T .reasons)) (ks : s < length (T .solvables)) (n : length (asked (settle H) cl s r .nodes) + goneCount (settle H)
+    ≤ 128) (e : length (settle H .edges) < 1024) where
   in-core : In (N.Solvable s) (H .nodes)
   in-core = settle-from T H S (N.Solvable s) i .0
 
@@ -206,14 +216,14 @@ module _ (T : Tables) (H : Graph) (S : Shaped T H) (L : Laid (settle H)) (cl s r
   P : Graphed T rebuilt
   P = graphed-settle T (asked H cl s r) rebuilt-shaped
 
-  here-laid : Laid (asked (settle H) cl s r)
+  here-laid : GraphLaid (asked (settle H) cl s r)
   here-laid = asked-laid (settle H) cl s r L i (omega (arith, n))
 
   -- (A) "the same nodes, edges .., compared by what a node stands for"
-  pub rebuilt-alike : Alike (asked (settle H) cl s r) rebuilt
+  pub rebuilt-alike : GraphsAlike (asked (settle H) cl s r) rebuilt
   rebuilt-alike = asked-alike T H cl s r S in-core rebuilt-shaped
 
-  pub rebuilt-laid : Laid rebuilt
+  pub rebuilt-laid : GraphLaid rebuilt
   rebuilt-laid =
       record {
         some = some-node T rebuilt P;
@@ -222,7 +232,9 @@ module _ (T : Tables) (H : Graph) (S : Shaped T H) (L : Laid (settle H)) (cl s r
         once = P .once;
         runs = P .edges;
         unresolved = P .unresolved;
-        reached = alike-reached (asked (settle H) cl s r) rebuilt (here-laid .once) (P .once) (P .edges) rebuilt-alike (root-first T rebuilt P ∙ sym (here-laid .root)) (some-node T rebuilt P) (here-laid .reached);
+        reached =
+            alike-reached (asked (settle H) cl s r) rebuilt (here-laid .once) (P .once) (P .edges) rebuilt-alike (root-first T rebuilt P
+            ∙ sym (here-laid .root)) (some-node T rebuilt P) (here-laid .reached);
       }
 
   -- (D) 9 does not come
@@ -236,7 +248,8 @@ module _ (T : Tables) (H : Graph) (S : Shaped T H) (L : Laid (settle H)) (cl s r
     pub rebuilt-acyclic : Acyclic (targets rebuilt)
     rebuilt-acyclic = alike-acyclic (asked (settle H) cl s r) rebuilt here-laid rebuilt-laid rebuilt-alike asked-no-cycle
 
-    module _ (m j : ℕ) (hm : m < length (asked (settle H) cl s r .nodes)) (hj : j < length (rebuilt .nodes)) (q : nodeAt (asked (settle H) cl s r) m ≡ nodeAt rebuilt j) where
+    module _ (m j : ℕ) (hm : m < length (asked (settle H) cl s r .nodes)) (hj : j < length (rebuilt .nodes)) (q : nodeAt (asked (settle H) cl s r) m
+        ≡ nodeAt rebuilt j) where
       -- (C) ".. and labels"
       pub rebuilt-installable : installable (asked (settle H) cl s r) m ≡ installable rebuilt j
       rebuilt-installable = alike-installable (asked (settle H) cl s r) rebuilt here-laid rebuilt-laid rebuilt-alike asked-no-cycle m j hm hj q

@@ -18,22 +18,26 @@ use Rattle.store.specs.declared.Edge.{Edge}
 use Rattle.store.specs.Graph.{Graph, nodeAt, out, into, isUnresolved}
 use Rattle.labels.specs.Runs.{runsOf, everyRun, someRun}
 use Rattle.labels.specs.Ordered.{Leads, edge, onto, Acyclic, Ordered, none, more}
-use Rattle.labels.specs.Labels.{targets, orderOf, conflicts, excludes, canInstall, isLacking, passing, installables, missings, installable, missing, hasUnresolved}
+use Rattle.labels.specs.Labels.{targets, orderOf, conflicts, excludes, canInstall, isLacking, passing, installables, missings, installable, missing}
+use Rattle.labels.specs.Labels.{hasUnresolved}
 use Rattle.labels.specs.Facts.{blank, order-ordered, install-local, lacking-local, missing-none, has-other}
-use Rattle.labels.specs.Marks.{bitsOf, instAt, missAt, anew, marksOf, marks-at}
+use Rattle.labels.specs.Marks.{bitsOf, instAt, missAt, anew, labelBits, marks-at}
 use Rattle.labels.specs.Bounds.{order-below}
 use Rattle.whatif.specs.Laws.Well.{begins, before}
-use Rattle.whatif.specs.Laws.Laid.{Laid, edge-of, laid-sound, in-order, laid-installable, laid-missing}
+use Rattle.whatif.specs.Laws.Laid.{GraphLaid, edge-of, laid-sound, in-order, laid-installable, laid-missing}
 use Rattle.whatif.specs.Asked.{asked}
 use Rattle.whatif.specs.Relabel.{Pass, touched, turn, turns, relabel}
-use Rattle.whatif.specs.Laws.Asked.{chosen, reason, longer, asked-laid, asked-acyclic, which-target, old-target, ends-there, out-chosen, into-reason, Aside, stays-installable, stays-missing, unresolved-same, reason-node, nodes-kept, two, old-node, chosen-below, chosen-node}
+use Rattle.whatif.specs.Laws.Asked.{chosen, reason, longer, asked-laid, asked-acyclic, which-target, old-target, ends-there, out-chosen, into-reason}
+use Rattle.whatif.specs.Laws.Asked.{Aside, stays-installable, stays-missing, unresolved-same, reason-node, nodes-kept, two, old-node, chosen-below}
+use Rattle.whatif.specs.Laws.Asked.{chosen-node}
 
 pub turns-last : (K : Graph) (a : ℕ) (l : List ℕ) (n : ℕ) (w : Pass) → turns K a (snoc l n) w ≡ turn K a n (turns K a l w)
 unfolding turns
 turns-last K a [] n w = refl
 turns-last K a (m ∷ l) n w = turns-last K a l n (turn K a m w)
 
-pub turn-yes : (K : Graph) (a n : ℕ) (w : Pass) → touched K a (w .up) n ≡ true → turn K a n w ≡ record { marks = set (w .marks) n (anew K (w .marks) n); up = set (w .up) n 1 }
+pub turn-yes : (K : Graph) (a n : ℕ) (w : Pass) → touched K a (w .up) n ≡ true
+    → turn K a n w ≡ record { marks = set (w .marks) n (anew K (w .marks) n); up = set (w .up) n 1 }
 unfolding turn
 turn-yes K a n w t = rw (t, turn)
 
@@ -76,7 +80,7 @@ pub first-edge : (to : ℕ → List ℕ) {n b : ℕ} → Leads to n b → (t : �
 first-edge to (edge {b = b} i) = (b, i, inl refl)
 first-edge to (onto {b = d} {c = c} p i) = let r = first-edge to p in (r .0, r .1, either (r .2) (λ q. inr (edge (rw q i))) (λ q. inr (onto q i)))
 
-module _ (G : Graph) (cl s r : ℕ) (L : Laid G) (i : In (N.Solvable s) (G .nodes)) where
+module _ (G : Graph) (cl s r : ℕ) (L : GraphLaid G) (i : In (N.Solvable s) (G .nodes)) where
   abbrev K : Graph
   K = asked G cl s r
 
@@ -113,7 +117,8 @@ module _ (G : Graph) (cl s r : ℕ) (L : Laid G) (i : In (N.Solvable s) (G .node
   up-touched ms l w R n h (inr p) =
       let z = first-edge (targets G) p in
       or-right (eqb n a) (any (λ t. eqb (getD (w .up) t 0) 1) (targets K n))
-      (any-in (λ t. eqb (getD (w .up) t 0) 1) (z .0) (targets K n) (eq-eqb (getD (w .up) (z .0) 0) 1 (R .up-no (z .0) (h (z .0) (z .1)) (z .2))) (old-target G cl s r L i n (z .0) (z .1)))
+      (any-in (λ t. eqb (getD (w .up) t 0) 1) (z .0) (targets K n) (eq-eqb (getD (w .up) (z .0) 0) 1 (R .up-no (z .0) (h (z .0) (z .1)) (z .2)))
+      (old-target G cl s r L i n (z .0) (z .1)))
 
   -- ---- one turn
 
@@ -132,7 +137,9 @@ module _ (G : Graph) (cl s r : ℕ) (L : Laid G) (i : In (N.Solvable s) (G .node
           up-no = λ k j u. split (eqb k n)
               (λ q. rw (eqb-true k n q) (getD-set-same (w .up) n 1 0 (omega (arith, R .long))))
               (λ q. getD-set-other (w .up) n k 1 0 (eqb-false k n q) ∙ R .up-no k (either (split-in k j) (λ x. x) (λ e. absurd (eqb-false k n q e))) u);
-          later = λ k f. getD-set-other (w .marks) n k (anew K (w .marks) n) 0 (λ e. f (rw e (in-right n l (n ∷ []) (inl refl)))) ∙ R .later k (λ j. f (in-left k l (n ∷ []) j));
+          later =
+              λ k f. getD-set-other (w .marks) n k (anew K (w .marks) n) 0 (λ e. f (rw e (in-right n l (n ∷ []) (inl refl))))
+              ∙ R .later k (λ j. f (in-left k l (n ∷ []) j));
           kept = λ k f. getD-set-other (w .marks) n k (anew K (w .marks) n) 0 (λ e. f (rw e (touched-up ms l w R n t))) ∙ R .kept k f;
         }
 
@@ -164,12 +171,14 @@ module _ (G : Graph) (cl s r : ℕ) (L : Laid G) (i : In (N.Solvable s) (G .node
         kept = λ t f. refl;
       }
 
-  pub right-turns : (late : Type 0) → late → (ms l : List ℕ) → Ordered (targets G) late l → ((t : ℕ) → In t l → t < 128) → Right ms l (turns K a l (record { marks = ms; up = replicate 128 0 }))
+  pub right-turns : (late : Type 0) → late → (ms l : List ℕ) → Ordered (targets G) late l → ((t : ℕ) → In t l → t < 128)
+      → Right ms l (turns K a l (record { marks = ms; up = replicate 128 0 }))
   unfolding turns
   right-turns late z ms l none b = begin ms
   right-turns late z ms l (more {l = k} n o once behind) b =
       rw (turns-last K a k n (record { marks = ms; up = replicate 128 0 }))
-      (right-turn ms k (turns K a k (record { marks = ms; up = replicate 128 0 })) (right-turns late z ms k o (λ t j. b t (in-left t k (n ∷ []) j))) n (b n (in-right n k (n ∷ []) (inl refl))) once (behind z))
+      (right-turn ms k (turns K a k (record { marks = ms; up = replicate 128 0 })) (right-turns late z ms k o (λ t j. b t (in-left t k (n ∷ []) j))) n
+      (b n (in-right n k (n ∷ []) (inl refl))) once (behind z))
 
   pub below : (t : ℕ) → In t (orderOf G) → t < 128
   below t j = let h : t < length (G .nodes) = order-below G (laid-sound G L) t j in omega (arith, L .most)
@@ -181,8 +190,10 @@ module _ (G : Graph) (cl s r : ℕ) (L : Laid G) (i : In (N.Solvable s) (G .node
     not-rewritten ms n f = right-turns late z ms l o b .kept n f
 
     -- and the others are exactly those that were stored to: each store leaves its 1 in `up`
-    pub stored-to : (ms : List ℕ) (n : ℕ) → getD (turns (asked G cl s r) (chosen G cl s r) l (record { marks = ms; up = replicate 128 0 }) .up) n 0 ≡ 1 → In n l × Up n
+    pub stored-to : (ms : List ℕ) (n : ℕ) → getD (turns (asked G cl s r) (chosen G cl s r) l (record { marks = ms; up = replicate 128 0 }) .up) n 0 ≡ 1 → In n l
+        × Up n
     stored-to ms n e = right-turns late z ms l o b .up-yes n e
 
-    pub stored-all : (ms : List ℕ) (n : ℕ) → In n l → Up n → getD (turns (asked G cl s r) (chosen G cl s r) l (record { marks = ms; up = replicate 128 0 }) .up) n 0 ≡ 1
+    pub stored-all : (ms : List ℕ) (n : ℕ) → In n l → Up n → getD (turns (asked G cl s r) (chosen G cl s r) l (record { marks = ms; up = replicate 128 0 }) .up)
+        n 0 ≡ 1
     stored-all ms n j u = right-turns late z ms l o b .up-no n j u

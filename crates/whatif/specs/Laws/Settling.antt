@@ -18,14 +18,14 @@ use Rattle.store.specs.declared.ConflictCause.the-variants as C
 use Rattle.store.specs.declared.ConflictEdge.{ConflictEdge}
 use Rattle.store.specs.declared.ConflictEdge.the-variants as W
 use Rattle.store.specs.declared.Edge.{Edge}
-use Rattle.store.specs.Graph.{Graph, Added, added, full, sameNode, addNode, addEdge, addLink, nodeAt, renumber, renumberEdge, lastOf, front, settle}
+use Rattle.store.specs.Graph.{Graph, Added, added, full, sameNode, addNode, addEdge, addLink, nodeAt, renumber, renumberEdge, lastOne, front, settle}
 use Rattle.store.specs.Words.{same-true, same-refl}
 use Rattle.shape.specs.Shaped.{Known, Runs, Shaped, isEnd, Good, shaped-link}
 use Rattle.shape.specs.Graphed.{Graphed, Moves, moves-none, moves-last, Cut, cut, length-snoc, graphed-settle}
 use Rattle.store.specs.Numbers.{numberOf}
-use Rattle.whatif.specs.Alike.{Arc, standsFor, named, Alike}
+use Rattle.whatif.specs.Alike.{Arc, standsFor, named, GraphsAlike}
 use Rattle.whatif.specs.Laws.Alike.{number-in, number-out}
-use Rattle.whatif.specs.Asked.{withNode, withFirst, newEdge, asked}
+use Rattle.whatif.specs.Asked.{nodesWith, withFirst, newEdge, asked}
 use Rattle.whatif.specs.Laws.Asked.{With, there, new, with-node, Kept, kept}
 
 -- ---- settling
@@ -35,7 +35,7 @@ abbrev pub stays : Graph → Bool
 stays H = any (λ e. eqb (e .target) 1) (H .edges)
 
 abbrev goneNodes : List ConflictNode → List ConflictNode
-goneNodes rest = N.Root ∷ lastOf rest ++ front rest
+goneNodes rest = N.Root ∷ lastOne rest ++ front rest
 
 gone-moves : (rest : List ConflictNode) → Moves (N.Root ∷ N.UnresolvedDependency ∷ rest) (goneNodes rest) (length (N.Root ∷ N.UnresolvedDependency ∷ rest) - 1)
 gone-moves [] = moves-none
@@ -45,23 +45,25 @@ gone-moves (x ∷ l) =
     let n : length (x ∷ l) ≡ suc (length (c .ys)) = ap length w ∙ length-snoc (c .ys) (c .z) in
     let o : length (N.Root ∷ N.UnresolvedDependency ∷ x ∷ l) - 1 ≡ suc (suc (length (c .ys))) = omega arith in
     rw (c .last-is, c .front-is, o)
-    (subst (λ (k : List ConflictNode). Moves (N.Root ∷ N.UnresolvedDependency ∷ k) (N.Root ∷ c .z ∷ c .ys) (suc (suc (length (c .ys))))) (sym w) (moves-last (c .ys) (c .z)))
+    (subst (λ (k : List ConflictNode). Moves (N.Root ∷ N.UnresolvedDependency ∷ k) (N.Root ∷ c .z ∷ c .ys) (suc (suc (length (c .ys))))) (sym w)
+    (moves-last (c .ys) (c .z)))
 
-gone-from : (rest : List ConflictNode) (x : ConflictNode) → In x (lastOf rest ++ front rest) → In x rest
+gone-from : (rest : List ConflictNode) (x : ConflictNode) → In x (lastOne rest ++ front rest) → In x rest
 gone-from [] x i = i
 gone-from (y ∷ l) x i =
     let c : Cut (y ∷ l) = cut y l in
     let j : In x (c .z ∷ c .ys) = rw (c .last-is, c .front-is) at i in
     subst (λ (k : List ConflictNode). In x k) (sym (c .whole)) (either j (λ e. in-right x (c .ys) (c .z ∷ []) (inl e)) (λ k. in-left x (c .ys) (c .z ∷ []) k))
 
-gone-to : (rest : List ConflictNode) (x : ConflictNode) → In x rest → In x (lastOf rest ++ front rest)
+gone-to : (rest : List ConflictNode) (x : ConflictNode) → In x rest → In x (lastOne rest ++ front rest)
 gone-to [] x i = i
 gone-to (y ∷ l) x i =
     let c : Cut (y ∷ l) = cut y l in
     let j : In x (snoc (c .ys) (c .z)) = subst (λ (k : List ConflictNode). In x k) (c .whole) i in
     rw (c .last-is, c .front-is) (either (in-append x (c .ys) (c .z ∷ []) j) (λ k. inr k) (λ k. either k (λ e. inl e) (λ z. absurd z)))
 
-named-moved : (ns ms : List ConflictNode) (last : ℕ) → Moves ns ms last → isEnd (getD ns 1 N.Root) ≡ false → (es : List Edge) → any (λ e. eqb (e .target) 1) es ≡ false → All (Runs ns) es → map (standsFor ms) (map (renumberEdge last) es) ≡ map (standsFor ns) es
+named-moved : (ns ms : List ConflictNode) (last : ℕ) → Moves ns ms last → isEnd (getD ns 1 N.Root) ≡ false → (es : List Edge)
+    → any (λ e. eqb (e .target) 1) es ≡ false → All (Runs ns) es → map (standsFor ms) (map (renumberEdge last) es) ≡ map (standsFor ns) es
 named-moved ns ms last M f [] q R = refl
 named-moved ns ms last M f (e ∷ es) q R =
     split (eqb (e .target) 1)
@@ -77,7 +79,13 @@ named-moved ns ms last M f (e ∷ es) q R =
 
 module _ (T : Tables) (H : Graph) (S : Shaped T H) where
   abbrev bare : List ConflictNode → List Edge → Graph
-  bare rest es = record { nodes = goneNodes rest; edges = map (renumberEdge (length (N.Root ∷ N.UnresolvedDependency ∷ rest) - 1)) es; firsts = 65535 ∷ lastOf (drop 2 (H .firsts)) ++ front (drop 2 (H .firsts)); hand = H .hand }
+  bare rest es =
+      record {
+        nodes = goneNodes rest;
+        edges = map (renumberEdge (length (N.Root ∷ N.UnresolvedDependency ∷ rest) - 1)) es;
+        firsts = 65535 ∷ lastOne (drop 2 (H .firsts)) ++ front (drop 2 (H .firsts));
+        hand = H .hand;
+      }
 
   settle-stays : stays H ≡ true → settle H ≡ H
   unfolding settle
@@ -94,7 +102,8 @@ module _ (T : Tables) (H : Graph) (S : Shaped T H) where
       split (stays H)
       (λ t. rw (settle-stays t))
       (λ t. rw (settle-goes t, S .nodes-are)
-      (named-moved (N.Root ∷ N.UnresolvedDependency ∷ S .rest) (goneNodes (S .rest)) (length (N.Root ∷ N.UnresolvedDependency ∷ S .rest) - 1) (gone-moves (S .rest)) refl (H .edges) t (rw (S .nodes-are) at (S .edges))))
+      (named-moved (N.Root ∷ N.UnresolvedDependency ∷ S .rest) (goneNodes (S .rest)) (length (N.Root ∷ N.UnresolvedDependency ∷ S .rest) - 1)
+      (gone-moves (S .rest)) refl (H .edges) t (rw (S .nodes-are) at (S .edges))))
 
   -- the nodes too, but for unresolved
   pub settle-from : (x : ConflictNode) → In x (settle H .nodes) → In x (H .nodes) × (x ≡ N.UnresolvedDependency → stays H ≡ true)
@@ -104,7 +113,8 @@ module _ (T : Tables) (H : Graph) (S : Shaped T H) where
       (λ t. let j : In x (goneNodes (S .rest)) = subst (λ (G : Graph). In x (G .nodes)) (settle-goes t) i in
       let d : Distinct (N.Root ∷ N.UnresolvedDependency ∷ S .rest) = rw (S .nodes-are) at (S .once) in (
         rw (S .nodes-are) (either j (λ e. inl e) (λ k. inr (inr (gone-from (S .rest) x k)))),
-        λ q. absurd (either j (λ e. let z : N.Root ≡ N.UnresolvedDependency = sym e ∙ q in clash (cc)) (λ k. d .1 .0 (subst (λ (y : ConflictNode). In y (S .rest)) q (gone-from (S .rest) x k)))),
+        λ q. absurd (either j (λ e. let z : N.Root ≡ N.UnresolvedDependency = sym e ∙ q in
+            clash (cc)) (λ k. d .1 .0 (subst (λ (y : ConflictNode). In y (S .rest)) q (gone-from (S .rest) x k)))),
       ))
 
   pub settle-to : (x : ConflictNode) → In x (H .nodes) → (x ≡ N.UnresolvedDependency → stays H ≡ true) → In x (settle H .nodes)
@@ -123,20 +133,25 @@ asArc cl s r = record { source = N.Solvable s; target = N.Excluded r; weight = W
 named-more : (ns ys : List ConflictNode) (es : List Edge) → All (Runs ns) es → map (standsFor (ns ++ ys)) es ≡ map (standsFor ns) es
 named-more ns ys [] R = refl
 named-more ns ys (e ∷ es) R =
-    rw (List·getD-append ns ys N.Root (e .source) (R .0 .from), List·getD-append ns ys N.Root (e .target) (R .0 .to)) (ap (λ (l : List Arc). standsFor ns e ∷ l) (named-more ns ys es (R .1)))
+    rw (List·getD-append ns ys N.Root (e .source) (R .0 .from), List·getD-append ns ys N.Root (e .target) (R .0 .to))
+    (ap (λ (l : List Arc). standsFor ns e ∷ l) (named-more ns ys es (R .1)))
 
 -- the new edge is the newest
-pub named-asked : (G : Graph) (cl s r : ℕ) → All (Runs (G .nodes)) (G .edges) → In (N.Solvable s) (G .nodes) → named (asked G cl s r) ≡ snoc (named G) (asArc cl s r)
+pub named-asked : (G : Graph) (cl s r : ℕ) → All (Runs (G .nodes)) (G .edges) → In (N.Solvable s) (G .nodes)
+    → named (asked G cl s r) ≡ snoc (named G) (asArc cl s r)
 unfolding named asked
 named-asked G cl s r R i =
-    let k : Kept (G .nodes) (N.Excluded r) (withNode (G .nodes) (N.Excluded r)) = kept (G .nodes) (N.Excluded r) in
+    let k : Kept (G .nodes) (N.Excluded r) (nodesWith (G .nodes) (N.Excluded r)) = kept (G .nodes) (N.Excluded r) in
     let n = number-in (G .nodes) (N.Solvable s) i in
-    let a : getD (withNode (G .nodes) (N.Excluded r)) (numberOf (G .nodes) (N.Solvable s)) N.Root ≡ N.Solvable s = ap (λ (l : List ConflictNode). getD l (numberOf (G .nodes) (N.Solvable s)) N.Root) (k .grown) ∙ List·getD-append (G .nodes) (k .ys) N.Root (numberOf (G .nodes) (N.Solvable s)) (n .0) ∙ n .1 in
-    let b : getD (withNode (G .nodes) (N.Excluded r)) (numberOf (G .nodes) (N.Excluded r)) N.Root ≡ N.Excluded r = k .stands in
-    let c : standsFor (withNode (G .nodes) (N.Excluded r)) (newEdge (G .nodes) cl s r) ≡ asArc cl s r = cc in
-    let d : map (standsFor (withNode (G .nodes) (N.Excluded r))) (G .edges) ≡ map (standsFor (G .nodes)) (G .edges) = ap (λ (l : List ConflictNode). map (standsFor l) (G .edges)) (k .grown) ∙ named-more (G .nodes) (k .ys) (G .edges) R in
-    map-append (standsFor (withNode (G .nodes) (N.Excluded r))) (G .edges) (newEdge (G .nodes) cl s r ∷ [])
-    ∙ ap (λ (l : List Arc). l ++ (standsFor (withNode (G .nodes) (N.Excluded r)) (newEdge (G .nodes) cl s r) ∷ [])) d
+    let a : getD (nodesWith (G .nodes) (N.Excluded r)) (numberOf (G .nodes) (N.Solvable s)) N.Root ≡ N.Solvable s =
+    ap (λ (l : List ConflictNode). getD l (numberOf (G .nodes) (N.Solvable s)) N.Root) (k .grown)
+    ∙ List·getD-append (G .nodes) (k .ys) N.Root (numberOf (G .nodes) (N.Solvable s)) (n .0) ∙ n .1 in
+    let b : getD (nodesWith (G .nodes) (N.Excluded r)) (numberOf (G .nodes) (N.Excluded r)) N.Root ≡ N.Excluded r = k .stands in
+    let c : standsFor (nodesWith (G .nodes) (N.Excluded r)) (newEdge (G .nodes) cl s r) ≡ asArc cl s r = cc in
+    let d : map (standsFor (nodesWith (G .nodes) (N.Excluded r))) (G .edges) ≡ map (standsFor (G .nodes)) (G .edges) =
+    ap (λ (l : List ConflictNode). map (standsFor l) (G .edges)) (k .grown) ∙ named-more (G .nodes) (k .ys) (G .edges) R in
+    map-append (standsFor (nodesWith (G .nodes) (N.Excluded r))) (G .edges) (newEdge (G .nodes) cl s r ∷ [])
+    ∙ ap (λ (l : List Arc). l ++ (standsFor (nodesWith (G .nodes) (N.Excluded r)) (newEdge (G .nodes) cl s r) ∷ [])) d
     ∙ ap (λ (x : Arc). map (standsFor (G .nodes)) (G .edges) ++ (x ∷ [])) c
 
 any-last : (p : Edge → Bool) (l : List Edge) (e : Edge) → p e ≡ false → any p (snoc l e) ≡ any p l
@@ -168,7 +183,7 @@ module _ (T : Tables) (H : Graph) (cl s r : ℕ) (S : Shaped T H) (i : In (N.Sol
   K⁺ = kept (settle H .nodes) (N.Excluded r)
 
   -- (A)
-  pub asked-alike : Alike (asked (settle H) cl s r) (settle (asked H cl s r))
+  pub asked-alike : GraphsAlike (asked (settle H) cl s r) (settle (asked H cl s r))
   asked-alike =
       record {
         once-on = K⁺ .once (graphed-settle T H S .once);
@@ -185,12 +200,14 @@ module _ (T : Tables) (H : Graph) (cl s r : ℕ) (S : Shaped T H) (i : In (N.Sol
       forth x j =
           either (K⁺ .from x j)
           (λ k. let w = settle-from T H S x k in
-          settle-to T (asked H cl s r) S⁺ x (subst (λ (l : List ConflictNode). In x l) (sym (K .grown)) (in-left x (H .nodes) (K .ys) (w .0))) (λ q. stays-same ∙ w .1 q))
+          settle-to T (asked H cl s r) S⁺ x (subst (λ (l : List ConflictNode). In x l) (sym (K .grown)) (in-left x (H .nodes) (K .ys) (w .0))) (λ q. stays-same
+          ∙ w .1 q))
           (λ q. settle-to T (asked H cl s r) S⁺ x (rw q (K .has-x)) (λ u. let z : N.Excluded r ≡ N.UnresolvedDependency = sym q ∙ u in clash (cc)))
 
       back : (x : ConflictNode) → In x (settle (asked H cl s r) .nodes) → In x (asked (settle H) cl s r .nodes)
       back x j =
           let w = settle-from T (asked H cl s r) S⁺ x j in
           either (K .from x (w .0))
-          (λ k. subst (λ (l : List ConflictNode). In x l) (sym (K⁺ .grown)) (in-left x (settle H .nodes) (K⁺ .ys) (settle-to T H S x k (λ q. sym stays-same ∙ w .1 q))))
+          (λ k. subst (λ (l : List ConflictNode). In x l) (sym (K⁺ .grown))
+          (in-left x (settle H .nodes) (K⁺ .ys) (settle-to T H S x k (λ q. sym stays-same ∙ w .1 q))))
           (λ q. rw q (K⁺ .has-x))

@@ -26,14 +26,14 @@ use Rattle.store.specs.Graph.{Graph, sameNode, nodeAt, isUnresolved}
 use Rattle.store.specs.Numbers.{numberOf}
 use Rattle.store.specs.Words.{same-true, same-refl, nodeOf}
 use Rattle.store.specs.Table.{graphIn, nodeIn, Stored, nodes-count, edges-count, node-in, node-read}
-use Rattle.reach.specs.Queue.{lowestOf}
+use Rattle.links.specs.Queue.{lowestOf}
 use Rattle.graph.specs.Graphs.{Outcome, drawn, refused, graphOf}
 use Rattle.shape.specs.Shaped.{Known}
 use Rattle.shape.specs.Graphed.{graphed}
 use Rattle.cycles.specs.Cycles.{cycleOf}
 use Rattle.whatif.specs.declared.tests.Test.{Test}
 use Rattle.whatif.specs.declared.tests.Test.the-variants as Q
-use Rattle.whatif.specs.Asked.{hasNode, withNode, asked, known, goneCount, fits, unlessCycle, questionOf}
+use Rattle.whatif.specs.Asked.{hasNode, nodesWith, asked, known, goneCount, fitsGraph, unlessCycle, questionOf}
 use Rattle.whatif.specs.Laws.Alike.{number-in, number-out}
 
 -- ---- what the code answers
@@ -48,7 +48,7 @@ cycleTest (some n) x = Q.Refused 17 n
 
 -- 8, then 17, else a and the number of clauses
 unfoldable pub graphTest : Tables → Graph → ℕ → ℕ → Test
-graphTest T G a r = cond (fits G r) (cycleTest (cycleOf G) (Q.Passed a (length (T .clauses)))) (Q.Refused 8 (length (T .clauses)))
+graphTest T G a r = cond (fitsGraph G r) (cycleTest (cycleOf G) (Q.Passed a (length (T .clauses)))) (Q.Refused 8 (length (T .clauses)))
 
 unfoldable pub testOf : Tables → Graph → ℕ → ℕ → Test
 unfolding graphTest
@@ -68,7 +68,7 @@ pub record Passed (T : Tables) (G : Graph) (s r a n : ℕ) : Type 0 where
   pub solvable : s < length (T .solvables)
   pub reason : r < length (T .reasons)
   pub node : hasNode (G .nodes) (N.Solvable s) ≡ true
-  pub room : fits G r ≡ true
+  pub room : fitsGraph G r ≡ true
   pub free : cycleOf G ≡ none
   pub gives : questionOf T G s r ≡ drawn (asked G (length (T .clauses)) s r)
 
@@ -76,7 +76,7 @@ module _ (T : Tables) (G : Graph) (s r : ℕ) where
   abbrev cyclic : Option ℕ → Test
   cyclic o = cycleTest o (Q.Passed (numberOf (G .nodes) (N.Solvable s)) (length (T .clauses)))
 
-  passes-by : (o : Option ℕ) → cycleOf G ≡ o → (a n : ℕ) → cyclic o ≡ Q.Passed a n → known T G s r ≡ true → fits G r ≡ true → Passed T G s r a n
+  passes-by : (o : Option ℕ) → cycleOf G ≡ o → (a n : ℕ) → cyclic o ≡ Q.Passed a n → known T G s r ≡ true → fitsGraph G r ≡ true → Passed T G s r a n
   unfolding questionOf
   passes-by none e a n q k f =
       let z = and-both (ltb s (length (T .solvables))) (ltb r (length (T .reasons))) (hasNode (G .nodes) (N.Solvable s)) k in
@@ -98,12 +98,13 @@ module _ (T : Tables) (G : Graph) (s r : ℕ) where
   unfolding testOf graphTest
   passes a n q =
       split (known T G s r)
-      (λ k. split (fits G r)
+      (λ k. split (fitsGraph G r)
       (λ f. passes-by (cycleOf G) refl a n (rw (k, f) at q) k f)
       (λ f. let z : Q.Refused 8 (length (T .clauses)) ≡ Q.Passed a n = rw (k, f) at q in clash (cc)))
       (λ k. let z : Q.Refused 4 0 ≡ Q.Passed a n = rw k at q in clash (cc))
 
-  denies-by : (o : Option ℕ) → cycleOf G ≡ o → (k p : ℕ) → cyclic o ≡ Q.Refused k p → known T G s r ≡ true → fits G r ≡ true → questionOf T G s r ≡ refused k p
+  denies-by : (o : Option ℕ) → cycleOf G ≡ o → (k p : ℕ) → cyclic o ≡ Q.Refused k p → known T G s r ≡ true → fitsGraph G r ≡ true
+      → questionOf T G s r ≡ refused k p
   unfolding questionOf
   denies-by none e k p q y f = clash (cc)
   denies-by (some c) e k p q y f = let a : 17 ≡ k = cc in let b : c ≡ p = cc in rw (y, f, e, ← a, ← b)
@@ -112,7 +113,7 @@ module _ (T : Tables) (G : Graph) (s r : ℕ) where
   unfolding testOf graphTest questionOf
   denies k p q =
       split (known T G s r)
-      (λ y. split (fits G r)
+      (λ y. split (fitsGraph G r)
       (λ f. denies-by (cycleOf G) refl k p (rw (y, f) at q) y f)
       (λ f. let z : Q.Refused 8 (length (T .clauses)) ≡ Q.Refused k p = rw (y, f) at q in
       let a : 8 ≡ k = cc in let b : length (T .clauses) ≡ p = cc in rw (y, f, ← a, ← b)))
@@ -152,29 +153,31 @@ pub is-in : (ns : List ConflictNode) (x : ConflictNode) → hasNode ns x ≡ tru
 is-in ns x t = let r = any-some (sameNode x) ns t in rw (same-true x (r .0) (r .2)) (r .1)
 
 -- b is the node's number
-with-length : (ns : List ConflictNode) (x : ConflictNode) (b n : ℕ) → b ≡ numberOf ns x → n ≡ length ns → length (withNode ns x) ≡ cond (ltb b n) n (n + 1)
+with-length : (ns : List ConflictNode) (x : ConflictNode) (b n : ℕ) → b ≡ numberOf ns x → n ≡ length ns → length (nodesWith ns x) ≡ cond (ltb b n) n (n + 1)
 with-length ns x b n q c =
     split (hasNode ns x)
     (λ t. let h : numberOf ns x < length ns = number-in ns x (is-in ns x t) .0 in
     let l : b < n = omega arith in
-    rw (t, withNode, lt-ltb b n l) (sym c))
+    rw (t, nodesWith, lt-ltb b n l) (sym c))
     (λ t. let e : numberOf ns x ≡ length ns = number-out ns x (not-in ns x t) in
     let l : n ≤ b = omega arith in
-    rw (t, withNode, le-ltb b n l, length-append ns (x ∷ []), c))
+    rw (t, nodesWith, le-ltb b n l, length-append ns (x ∷ []), c))
 
-module _ (g : List ℕ) (s : Size) (r b k n : ℕ) (S : Stored g s) (qb : b ≡ numberOf (graphIn g s .nodes) (N.Excluded r)) (qk : k ≡ goneCount (graphIn g s)) (qn : n ≡ cond (ltb b (s .nodes)) (s .nodes) (s .nodes + 1)) where
-  total : length (withNode (graphIn g s .nodes) (N.Excluded r)) + goneCount (graphIn g s) ≡ n + k
+module _ (g : List ℕ) (s : Size) (r b k n : ℕ) (S : Stored g s) (qb : b ≡ numberOf (graphIn g s .nodes) (N.Excluded r)) (qk : k
+    ≡ goneCount (graphIn g s)) (qn : n ≡ cond (ltb b (s .nodes)) (s .nodes) (s .nodes + 1)) where
+  total : length (nodesWith (graphIn g s .nodes) (N.Excluded r)) + goneCount (graphIn g s) ≡ n + k
   total =
-      let l : length (withNode (graphIn g s .nodes) (N.Excluded r)) ≡ n = with-length (graphIn g s .nodes) (N.Excluded r) b (s .nodes) qb (sym (nodes-count g s S)) ∙ sym qn in
+      let l : length (nodesWith (graphIn g s .nodes) (N.Excluded r)) ≡ n =
+      with-length (graphIn g s .nodes) (N.Excluded r) b (s .nodes) qb (sym (nodes-count g s S)) ∙ sym qn in
       rw (l, qk)
 
-  pub room-nodes : 128 < n + k → false ≡ fits (graphIn g s) r
+  pub room-nodes : 128 < n + k → false ≡ fitsGraph (graphIn g s) r
   room-nodes h = rw (total, lt-leb (n + k) 128 h)
 
-  pub room-edges : n + k ≤ 128 → 1024 ≤ s .edges → false ≡ fits (graphIn g s) r
+  pub room-edges : n + k ≤ 128 → 1024 ≤ s .edges → false ≡ fitsGraph (graphIn g s) r
   room-edges h l = rw (total, le-leb (n + k) 128 h, edges-count g s S, le-ltb (s .edges) 1024 l)
 
-  pub room-both : n + k ≤ 128 → s .edges < 1024 → true ≡ fits (graphIn g s) r
+  pub room-both : n + k ≤ 128 → s .edges < 1024 → true ≡ fitsGraph (graphIn g s) r
   room-both h l = rw (total, le-leb (n + k) 128 h, edges-count g s S, lt-ltb (s .edges) 1024 l)
 
 -- ---- 4
@@ -276,7 +279,7 @@ module _ (file ix g : List ℕ) (z : Size) (s r : ℕ) (L : Loaded file ix) (S :
 
 -- ---- 8, 17, or none
 
-module _ (T : Tables) (G : Graph) (a r n : ℕ) (f : Bool) (qf : f ≡ fits G r) (qn : n ≡ length (T .clauses)) where
+module _ (T : Tables) (G : Graph) (a r n : ℕ) (f : Bool) (qf : f ≡ fitsGraph G r) (qn : n ≡ length (T .clauses)) where
   pub test-full : (p : ℕ) → not f ≡ true → p ≡ n → Q.Refused 8 p ≡ graphTest T G a r
   unfolding graphTest
   test-full p t q = rw (← qf, off f t, q, qn)

@@ -55,7 +55,8 @@ pub same-rank : (t u : Table) → rankT t ≡ rankT u → t ≡ u
 same-rank t u e = sym (by-rank t) ∙ (ap tableBy e ∙ by-rank u)
 
 rank-top : (t : Table) → rankT t ≤ 9
-rank-top = each-table (λ t. rankT t ≤ 9) (omega arith) (omega arith) (omega arith) (omega arith) (omega arith) (omega arith) (omega arith) (omega arith) (omega arith)
+rank-top =
+    each-table (λ t. rankT t ≤ 9) (omega arith) (omega arith) (omega arith) (omega arith) (omega arith) (omega arith) (omega arith) (omega arith) (omega arith)
 
 -- ---- references go to lower ranks
 
@@ -90,8 +91,58 @@ LowerRow (some s) = Lower s
 
 lower-row : (k : ℕ) → LowerRow (shapeOf k)
 lower-row =
-    each-kind LowerRow
-    (record { low-a = refl; low-b = refl; low-c = refl; only-b = refl; only-c = refl }, (record { low-a = refl; low-b = refl; low-c = refl; only-b = refl; only-c = refl }, (record { low-a = refl; low-b = refl; low-c = refl; only-b = refl; only-c = refl }, (record { low-a = refl; low-b = refl; low-c = refl; only-b = refl; only-c = refl }, (record { low-a = refl; low-b = refl; low-c = refl; only-b = refl; only-c = refl }, (record { low-a = refl; low-b = refl; low-c = refl; only-b = refl; only-c = refl }, (record { low-a = refl; low-b = refl; low-c = refl; only-b = refl; only-c = refl }, (record { low-a = refl; low-b = refl; low-c = refl; only-b = refl; only-c = refl }, (record { low-a = refl; low-b = refl; low-c = refl; only-b = refl; only-c = refl }, (record { low-a = refl; low-b = refl; low-c = refl; only-b = refl; only-c = refl }, (record { low-a = refl; low-b = refl; low-c = refl; only-b = refl; only-c = refl }, (record { low-a = refl; low-b = refl; low-c = refl; only-b = refl; only-c = refl }, (record { low-a = refl; low-b = refl; low-c = refl; only-b = refl; only-c = refl }, (record { low-a = refl; low-b = refl; low-c = refl; only-b = refl; only-c = refl }, (record { low-a = refl; low-b = refl; low-c = refl; only-b = refl; only-c = refl }, (record { low-a = refl; low-b = refl; low-c = refl; only-b = refl; only-c = refl }, (record { low-a = refl; low-b = refl; low-c = refl; only-b = refl; only-c = refl }, (record { low-a = refl; low-b = refl; low-c = refl; only-b = refl; only-c = refl }, tt))))))))))))))))))
+    each-kind LowerRow (
+      record { low-a = refl; low-b = refl; low-c = refl; only-b = refl; only-c = refl },
+      (
+        record { low-a = refl; low-b = refl; low-c = refl; only-b = refl; only-c = refl },
+        (
+          record { low-a = refl; low-b = refl; low-c = refl; only-b = refl; only-c = refl },
+          (
+            record { low-a = refl; low-b = refl; low-c = refl; only-b = refl; only-c = refl },
+            (
+              record { low-a = refl; low-b = refl; low-c = refl; only-b = refl; only-c = refl },
+              (
+                record { low-a = refl; low-b = refl; low-c = refl; only-b = refl; only-c = refl },
+                (
+                  record { low-a = refl; low-b = refl; low-c = refl; only-b = refl; only-c = refl },
+                  (
+                    record { low-a = refl; low-b = refl; low-c = refl; only-b = refl; only-c = refl },
+                    (
+                      record { low-a = refl; low-b = refl; low-c = refl; only-b = refl; only-c = refl },
+                      (
+                        record { low-a = refl; low-b = refl; low-c = refl; only-b = refl; only-c = refl },
+                        (
+                          record { low-a = refl; low-b = refl; low-c = refl; only-b = refl; only-c = refl },
+                          (
+                            record { low-a = refl; low-b = refl; low-c = refl; only-b = refl; only-c = refl },
+                            (
+                              record { low-a = refl; low-b = refl; low-c = refl; only-b = refl; only-c = refl },
+                              (
+                                record { low-a = refl; low-b = refl; low-c = refl; only-b = refl; only-c = refl },
+                                (
+                                  record { low-a = refl; low-b = refl; low-c = refl; only-b = refl; only-c = refl },
+                                  (
+                                    record { low-a = refl; low-b = refl; low-c = refl; only-b = refl; only-c = refl },
+                                    (
+                                      record { low-a = refl; low-b = refl; low-c = refl; only-b = refl; only-c = refl },
+                                      (record { low-a = refl; low-b = refl; low-c = refl; only-b = refl; only-c = refl }, tt),
+                                    ),
+                                  ),
+                                ),
+                              ),
+                            ),
+                          ),
+                        ),
+                      ),
+                    ),
+                  ),
+                ),
+              ),
+            ),
+          ),
+        ),
+      ),
+    )
     tt
 
 lower-known : (k : ℕ) (s : Shape) → shapeOf k ≡ some s → Lower s
@@ -116,7 +167,8 @@ pub record Fair (F : Tables) : Type 0 where
   pub once : Distinct (map (λ r. r .a) (F .assigned))
 
 module _ (F T : Tables) (t : Table) (done : List Rec) (o : On F t done T) (i : ℕ) (n : i ≡ length done) (r : Rec) where
-  number-ok : (s : Slot) (x : ℕ) → lowerSlot t s ≡ true → Right F i s r x → (isUnassigned s ≡ true → any (λ g. eqb (g .a) x) (T .assigned) ≡ false) → numberGood T t s r x ≡ true
+  number-ok : (s : Slot) (x : ℕ) → lowerSlot t s ≡ true → Right F i s r x → (isUnassigned s ≡ true → any (λ g. eqb (g .a) x) (T .assigned) ≡ false)
+      → numberGood T t s r x ≡ true
   number-ok S.Unused x l h f = refl
   number-ok S.Own x l h f = eq-eqb x (length (tableOf t T)) (h ∙ (n ∙ sym (ap length (o .here))))
   number-ok (S.Names u) x l h f = rw (o .lower u (ltb-true _ _ l)) (lt-ltb x (length (tableOf u F)) h)
@@ -147,11 +199,13 @@ in-mid (g ∷ done) rest r = inr (in-mid done rest r)
 unseen : (done rest : List Rec) (r : Rec) → Distinct (map (λ g. g .a) (done ++ (r ∷ rest))) → any (λ g. eqb (g .a) (r .a)) done ≡ false
 unseen [] rest r d = refl
 unseen (g ∷ done) rest r d =
-    let z : eqb (g .a) (r .a) ≡ false = ne-eqb (g .a) (r .a) (λ e. d .0 (subst (λ (x : ℕ). In x (map (λ (y : Rec). y .a) (done ++ (r ∷ rest)))) (sym e) (in-mid done rest r))) in
+    let z : eqb (g .a) (r .a) ≡ false = ne-eqb (g .a) (r .a) (λ e. d .0
+    (subst (λ (x : ℕ). In x (map (λ (y : Rec). y .a) (done ++ (r ∷ rest)))) (sym e) (in-mid done rest r))) in
     rw (z, any) (unseen done rest r (d .1))
 
 module _ (F : Tables) (w : Fair F) where
-  fresh : (t : Table) (done rest : List Rec) (r : Rec) (T : Tables) → On F t done T → tableOf t F ≡ done ++ (r ∷ rest) → any (λ g. eqb (g .a) (r .a)) (T .assigned) ≡ false
+  fresh : (t : Table) (done rest : List Rec) (r : Rec) (T : Tables) → On F t done T → tableOf t F ≡ done ++ (r ∷ rest)
+      → any (λ g. eqb (g .a) (r .a)) (T .assigned) ≡ false
   fresh t done rest r T o e =
       split (ltb (rankT t) 9)
       (λ q. rw (o .upper Assigned (ltb-true _ _ q)))
@@ -162,7 +216,8 @@ module _ (F : Tables) (w : Fair F) where
       let b : F .assigned ≡ done ++ (r ∷ rest) = subst (λ (u : Table). tableOf u F ≡ done ++ (r ∷ rest)) z e in
       rw a (unseen done rest r (subst (λ (l : List Rec). Distinct (map (λ (g : Rec). g .a) l)) b (w .once))))
 
-  pass-at : (s : Shape) (done rest : List Rec) (r : Rec) (T : Tables) → On F (s .table) done T → tableOf (s .table) F ≡ done ++ (r ∷ rest) → shapeOf (r .kind) ≡ some s → shapeGood s r ≡ true
+  pass-at : (s : Shape) (done rest : List Rec) (r : Rec) (T : Tables) → On F (s .table) done T → tableOf (s .table) F ≡ done ++ (r ∷ rest)
+      → shapeOf (r .kind) ≡ some s → shapeGood s r ≡ true
       → Right F (length done) (s .a) r (r .a) → Right F (length done) (s .b) r (r .b) → Right F (length done) (s .c) r (r .c) → Passed T r s
   pass-at s done rest r T o e k g ra rb rc =
       let l = lower-known (r .kind) s k in
@@ -183,12 +238,15 @@ module _ (F : Tables) (w : Fair F) where
       }
 
   -- one record more in table t
-  on-more : (s : Shape) (done : List Rec) (r : Rec) (T : Tables) → On F (s .table) done T → shapeOf (r .kind) ≡ some s → On F (s .table) (snoc done r) (put (s .table) r T)
+  on-more : (s : Shape) (done : List Rec) (r : Rec) (T : Tables) → On F (s .table) done T → shapeOf (r .kind) ≡ some s
+      → On F (s .table) (snoc done r) (put (s .table) r T)
   on-more s done r T o k =
       record {
         here = table-put (s .table) r s T k ∙ rw (mine, o .here);
-        lower = λ u h. table-put u r s T k ∙ rw (other u (λ e. (let z : rankT (s .table) ≡ rankT u = ap rankT e in let f : ⊥ = omega arith in f))) (o .lower u h);
-        upper = λ u h. table-put u r s T k ∙ rw (other u (λ e. (let z : rankT (s .table) ≡ rankT u = ap rankT e in let f : ⊥ = omega arith in f))) (o .upper u h);
+        lower =
+            λ u h. table-put u r s T k ∙ rw (other u (λ e. (let z : rankT (s .table) ≡ rankT u = ap rankT e in let f : ⊥ = omega arith in f))) (o .lower u h);
+        upper =
+            λ u h. table-put u r s T k ∙ rw (other u (λ e. (let z : rankT (s .table) ≡ rankT u = ap rankT e in let f : ⊥ = omega arith in f))) (o .upper u h);
       }
     where
       mine : isIn (s .table) r ≡ true
@@ -197,7 +255,8 @@ module _ (F : Tables) (w : Fair F) where
       other : (u : Table) → (s .table ≡ u → ⊥) → isIn u r ≡ false
       other u h = split (isIn u r) (λ q. absurd (h (its-table u r s k q))) (λ q. q)
 
-  segment-read : (t : Table) (rest done : List Rec) (T : Tables) → tableOf t F ≡ done ++ rest → On F t done T → (more : List Rec) (U : Tables) → ((W : Tables) → On F t (tableOf t F) W → Steps W more U) → Steps T (rest ++ more) U
+  segment-read : (t : Table) (rest done : List Rec) (T : Tables) → tableOf t F ≡ done ++ rest → On F t done T → (more : List Rec) (U : Tables)
+      → ((W : Tables) → On F t (tableOf t F) W → Steps W more U) → Steps T (rest ++ more) U
   segment-read t [] done T e o more U k = k T (subst (λ (l : List Rec). On F t l T) (sym (e ∙ append-nil done)) o)
   segment-read t (r ∷ rest) done T e o more U k =
       let m : length (tableOf t F) ≡ length done + suc (length rest) = ap length e ∙ length-append done (r ∷ rest) in
@@ -205,15 +264,19 @@ module _ (F : Tables) (w : Fair F) where
       let f : Fit F t (length done) r = subst (λ (x : Rec). Fit F t (length done) x) a (w .fits t (length done) (omega arith)) in
       let s = f .sound .shape in
       let z : s .table ≡ t = f .sound .mine in
-      let p = pass-at s done rest r T (subst (λ (u : Table). On F u done T) (sym z) o) (subst (λ (u : Table). tableOf u F ≡ done ++ (r ∷ rest)) (sym z) e) (f .sound .known) (f .shaped) (f .sound .right-a) (f .sound .right-b) (f .sound .right-c) in
-      let n : On F t (snoc done r) (put (s .table) r T) = subst (λ (u : Table). On F u (snoc done r) (put (s .table) r T)) z (on-more s done r T (subst (λ (u : Table). On F u done T) (sym z) o) (f .sound .known)) in
+      let p = pass-at s done rest r T (subst (λ (u : Table). On F u done T) (sym z) o) (subst (λ (u : Table). tableOf u F ≡ done ++ (r ∷ rest)) (sym z) e)
+      (f .sound .known) (f .shaped) (f .sound .right-a) (f .sound .right-b) (f .sound .right-c) in
+      let n : On F t (snoc done r) (put (s .table) r T) = subst (λ (u : Table). On F u (snoc done r) (put (s .table) r T)) z
+      (on-more s done r T (subst (λ (u : Table). On F u done T) (sym z) o) (f .sound .known)) in
       (s, p, segment-read t rest (snoc done r) (put (s .table) r T) (e ∙ sym (append-assoc done (r ∷ []) rest)) n more U k)
 
   next : (t u : Table) (W : Tables) → rankT u ≡ suc (rankT t) → On F t (tableOf t F) W → On F u [] W
   next t u W e o =
       record {
         here = o .upper u (omega arith);
-        lower = λ x h. split (eqb (rankT x) (rankT t)) (λ q. subst (λ (y : Table). tableOf y W ≡ tableOf y F) (same-rank t x (sym (eqb-true _ _ q))) (o .here)) (λ q. o .lower x (let k : rankT x ≡ rankT t → ⊥ = eqb-false _ _ q in omega arith));
+        lower =
+            λ x h. split (eqb (rankT x) (rankT t)) (λ q. subst (λ (y : Table). tableOf y W ≡ tableOf y F) (same-rank t x (sym (eqb-true _ _ q))) (o .here))
+            (λ q. o .lower x (let k : rankT x ≡ rankT t → ⊥ = eqb-false _ _ q in omega arith));
         upper = λ x h. o .upper x (omega arith);
       }
 
@@ -221,16 +284,22 @@ module _ (F : Tables) (w : Fair F) where
   first = record { here = refl; lower = λ u h. absurd (low u h); upper = λ u h. empty u }
     where
       low : (u : Table) → rankT u < 1 → ⊥
-      low = each-table (λ u. rankT u < 1 → ⊥) (λ h. omega arith) (λ h. omega arith) (λ h. omega arith) (λ h. omega arith) (λ h. omega arith) (λ h. omega arith) (λ h. omega arith) (λ h. omega arith) (λ h. omega arith)
+      low =
+          each-table (λ u. rankT u < 1 → ⊥) (λ h. omega arith) (λ h. omega arith) (λ h. omega arith) (λ h. omega arith) (λ h. omega arith) (λ h. omega arith)
+          (λ h. omega arith) (λ h. omega arith) (λ h. omega arith)
 
       empty : (u : Table) → tableOf u noTables ≡ []
       empty = each-table (λ u. tableOf u noTables ≡ []) refl refl refl refl refl refl refl refl refl
 
   last : (W : Tables) → On F Assigned (F .assigned) W → W ≡ F
-  last W o = same-tables W F (each-table (λ u. tableOf u W ≡ tableOf u F) (o .lower Names (omega arith)) (o .lower Solvables (omega arith)) (o .lower VersionSets (omega arith)) (o .lower Requirements (omega arith)) (o .lower Candidates (omega arith)) (o .lower Reasons (omega arith)) (o .lower Variables (omega arith)) (o .here) (o .lower Clauses (omega arith)))
+  last W o =
+      same-tables W F (each-table (λ u. tableOf u W ≡ tableOf u F) (o .lower Names (omega arith)) (o .lower Solvables (omega arith))
+      (o .lower VersionSets (omega arith)) (o .lower Requirements (omega arith)) (o .lower Candidates (omega arith)) (o .lower Reasons (omega arith))
+      (o .lower Variables (omega arith)) (o .here) (o .lower Clauses (omega arith)))
 
   -- the tables, rank by rank, are read, and give the tables
-  pub fair-read : Steps noTables (F .names ++ (F .solvables ++ (F .versionSets ++ (F .requirements ++ (F .candidates ++ (F .reasons ++ (F .variables ++ (F .clauses ++ (F .assigned ++ []))))))))) F
+  pub fair-read : Steps noTables (F .names ++ (F .solvables ++ (F .versionSets
+      ++ (F .requirements ++ (F .candidates ++ (F .reasons ++ (F .variables ++ (F .clauses ++ (F .assigned ++ []))))))))) F
   fair-read =
       segment-read Names (F .names) [] noTables refl first _ F (λ A a.
       segment-read Solvables (F .solvables) [] A refl (next Names Solvables A refl a) _ F (λ B b.

@@ -30,5 +30,6 @@ numbered-same n s p e =
 pub numbered-rank : (k n : ℕ) (x : List ℕ) → rank x ≡ k → rank (numbered n x) ≡ k
 numbered-rank k n x h =
     let a : getD (numbered n x) 0 0 ≡ getD x 0 0 =
-    getD-set-other (set x 2 (n % 256)) 3 0 (n / 256 % 256) 0 (λ z. (let f : ⊥ = omega arith in f)) ∙ getD-set-other x 2 0 (n % 256) 0 (λ z. (let f : ⊥ = omega arith in f)) in
+    getD-set-other (set x 2 (n % 256)) 3 0 (n / 256 % 256) 0 (λ z. (let f : ⊥ = omega arith in f))
+    ∙ getD-set-other x 2 0 (n % 256) 0 (λ z. (let f : ⊥ = omega arith in f)) in
     ap rankOf a ∙ h

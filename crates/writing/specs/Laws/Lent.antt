@@ -13,15 +13,15 @@ use Rattle.records.specs.declared.Counts.{Counts}
 use Rattle.records.specs.Shapes.{recOf}
 use Rattle.records.specs.Tables.{noTables}
 use Rattle.records.specs.Read.{Reading, good, bad, readFrom}
-use Rattle.pieces.specs.Pieces.{joined}
-use Rattle.pieces.specs.Laws.Pieces.{pieces-whole, length-joined}
+use Rattle.reader.specs.Pieces.{joined}
+use Rattle.reader.specs.Laws.Pieces.{pieces-whole, length-joined}
 use Rattle.writing.specs.declared.Work.{Work}
 use Rattle.writing.specs.declared.Turn.{Turn}
 use Rattle.writing.specs.declared.Turn.the-variants.{On, Halt}
 use Rattle.writing.specs.declared.Written.{Written}
 use Rattle.writing.specs.Arranged.{rowsOf, arranged}
-use Rattle.writing.specs.Write.{File, written, refused, judged, writeOf, refusalOf, writeAnswer, writeRoom, Leaves}
-use Rattle.writing.specs.Pass.{Pass, Gives, judgeRows, Fresh, Laid, ConcludedBy, Concluded}
+use Rattle.writing.specs.Write.{File, written, refused, judgedFile, writeOf, refusalOf, writeAnswer, writeRoom, Leaves}
+use Rattle.writing.specs.Pass.{Pass, Gives, judgeRows, Fresh, FileLaid, ConcludedBy, Concluded}
 use Rattle.writing.specs.Laws.Segments.{arranged-whole}
 use Rattle.writing.specs.Laws.Agree.{Ends}
 use Rattle.writing.specs.Laws.Judged.{judge-ends}
@@ -50,7 +50,7 @@ module _ (rows : List ℕ) (even : length rows % 32 ≡ 0) where
   abbrev ys : List (List ℕ)
   ys = arranged (rowsOf rows)
 
-  write-by : (R : Reading) → readFrom (map recOf ys) 0 noTables ≡ R → writeOf rows ≡ judged R ys
+  write-by : (R : Reading) → readFrom (map recOf ys) 0 noTables ≡ R → writeOf rows ≡ judgedFile R ys
   unfolding writeOf
   write-by R e = rw (eq-eqb (length rows % 32) 0 even, e)
 
@@ -75,7 +75,7 @@ module _ (rows : List ℕ) (even : length rows % 32 ≡ 0) where
     leaves-halt n p e q = halt-by n p e q (readFrom (map recOf ys) 0 noTables) refl ended
 
     module _ (w : Work) (e : t ≡ On w) (room′ : List ℕ) where
-      laid-by : (p : ℕ) → p ≡ length ys → Laid p o room r room′ → (p ≤ 2048 → take (32 * p) o ≡ joined ys) → (F : File)
+      laid-by : (p : ℕ) → p ≡ length ys → FileLaid p o room r room′ → (p ≤ 2048 → take (32 * p) o ≡ joined ys) → (F : File)
           → writeOf rows ≡ F → cond (leb (32 * length ys) 65536) (written (joined ys)) (refused 1 0) ≡ F → Leaves rows room r room′
       unfolding writeAnswer writeRoom
       laid-by p n l b F y z =
@@ -98,7 +98,8 @@ module _ (rows : List ℕ) (even : length rows % 32 ≡ 0) where
           let f : writeOf rows ≡ refused 1 0 = y ∙ (sym z ∙ (rw c)) in
           record { answer = rw f (rw q at (l .answer)); in-room = rw f (rw q at (l .in-room)) })
 
-      on-by : Laid (w .place) o room r room′ → (R : Reading) → readFrom (map recOf ys) 0 noTables ≡ R → Ends [] ys R (wholePass rows) → Leaves rows room r room′
+      on-by : FileLaid (w .place) o room r room′ → (R : Reading) → readFrom (map recOf ys) 0 noTables ≡ R → Ends [] ys R (wholePass rows)
+          → Leaves rows room r room′
       on-by l (bad k i) x a = clash (no-turn (sym a ∙ (sym (g .turn) ∙ e)))
         where
           no-turn : Halt k i ≡ On w → _≡_ {A = ℕ} 0 1
@@ -109,7 +110,7 @@ module _ (rows : List ℕ) (even : length rows % 32 ≡ 0) where
           λ h. rw (g .out) (ap (λ (i : ℕ). take (32 * i) (wholePass rows .out)) n ∙ a .bytes (subst (λ (i : ℕ). i ≤ 2048) n h)) in
           laid-by (w .place) n l b _ (write-by (good U) x) refl
 
-      pub leaves-on : Laid (w .place) o room r room′ → Leaves rows room r room′
+      pub leaves-on : FileLaid (w .place) o room r room′ → Leaves rows room r room′
       leaves-on l = on-by l (readFrom (map recOf ys) 0 noTables) refl ended
 
 -- ---- the ways out of the code
@@ -124,7 +125,9 @@ module _ (rows room : List ℕ) (r : Written) (h : length rows % 32 ≡ 0 → �
 module _ (rows room m₀ f₀ s₀ o₀ : List ℕ) (r : Written) (t : Turn) (m o : List ℕ) (g : Gives (judgeRows rows m₀ o₀) t m o) (z : Fresh m₀ f₀ s₀ o₀)
     (h : length rows % 32 ≡ 0) where
   whole : Gives (wholePass rows) t m o
-  whole = subst (λ (a : List ℕ). Gives (judgeRows rows a (replicate 65536 0)) t m o) (z .marks) (subst (λ (b : List ℕ). Gives (judgeRows rows m₀ b) t m o) (z .out) g)
+  whole =
+      subst (λ (a : List ℕ). Gives (judgeRows rows a (replicate 65536 0)) t m o) (z .marks)
+      (subst (λ (b : List ℕ). Gives (judgeRows rows m₀ b) t m o) (z .out) g)
 
   pub concluded-leaves : (room′ : List ℕ) → Concluded t o room r room′ → Leaves rows room r room′
   concluded-leaves room′ c = go t refl (c .is)

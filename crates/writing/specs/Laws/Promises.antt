@@ -16,15 +16,15 @@ use Rattle.records.specs.Read.{Reading, good, bad, readFrom, readOf}
 use Rattle.records.specs.Views.{assignedBy}
 use Rattle.index.specs.Steps.{read-accepted}
 use Rattle.index.specs.Promise.{promise}
-use Rattle.pieces.specs.Pieces.{joined}
-use Rattle.pieces.specs.Laws.Pieces.{pieces-whole, cut-pieces, length-joined, records-joined}
+use Rattle.reader.specs.Pieces.{joined}
+use Rattle.reader.specs.Laws.Pieces.{pieces-whole, cut-pieces, length-joined, records-joined}
 use Rattle.writing.specs.Arranged.{rowsOf, ranked, segment, arranged, filled}
-use Rattle.writing.specs.Write.{File, written, refused, judged, writeOf, refusalOf, doneOf, answerFor, roomFor, writeAnswer, writeRoom}
+use Rattle.writing.specs.Write.{File, written, refused, judgedFile, writeOf, refusalOf, doneOf, answerFor, roomFor, writeAnswer, writeRoom}
 use Rattle.writing.specs.Laws.Segments.{arranged-whole}
 use Rattle.writing.specs.Laws.Written.{way, written-reads}
 use Rattle.writing.specs.Laws.Ordered.{InOrder, ordered-comes-back}
 use Rattle.writing.specs.Laws.Read.{read-numbered}
-use Rattle.writing.specs.Laws.Accepted.{Alike, accepted-again, assigned-same}
+use Rattle.writing.specs.Laws.Accepted.{TablesAlike, accepted-again, assigned-same}
 
 -- ---- where the call is done
 
@@ -71,11 +71,12 @@ refused-numbered rows n p e = by-length (eqb (length rows % 32) 0) e
     by-size true q = clash (no-file q)
     by-size false q = let z : 1 ≡ n = same q in omega arith
 
-    by-reading : (R : Reading) → readFrom (map recOf (arranged (rowsOf rows))) 0 noTables ≡ R → judged R (arranged (rowsOf rows)) ≡ refused n p → 1 ≤ n
+    by-reading : (R : Reading) → readFrom (map recOf (arranged (rowsOf rows))) 0 noTables ≡ R → judgedFile R (arranged (rowsOf rows)) ≡ refused n p → 1 ≤ n
     by-reading (good T) x q = by-size (leb (32 * length (arranged (rowsOf rows))) 65536) q
     by-reading (bad k i) x q = let z : k ≡ n = same q in let y : 1 ≤ k = read-numbered (map recOf (arranged (rowsOf rows))) 0 noTables k i x in omega arith
 
-    by-length : (b : Bool) → cond b (judged (readFrom (map recOf (arranged (rowsOf rows))) 0 noTables) (arranged (rowsOf rows))) (refused 1 0) ≡ refused n p → 1 ≤ n
+    by-length : (b : Bool) → cond b (judgedFile (readFrom (map recOf (arranged (rowsOf rows))) 0 noTables) (arranged (rowsOf rows))) (refused 1 0) ≡ refused n p
+        → 1 ≤ n
     by-length true q = by-reading (readFrom (map recOf (arranged (rowsOf rows))) 0 noTables) refl q
     by-length false q = let z : 1 ≡ n = same q in omega arith
 
@@ -167,7 +168,13 @@ module _ (rows : List ℕ) (n : ℕ) where
       pub short-refused : 32 * length (arranged (rowsOf rows)) ≤ 65536 → n < 32 * length (arranged (rowsOf rows)) → writeAnswer rows n ≡ refusalOf 10 0
       unfolding writeAnswer writeOf
       short-refused h l =
-          rw (eq-eqb (length rows % 32) 0 even, e, le-leb (32 * length (arranged (rowsOf rows))) 65536 h, long-bytes, lt-leb (32 * length (arranged (rowsOf rows))) n l)
+          rw (
+            eq-eqb (length rows % 32) 0 even,
+            e,
+            le-leb (32 * length (arranged (rowsOf rows))) 65536 h,
+            long-bytes,
+            lt-leb (32 * length (arranged (rowsOf rows))) n l,
+          )
 
 -- ---- accepted files, lent as rows
 
@@ -175,7 +182,8 @@ module _ (rows : List ℕ) (n : ℕ) where
 abbrev pub Mixed : List (List ℕ) → List (List ℕ) → Type 0
 Mixed xs ys = (k : ℕ) → ranked k xs ≡ ranked k ys
 
-mixed-segments : (xs ys : List (List ℕ)) → Mixed xs ys → (ks : List ℕ) → concatMap (λ k. segment k (ranked k xs)) ks ≡ concatMap (λ k. segment k (ranked k ys)) ks
+mixed-segments : (xs ys : List (List ℕ)) → Mixed xs ys → (ks : List ℕ)
+    → concatMap (λ k. segment k (ranked k xs)) ks ≡ concatMap (λ k. segment k (ranked k ys)) ks
 mixed-segments xs ys m [] = refl
 mixed-segments xs ys m (k ∷ ks) = rw (m k, mixed-segments xs ys m ks)
 
@@ -196,7 +204,8 @@ module _ (file : List ℕ) (T : Tables) (byte : (k : ℕ) → getD file k 0 < 25
         rw (eq-eqb (length rows % 32) 0 even, eq-eqb (length file % 32) 0 (a .whole), mixed-arranged (rowsOf rows) (rowsOf file) mixed)
 
     module _ (room : List ℕ) (enough : length file ≤ length room) where
-      again : (out : List ℕ) × (writeOf file ≡ written out) × (length out ≡ length file) × (readOf out ≡ good (filled (rowsOf file))) × Alike T (filled (rowsOf file))
+      again : (out : List ℕ) × (writeOf file ≡ written out) × (length out ≡ length file) × (readOf out ≡ good (filled (rowsOf file)))
+          × TablesAlike T (filled (rowsOf file))
       again = accepted-again file T byte reads
 
       is : writeOf rows ≡ written (again .0)
@@ -217,7 +226,7 @@ module _ (file : List ℕ) (T : Tables) (byte : (k : ℕ) → getD file k 0 < 25
     filled-same = mixed-filled (rowsOf rows) (rowsOf file) mixed
 
     -- and these are the file's: all tables but that of kind 8 as they were, that one with the same records
-    pub again-alike : Alike T (filled (rowsOf rows))
+    pub again-alike : TablesAlike T (filled (rowsOf rows))
     again-alike = rw filled-same (accepted-again file T byte reads .4)
 
     -- and as a map by variable that one is the same too

@@ -11,7 +11,7 @@ use Rattle.basis.specs.Members.{split, clash}
 use Rattle.records.specs.declared.Table.{Table}
 use Rattle.records.specs.declared.Table.the-variants.{Names, Solvables, VersionSets, Requirements, Candidates, Reasons, Variables, Assigned, Clauses}
 use Rattle.records.specs.declared.Shape.{Shape}
-use Rattle.records.specs.declared.Step.the-variants.{Next, No}
+use Rattle.records.specs.declared.CountStep.the-variants.{Next, No}
 use Rattle.records.specs.Shapes.{Rec, shapeOf, limit}
 use Rattle.records.specs.Tables.{Tables, noTables, tableOf, put}
 use Rattle.records.specs.Read.{good, bad, readFrom, refusalIn}
@@ -68,13 +68,15 @@ read-numbered (r ∷ rs) i T n p e = go (λ U q. read-numbered rs (suc i) U n p 
     go f (some s) q = known f s q (refusalIn T s r) refl
 
 -- "Tables (limit)"
-abbrev pub Within : Tables → Type 0
-Within T = (t : Table) → length (tableOf t T) ≤ limit t
+abbrev pub TablesWithin : Tables → Type 0
+TablesWithin T = (t : Table) → length (tableOf t T) ≤ limit t
 
-pub within-none : Within noTables
-within-none = each-table (λ t. length (tableOf t noTables) ≤ limit t) (omega arith) (omega arith) (omega arith) (omega arith) (omega arith) (omega arith) (omega arith) (omega arith) (omega arith)
+pub within-none : TablesWithin noTables
+within-none =
+    each-table (λ t. length (tableOf t noTables) ≤ limit t) (omega arith) (omega arith) (omega arith) (omega arith) (omega arith) (omega arith) (omega arith)
+    (omega arith) (omega arith)
 
-pub within-put : (T : Tables) (r : Rec) (s : Shape) → shapeOf (r .kind) ≡ some s → Passed T r s → Within T → Within (put (s .table) r T)
+pub within-put : (T : Tables) (r : Rec) (s : Shape) → shapeOf (r .kind) ≡ some s → Passed T r s → TablesWithin T → TablesWithin (put (s .table) r T)
 within-put T r s e f w u =
     let p = table-put u r s T e in
     split (isIn u r)
@@ -87,7 +89,7 @@ within-put T r s e f w u =
     (λ q. rw (rw q at p) (w u))
 
 -- no table holds more than 1,024 records, and there are nine
-pub total-few : (T : Tables) → Within T → total T < 65536
+pub total-few : (T : Tables) → TablesWithin T → total T < 65536
 total-few T w =
     let a = w Names in let b = w Solvables in let c = w VersionSets in let d = w Requirements in let e = w Candidates in
     let f = w Reasons in let g = w Variables in let h = w Assigned in let i = w Clauses in

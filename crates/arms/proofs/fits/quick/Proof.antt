@@ -1,5 +1,7 @@
 use borrow.Author.Needs.{needs}
-use Rattle.arms.specs.Fits.{sure-name, sure-solvable, sure-set, sure-requirement, sure-candidate, sure-reason, sure-variable, sure-assigned, sure-root, sure-excluded, sure-learnt, sure-requires, sure-lock, sure-forbid, sure-constrains, sure-parent, sure-barred, sure-any, sure-none}
+use Rattle.arms.specs.Fits.{sure-name, sure-solvable, sure-set, sure-requirement, sure-candidate, sure-reason, sure-variable, sure-assigned, sure-root}
+use Rattle.arms.specs.Fits.{sure-excluded, sure-learnt, sure-requires, sure-lock, sure-forbid, sure-constrains, sure-parent, sure-barred, sure-any}
+use Rattle.arms.specs.Fits.{sure-none}
 use Rattle.arms.proofs.fits.quick.Statement.{statement}
 use Rattle.arms.proofs.fits.quick.Tie as tie
 

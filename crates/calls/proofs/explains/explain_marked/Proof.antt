@@ -1,4 +1,4 @@
-use Rattle.measuring.specs.Assembly.{fresh-plan}
+use Rattle.planning.specs.Assembly.{fresh-plan}
 use Rattle.calls.specs.Laws.Says.{whole-ready, whole-shows}
 use borrow.Author.Needs.{needs}
 use Rattle.calls.proofs.explains.explain_marked.Statement.{statement}

@@ -1,5 +1,5 @@
 use borrow.Author.Needs.{needs}
-use Rattle.measuring.specs.Assembly.{fresh-plan}
+use Rattle.planning.specs.Assembly.{fresh-plan}
 use Rattle.calls.specs.Laws.SeasonWays.{counted-ready, tells-entered}
 use Rattle.calls.proofs.seasons.season_marked.Statement.{statement}
 use Rattle.calls.proofs.seasons.season_marked.Tie as tie

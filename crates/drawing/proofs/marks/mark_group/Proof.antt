@@ -1,5 +1,5 @@
 use borrow.Author.Needs.{needs}
-use Rattle.drawing.specs.Marks.{mark-own, mark-other}
+use Rattle.drawing.specs.MergeMarks.{mark-own, mark-other}
 use Rattle.drawing.proofs.marks.mark_group.Statement.{statement}
 use Rattle.drawing.proofs.marks.mark_group.Tie as tie
 

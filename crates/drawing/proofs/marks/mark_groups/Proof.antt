@@ -1,7 +1,7 @@
 use borrow.Author.Needs.{needs}
 use mathlib.Core.Path.{_≡_}
 use Prim.Native.Nat.{_-_, _≤_}
-use Rattle.drawing.specs.Marks.{marksTo, marks-none, marks-next, marks-all}
+use Rattle.drawing.specs.MergeMarks.{marksTo, marks-none, marks-next, marks-all}
 use Rattle.drawing.proofs.marks.mark_groups.Statement.{statement}
 use Rattle.drawing.proofs.marks.mark_groups.Tie as tie
 

@@ -1,6 +1,7 @@
 use borrow.Author.Needs.{needs}
 use Rattle.records.specs.Read.{tablesOf}
-use Rattle.drawing.specs.Walk.{Edging, edging-start, edging-edge, edging-fine, edging-less, edging-next, edging-stop, edging-stamped, edging-end, edging-done}
+use Rattle.drawing.specs.Walk.{Edging, edging-start, edging-edge, edging-fine, edging-less, edging-next, edging-stop, edging-stamped, edging-end}
+use Rattle.drawing.specs.Walk.{edging-done}
 use Rattle.drawing.proofs.walk.add_edges.Statement.{statement}
 use Rattle.drawing.proofs.walk.add_edges.Tie as tie
 

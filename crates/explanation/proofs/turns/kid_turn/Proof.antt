@@ -1,11 +1,11 @@
 use borrow.Author.Needs.{needs}
-use Rattle.explanation.specs.Turned.{Turned, kid-skip, kid-repeat, kid-show, known-at, framed-at}
+use Rattle.explanation.specs.Turned.{WalkTurned, kid-skip, kid-repeat, kid-show, known-at, framed-at}
 use native.Mathlib.Omega.{arith}
 use Rattle.explanation.proofs.turns.kid_turn.Statement.{statement}
 use Rattle.explanation.proofs.turns.kid_turn.Tie as tie
 
 pub kid-turn-spec : {M : Type 1} → statement M
-unfolding Turned
+unfolding WalkTurned
 kid-turn-spec =
     tie.close
     (tie.spec

@@ -1,11 +1,11 @@
 use borrow.Author.Needs.{needs}
-use Rattle.texts.specs.Marks.{marksOf}
-use Rattle.explanation.specs.Turned.{Turned, run-full, run-on}
+use Rattle.texts.specs.MarkBits.{marksIn}
+use Rattle.explanation.specs.Turned.{WalkTurned, run-full, run-on}
 use Rattle.explanation.proofs.turns.run_turn.Statement.{statement}
 use Rattle.explanation.proofs.turns.run_turn.Tie as tie
 
 pub run-turn-spec : {M : Type 1} → statement M
-unfolding marksOf Turned
+unfolding marksIn WalkTurned
 run-turn-spec =
     tie.close
     (tie.spec

@@ -1,12 +1,12 @@
 use borrow.Author.Needs.{needs}
-use Rattle.texts.specs.Marks.{marksOf}
+use Rattle.texts.specs.MarkBits.{marksIn}
 use Rattle.explanation.specs.Turned.{show-settled}
 use Rattle.explanation.specs.Stand.{lent-low}
 use Rattle.explanation.proofs.turns.show.Statement.{statement}
 use Rattle.explanation.proofs.turns.show.Tie as tie
 
 pub show-spec : {M : Type 1} → statement M
-unfolding marksOf
+unfolding marksIn
 show-spec =
     tie.close
     (tie.spec

@@ -3,7 +3,8 @@ use Rattle.records.specs.Read.{tablesOf}
 use mathlib.Core.Path.{_≡_}
 use lib.ListN.{length}
 use Rattle.explanation.specs.Stand.{indenterAt}
-use Rattle.explanation.specs.Walk.{Walking, toGo, walking-first, walking-level, walking-known, walking-framed, rest-fits, walking-less, walking-on, walk-ends}
+use Rattle.explanation.specs.Walk.{Walking, toGo, walking-first, walking-level, walking-known, walking-framed, rest-fits, walking-less, walking-on}
+use Rattle.explanation.specs.Walk.{walk-ends}
 use Rattle.explanation.proofs.walk.walk_plan.Statement.{statement}
 use Rattle.explanation.proofs.walk.walk_plan.Tie as tie
 

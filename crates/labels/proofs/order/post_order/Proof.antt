@@ -1,6 +1,6 @@
 use borrow.Author.Needs.{needs}
 use mathlib.Core.Path.{_≡_}
-use Rattle.labels.specs.Frames.{Inside, Turned, whole, leftOf, turns, start-in, turn-on, turn-done}
+use Rattle.labels.specs.Frames.{Inside, PostTurned, whole, leftOf, turns, start-in, turn-on, turn-done}
 use Rattle.labels.proofs.order.post_order.Statement.{statement}
 use Rattle.labels.proofs.order.post_order.Tie as tie
 

@@ -1,11 +1,11 @@
 use borrow.Author.Needs.{needs}
-use Rattle.texts.specs.Marks.{marksOf}
+use Rattle.texts.specs.MarkBits.{marksIn}
 use Rattle.lines.specs.SetLaws.{package-full, package-one, package-sets}
 use Rattle.lines.proofs.sets.package_lines.Statement.{statement}
 use Rattle.lines.proofs.sets.package_lines.Tie as tie
 
 pub package-lines-spec : {M : Type 1} → statement M
-unfolding marksOf
+unfolding marksIn
 package-lines-spec =
     tie.close
     (tie.spec

@@ -4,14 +4,17 @@ use Prim.Native.Nat.{_≤_}
 use mathlib.Core.Path.{_≡_}
 use lib.ListN.{length}
 use Rattle.records.specs.Read.{tablesOf}
-use Rattle.texts.specs.Marks.{marksOf}
+use Rattle.texts.specs.MarkBits.{marksIn}
 use Rattle.plan.specs.Fields.{setsFrom}
 use Rattle.lines.specs.Said.{setsSaid}
 use Rattle.lines.proofs.sets.set_lines.Statement.{statement}
 use Rattle.lines.proofs.sets.set_lines.Tie as tie
 
 abbrev Inv : tie.InvT-loop
-Inv file ix k out₀ g first end e₀ at₀ units₀ out e at units = (at ≤ length out) × ((length out ≡ length out₀) × ((units ≤ at) × Done (setsSaid (tablesOf file) (g .top) (parents (marksOf g)) (setsFrom k first end)) (setsSaid (tablesOf file) (g .top) (parents (marksOf g)) (setsFrom k first e)) out₀ out at units))
+Inv file ix k out₀ g first end e₀ at₀ units₀ out e at units =
+    (at ≤ length out) × ((length out ≡ length out₀) × ((units ≤ at)
+    × Done (setsSaid (tablesOf file) (g .top) (parents (marksIn g)) (setsFrom k first end))
+    (setsSaid (tablesOf file) (g .top) (parents (marksIn g)) (setsFrom k first e)) out₀ out at units))
 
 abbrev μ : tie.MeasureT-loop
 μ file ix k out₀ g first end e₀ at₀ units₀ out e at units = e

@@ -6,4 +6,5 @@ use Rattle.planning.proofs.mates.group_word.Tie as tie
 pub group-word-spec : {M : Type 1} → statement M
 group-word-spec =
     tie.close
-    (tie.spec (λ c. (search word-alone, search needs)) (λ c. search needs) (λ c. search needs) (λ c. search needs) (λ c. (search word-later, search needs)) (λ c. search needs) (λ c. search needs) (λ c. search needs) (λ c. (search word-next, search needs)))
+    (tie.spec (λ c. (search word-alone, search needs)) (λ c. search needs) (λ c. search needs) (λ c. search needs) (λ c. (search word-later, search needs))
+    (λ c. search needs) (λ c. search needs) (λ c. search needs) (λ c. (search word-next, search needs)))

@@ -8,4 +8,7 @@ turn-spec =
     tie.close
     (tie.spec
     (λ c κs. search needs) (λ c. search needs) (λ c. search needs) (λ c κs. search needs)
-    (λ c κs. search needs) (λ c. search needs) (λ c. (search (needs, turn-no), search (marks-no, marks-on))) (λ c. search needs) (λ c. (search (needs, turn-on), search marks-on)))
+    (λ c κs. search needs) (λ c. search needs) (λ c. (search (needs, turn-no), search (marks-no, marks-on))) (λ c. search needs) (λ c. (
+      search (needs, turn-on),
+      search marks-on,
+    )))

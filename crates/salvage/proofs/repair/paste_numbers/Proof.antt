@@ -2,8 +2,8 @@ use borrow.Author.Needs.{needs}
 use mathlib.Core.Path.{_≡_}
 use Prim.Native.Nat.{_≤_, _-_}
 use lib.ListN.{length}
-use Rattle.pieces.specs.Pieces.{Pasted}
-use Rattle.pieces.specs.Laws.Paste.{pasted-none, pasted-more, pasted-all}
+use Rattle.reader.specs.Pieces.{Pasted}
+use Rattle.reader.specs.Laws.Paste.{pasted-none, pasted-more, pasted-all}
 use Rattle.salvage.proofs.repair.paste_numbers.Statement.{statement}
 use Rattle.salvage.proofs.repair.paste_numbers.Tie as tie
 

@@ -1,10 +1,10 @@
 use borrow.Author.Needs.{needs}
-use Rattle.texts.specs.Marks.{marksOf}
+use Rattle.texts.specs.MarkBits.{marksIn}
 use Rattle.texts.proofs.Indenter.indent_length.Statement.{statement}
 use Rattle.texts.proofs.Indenter.indent_length.Tie as tie
 
 pub indent-length-spec : {M : Type 1} → statement M
-unfolding marksOf
+unfolding marksIn
 indent-length-spec =
     tie.close
     (tie.spec

@@ -7,5 +7,6 @@ pub push-level-with-order-spec : {M : Type 1} → statement M
 push-level-with-order-spec =
     tie.close
     (tie.spec
-    (λ c. ((search (needs, levels), search needs, search needs), search (needs, selves))) (λ c. search needs) (λ c. search needs) (λ c κs. search needs) (λ c. search needs)
+    (λ c. ((search (needs, levels), search needs, search needs), search (needs, selves))) (λ c. search needs) (λ c. search needs) (λ c κs. search needs) (λ c.
+    search needs)
     (λ c. search needs) (λ c. search needs) (λ c. ((search (needs, levels), search needs, search needs), search (needs, selves))))

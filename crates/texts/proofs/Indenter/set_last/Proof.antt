@@ -7,5 +7,6 @@ pub set-last-spec : {M : Type 1} → statement M
 set-last-spec =
     tie.close
     (tie.spec
-    (λ c. ((search (needs, levels), search needs, search needs), search (needs, selves))) (λ c. search needs) (λ c. search needs) (λ c. search needs) (λ c κs. search needs)
+    (λ c. ((search (needs, levels), search needs, search needs), search (needs, selves))) (λ c. search needs) (λ c. search needs) (λ c. search needs) (λ c κs.
+    search needs)
     (λ c. search needs) (λ c. search needs) (λ c. ((search (needs, levels), search needs, search needs), search (needs, selves))))

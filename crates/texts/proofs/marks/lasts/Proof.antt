@@ -2,7 +2,7 @@
 use Prim.Native.Nat.{_≤_, _*_, _-_}
 use mathlib.Core.Path.{_≡_}
 use borrow.Author.Needs.{needs}
-use Rattle.texts.specs.Marks.{marksAt}
+use Rattle.texts.specs.MarkBits.{marksAt}
 use Rattle.texts.specs.Length.{lastCount, lasts-start, lasts-more, lasts-end}
 use Rattle.texts.proofs.marks.lasts.Statement.{statement}
 use Rattle.texts.proofs.marks.lasts.Tie as tie

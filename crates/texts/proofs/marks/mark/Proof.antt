@@ -1,5 +1,5 @@
 use borrow.Author.Needs.{needs}
-use Rattle.texts.specs.Marks.{digit, bit}
+use Rattle.texts.specs.MarkBits.{digit, bit}
 use Rattle.texts.proofs.marks.mark.Statement.{statement}
 use Rattle.texts.proofs.marks.mark.Tie as tie
 

@@ -1,5 +1,5 @@
 use borrow.Author.Needs.{needs}
-use Rattle.texts.specs.Marks.{marked-yes, marked-no, marked-fits}
+use Rattle.texts.specs.MarkBits.{marked-yes, marked-no, marked-fits}
 use Rattle.texts.proofs.marks.marked_word.Statement.{statement}
 use Rattle.texts.proofs.marks.marked_word.Tie as tie
 

@@ -1,5 +1,5 @@
 use borrow.Author.Needs.{needs}
-use Rattle.texts.specs.Marks.{power-is, power-some, power-small}
+use Rattle.texts.specs.MarkBits.{power-is, power-some, power-small}
 use Rattle.texts.proofs.marks.power.Statement.{statement}
 use Rattle.texts.proofs.marks.power.Tie as tie
 

@@ -9,4 +9,7 @@ length-of-spec =
     (tie.spec
     (λ c κs. search needs) (λ c. (search (needs, length-none), search needs)) (λ c. search needs) (λ c κs. search needs)
     (λ c κs. search needs) (λ c. search needs) (λ c. search needs) (λ c. search needs)
-    (λ c. search needs) (λ c. search needs) (λ c. search needs) (λ c. search (needs, length-less)) (λ c. (search (needs, length-some), search (needs, length-most))))
+    (λ c. search needs) (λ c. search needs) (λ c. search needs) (λ c. search (needs, length-less)) (λ c. (
+      search (needs, length-some),
+      search (needs, length-most),
+    )))

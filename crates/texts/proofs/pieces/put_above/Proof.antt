@@ -4,12 +4,12 @@ use mathlib.Core.Path.{_≡_}
 use lib.ListN.{length}
 use borrow.Author.Needs.{needs}
 use Rattle.texts.specs.Pieces.{Near}
-use Rattle.texts.specs.Shown.{firstOf, aboveText, above-start, above-more, above-end, room-for}
+use Rattle.texts.specs.Shown.{shownFirst, aboveText, above-start, above-more, above-end, room-for}
 use Rattle.texts.proofs.pieces.put_above.Statement.{statement}
 use Rattle.texts.proofs.pieces.put_above.Tie as tie
 
 abbrev Inv : tie.InvT-loop
-Inv out₀ levels words widths top n i₀ at₀ out i at = (firstOf top ≤ i) × (i ≤ n) × (length out ≡ length out₀)
+Inv out₀ levels words widths top n i₀ at₀ out i at = (shownFirst top ≤ i) × (i ≤ n) × (length out ≡ length out₀)
     × Near (aboveText top levels i) out₀ out at
 
 abbrev μ : tie.MeasureT-loop

@@ -4,14 +4,14 @@ use Prim.Native.Nat.{_≤_, _-_}
 use lib.ListN.{length}
 use lib.Seq.{sets}
 use Rattle.wall.specs.Read.{readText}
-use Rattle.wall.specs.Lent.{edgesIn, edgeSpots}
+use Rattle.wall.specs.Lent.{edgesRead, edgeSpots}
 use Rattle.wall.specs.Laws.Filling.{Edges, edges-first, edges-fill, edges-list}
 use Rattle.wall.proofs.fill.fill_edges.Statement.{statement}
 use Rattle.wall.proofs.fill.fill_edges.Tie as tie
 
 abbrev Inv-loop : tie.InvT-loop
 Inv-loop text from m n edges₀ at₀ k₀ edges at k =
-    (k ≤ n) × (length edges ≡ length edges₀) × Edges text m at k n edges (sets edges₀ 0 (edgeSpots from (edgesIn (readText text))))
+    (k ≤ n) × (length edges ≡ length edges₀) × Edges text m at k n edges (sets edges₀ 0 (edgeSpots from (edgesRead (readText text))))
 
 abbrev μ-loop : tie.MeasureT-loop
 μ-loop text from m n edges₀ at₀ k₀ edges at k = n - k

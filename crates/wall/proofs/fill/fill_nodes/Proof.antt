@@ -4,7 +4,7 @@ use Prim.Native.Nat.{_≤_, _-_}
 use lib.ListN.{length}
 use lib.Seq.{sets}
 use Rattle.wall.specs.Read.{readText}
-use Rattle.wall.specs.Lent.{labelsIn, edgesIn, nodeSpots, nodesEnd}
+use Rattle.wall.specs.Lent.{labelsIn, edgesRead, nodeSpots, nodesEnd}
 use Rattle.wall.specs.Laws.Filling.{Nodes, nodes-begin, nodes-fill, nodes-list, nodes-at, hash-at}
 use Rattle.wall.proofs.fill.fill_nodes.Statement.{statement}
 use Rattle.wall.proofs.fill.fill_nodes.Tie as tie
@@ -12,7 +12,7 @@ use Rattle.wall.proofs.fill.fill_nodes.Tie as tie
 abbrev Inv-loop : tie.InvT-loop
 Inv-loop text n nodes₀ at₀ i₀ nodes at i =
     (i ≤ n) × (length nodes ≡ length nodes₀)
-    × Nodes text at i n nodes (sets nodes₀ 0 (nodeSpots 0 0 (labelsIn (readText text)))) (nodesEnd 0 0 (labelsIn (readText text))) (edgesIn (readText text))
+    × Nodes text at i n nodes (sets nodes₀ 0 (nodeSpots 0 0 (labelsIn (readText text)))) (nodesEnd 0 0 (labelsIn (readText text))) (edgesRead (readText text))
 
 abbrev μ-loop : tie.MeasureT-loop
 μ-loop text n nodes₀ at₀ i₀ nodes at i = n - i

@@ -1,2 +1,0 @@
-pub mod Captions
-pub mod Laws

@@ -1,0 +1,12 @@
+use borrow.Author.Needs.{needs}
+use Rattle.display.specs.StrokeShort.{reason-short}
+use Rattle.display.specs.StrokeSizes.{excluded-sum}
+use Rattle.display.proofs.stroke_sizes.excluded_size.Statement.{statement}
+use Rattle.display.proofs.stroke_sizes.excluded_size.Tie as tie
+
+pub excluded-size-spec : {M : Type 1} → statement M
+excluded-size-spec =
+    tie.close
+    (tie.spec
+    (λ c κs. search needs) (λ c κs. search reason-short) (λ c. search needs)
+    (λ c. (search excluded-sum, search needs)))

@@ -1,0 +1,3 @@
+pub mod CaptionShort
+pub mod CaptionSizes
+pub mod Quoted

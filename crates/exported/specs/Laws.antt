@@ -1,5 +1,0 @@
-pub mod Weights
-pub mod Texts
-pub mod Back
-pub mod Told
-pub mod Captions

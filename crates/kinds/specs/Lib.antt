@@ -1,4 +1,0 @@
-pub mod Marks
-pub mod Sets
-pub mod Line
-pub mod Exact

@@ -1,0 +1,9 @@
+pub mod Asked
+pub mod Laws
+pub mod Edges
+pub mod Entry
+pub mod Listing
+pub mod Nodes
+pub mod Listed
+pub mod Ways
+pub mod Samples

@@ -1,9 +1,0 @@
-use borrow.Author.Needs.{needs}
-use Rattle.measuring.specs.Lengths.{size-is}
-use Rattle.measuring.proofs.size_of.Statement.{statement}
-use Rattle.measuring.proofs.size_of.Tie as tie
-
-pub size-of-spec : {M : Type 1} → statement M
-size-of-spec =
-    tie.close
-    (tie.spec (λ c κs. search needs) (λ c κs. search needs) (λ c κs. search needs) (λ c κs. search needs) (λ c κs. search needs) (λ c κs. search needs) (λ c κs. search needs) (λ c κs. search needs) (λ c. search needs) (λ c. search needs) (λ c. search needs) (λ c. (search size-is, search needs)))

@@ -1,4 +1,0 @@
-pub mod Lengths
-pub mod Sizes
-pub mod Exact
-pub mod Assembly

@@ -1,4 +1,0 @@
-pub mod Nodes
-pub mod Listed
-pub mod Ways
-pub mod Samples

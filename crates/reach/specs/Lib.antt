@@ -1,2 +1,0 @@
-pub mod Paths
-pub mod Queue

@@ -1,4 +1,0 @@
-pub mod Cut
-pub mod Kids
-pub mod Along
-pub mod Exact

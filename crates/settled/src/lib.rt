@@ -1,1 +1,0 @@
-// The labels' theorems for every graph that is drawn (specs/Settled.antt).

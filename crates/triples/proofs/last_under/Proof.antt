@@ -1,7 +1,0 @@
-use borrow.Author.Needs.{needs}
-use Rattle.triples.specs.Hashed.{last-get}
-use Rattle.triples.proofs.last_under.Statement.{statement}
-use Rattle.triples.proofs.last_under.Tie as tie
-
-pub last-under-spec : {M : Type 1} → statement M
-last-under-spec = tie.close (tie.spec (λ c. search needs) (λ c. search needs) (λ c. search needs) (λ c. search (needs, last-get)))

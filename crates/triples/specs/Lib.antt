@@ -1,2 +1,0 @@
-pub mod Triple
-pub mod Hashed
