@@ -3,6 +3,7 @@ pub mod Working
 pub mod Lasts
 pub mod State
 pub mod Pairing
+pub mod Skipping
 pub mod Forbidding
 pub mod Exact
 pub mod Triple

@@ -51,6 +51,10 @@ pub record Pending (X : StepSoFar) (ts : List Triple) (g tr w : List ℕ) (k : W
   pub left : onceAllIn ts (buildIn g tr w k) ≡ X
   pub holds : Holds g tr w k
 
+-- the triple of node n with the partner that clause i tells, none where that names neither
+unfoldable pub triplesAt : Tables → Side → ConflictNode → ℕ → ℕ → List Triple
+triplesAt T side n v i = triplesOf side n v (nodesNamed T (auxAt T i))
+
 -- the triples of node n with an auxiliary's partners from the stored value x on
 unfoldable pub pairsFrom : Tables → Side → ConflictNode → ℕ → ℕ → List Triple
 pairsFrom T side n v x = triplesOf side n v (concatMap (nodesNamed T) (auxFrom T x))
@@ -124,11 +128,11 @@ pub ruleset onces = (once-old, once-full, once-new)
 
 -- ---- triples one after another: for the proofs
 
-abbrev andThen : StepSoFar → List Triple → StepSoFar
+abbrev pub andThen : StepSoFar → List Triple → StepSoFar
 andThen (onTo b) ts = onceAllIn ts b
 andThen (stopAt g) ts = stopAt g
 
-once-append : (xs ys : List Triple) (b : Build) → onceAllIn (xs ++ ys) b ≡ andThen (onceAllIn xs b) ys
+pub once-append : (xs ys : List Triple) (b : Build) → onceAllIn (xs ++ ys) b ≡ andThen (onceAllIn xs b) ys
 unfolding onceAllIn
 once-append [] ys b = refl
 once-append (x ∷ xs) ys b = after (once-append xs ys) (onceIn b x)
@@ -139,7 +143,7 @@ once-append (x ∷ xs) ys b = after (once-append xs ys) (onceIn b x)
     after f (onTo c) = f c
     after f (stopAt g) = refl
 
-once-one : (t : Triple) (b : Build) → onceAllIn (t ∷ []) b ≡ onceIn b t
+pub once-one : (t : Triple) (b : Build) → onceAllIn (t ∷ []) b ≡ onceIn b t
 unfolding onceAllIn
 once-one t b = same (onceIn b t)
   where
@@ -207,36 +211,38 @@ aux-out T x W i h = any-none T (auxFrom T x) (aux-end T x h) ∙ i
 
 pub ruleset auxes-kept = (aux-hit, aux-miss, aux-out)
 
--- ---- the triples with an auxiliary's partners, one partner after another: c is the partner at hand, r the party that it names, d what
--- making its triple gave
+-- ---- the triples with an auxiliary's partners, one partner after another: c is the partner of clause i, r the party that it names
 
-pub pending-start : (ts : List Triple) (g tr w : List ℕ) (k : Work) → Holds g tr w k → Pending (onceAllIn ts (buildIn g tr w k)) ts g tr w k
-pending-start ts g tr w k H = record { left = refl; holds = H }
+pub pair-told : (T : Tables) (side : Side) (n : ConflictNode) (v i c : ℕ) (r : Party) (g tr w g′ tr′ w′ : List ℕ) (k : Work) (d : Progress)
+    → c ≡ auxAt T i → r ≡ partyOf T c → ExpandedBy (triplesOf side n v (asList r)) g tr w k g′ tr′ w′ d
+    → ExpandedBy (triplesAt T side n v i) g tr w k g′ tr′ w′ d
+unfolding triplesAt
+pair-told T side n v i c r g tr w g′ tr′ w′ k d e p R = rw (sym (p ∙ ap (partyOf T) e)) R
 
 module _ (T : Tables) (side : Side) (n : ConflictNode) (v : ℕ) where
-  pairs-step : (x c y : ℕ) (r : Party) → 0 < x → c ≡ auxAt T (x - 1) → r ≡ partyOf T c → y ≡ nextPartner T (x - 1)
-      → pairsFrom T side n v x ≡ triplesOf side n v (asList r) ++ pairsFrom T side n v y
-  unfolding pairsFrom triplesOf
-  pairs-step x c y r h e p z =
-      ap (λ (l : List ℕ). map (tripleBy side n v) (concatMap (nodesNamed T) l)) (aux-step T x c y h e z)
-      ∙ map-append (tripleBy side n v) (asList (partyOf T c)) (concatMap (nodesNamed T) (auxFrom T y))
-      ∙ ap (λ (u : Party). map (tripleBy side n v) (asList u) ++ map (tripleBy side n v) (concatMap (nodesNamed T) (auxFrom T y))) (sym p)
+  pub pairs-step : (x y : ℕ) → 0 < x → y ≡ nextPartner T (x - 1)
+      → pairsFrom T side n v x ≡ triplesAt T side n v (x - 1) ++ pairsFrom T side n v y
+  unfolding pairsFrom triplesOf triplesAt
+  pairs-step x y h z =
+      ap (λ (l : List ℕ). map (tripleBy side n v) (concatMap (nodesNamed T) l)) (aux-step T x (auxAt T (x - 1)) y h refl z)
+      ∙ map-append (tripleBy side n v) (nodesNamed T (auxAt T (x - 1))) (concatMap (nodesNamed T) (auxFrom T y))
 
-  module _ (X : StepSoFar) (g tr w g′ tr′ w′ : List ℕ) (k : Work) (x c : ℕ) (r : Party) (d : Progress) where
+  -- d is what making the triple of the partner at x gave
+  module _ (X : StepSoFar) (g tr w g′ tr′ w′ : List ℕ) (k : Work) (x : ℕ) (d : Progress) where
     -- there was room: what is left is the rest
-    pub pairs-next : (y : ℕ) (m : Work) → Pending X (pairsFrom T side n v x) g tr w k → 0 < x → c ≡ auxAt T (x - 1) → r ≡ partyOf T c
-        → ExpandedBy (triplesOf side n v (asList r)) g tr w k g′ tr′ w′ d → d ≡ P.On m → y ≡ nextPartner T (x - 1)
+    pub pairs-next : (y : ℕ) (m : Work) → Pending X (pairsFrom T side n v x) g tr w k → 0 < x
+        → ExpandedBy (triplesAt T side n v (x - 1)) g tr w k g′ tr′ w′ d → d ≡ P.On m → y ≡ nextPartner T (x - 1)
         → Pending X (pairsFrom T side n v y) g′ tr′ w′ m
-    pairs-next y m L h e p R o z =
-        pending-next X (pairsFrom T side n v x) (triplesOf side n v (asList r)) (pairsFrom T side n v y) g tr w g′ tr′ w′ k d L R
-        (pairs-step x c y r h e p z) m o
+    pairs-next y m L h R o z =
+        pending-next X (pairsFrom T side n v x) (triplesAt T side n v (x - 1)) (pairsFrom T side n v y) g tr w g′ tr′ w′ k d L R
+        (pairs-step x y h z) m o
 
     -- there was none: that is the answer
-    pub pairs-stop : (z : Size) → Pending X (pairsFrom T side n v x) g tr w k → 0 < x → c ≡ auxAt T (x - 1) → r ≡ partyOf T c
-        → ExpandedBy (triplesOf side n v (asList r)) g tr w k g′ tr′ w′ d → d ≡ P.Full z → Expanded X g′ tr′ w′ (P.Full z)
-    pairs-stop z L h e p R o =
-        pending-stop X (pairsFrom T side n v x) (triplesOf side n v (asList r)) (pairsFrom T side n v (nextPartner T (x - 1)))
-        g tr w g′ tr′ w′ k d L R (pairs-step x c (nextPartner T (x - 1)) r h e p refl) z o
+    pub pairs-stop : (z : Size) → Pending X (pairsFrom T side n v x) g tr w k → 0 < x
+        → ExpandedBy (triplesAt T side n v (x - 1)) g tr w k g′ tr′ w′ d → d ≡ P.Full z → Expanded X g′ tr′ w′ (P.Full z)
+    pairs-stop z L h R o =
+        pending-stop X (pairsFrom T side n v x) (triplesAt T side n v (x - 1)) (pairsFrom T side n v (nextPartner T (x - 1)))
+        g tr w g′ tr′ w′ k d L R (pairs-step x (nextPartner T (x - 1)) h refl) z o
 
   -- no partner is left
   pub pairs-end : (X : StepSoFar) (g tr w : List ℕ) (k : Work) (x : ℕ) → Pending X (pairsFrom T side n v x) g tr w k → x ≤ 0
@@ -245,8 +251,6 @@ module _ (T : Tables) (side : Side) (n : ConflictNode) (v : ℕ) where
   pairs-end X g tr w k x L h =
       pending-end X (pairsFrom T side n v x) g tr w k L
       (ap (λ (l : List ℕ). map (tripleBy side n v) (concatMap (nodesNamed T) l)) (aux-end T x h))
-
-pub ruleset pairings = (pending-start, pairs-next, pairs-stop, pairs-end)
 
 -- ---- the other side of an auxiliary, by the side on which the clause stands
 

@@ -8,12 +8,14 @@ ghost use Rattle.records.specs.Read.{tablesOf};
 ghost use Rattle.index.specs.Index.{Loaded};
 ghost use Rattle.views.specs.Walks.{auxFrom};
 ghost use Rattle.expansion.specs.Triple.{triple};
-ghost use Rattle.linking.specs.Links.{asList, parentReason, excludedReason};
+ghost use Rattle.expansion.specs.Hashed.{TripleWord, Triples, madeIn};
+ghost use Rattle.linking.specs.Links.{partyOf, asList, parentReason, excludedReason};
 ghost use Rattle.linking.specs.Parties.{anyNode};
-ghost use Rattle.expansion.specs.Expand.{triplesOf, others};
+ghost use Rattle.expansion.specs.Expand.{tripleBy, triplesOf, others};
 ghost use Rattle.expansion.specs.Working.{onceIn, onceAllIn, pairIn, forbidClauseIn, expandIn};
 ghost use Rattle.expansion.specs.State.{buildIn, Holds, Expanded};
-ghost use Rattle.expansion.specs.Pairing.{pairsFrom, firstOther, otherReason};
+ghost use Rattle.expansion.specs.Pairing.{triplesAt, pairsFrom, firstOther, otherReason};
+ghost use Rattle.expansion.specs.Skipping.{newBy, Skipped};
 ghost use Rattle.expansion.specs.Forbidding.{widened};
 use index::Slots;
 use linking::Grown;
@@ -127,6 +129,95 @@ fn aux_kept(file: &[u8], ix: &Slots, x: usize) -> bool
     false
 }
 
+// The triple of node n and the partner that clause i tells, none where that names neither.
+fn pair_at(
+    file: &[u8],
+    ix: &Slots,
+    g: &mut GraphWords,
+    tr: &mut Scratch,
+    ls: &mut ChainWords,
+    k: Work,
+    side: Side,
+    n: ConflictNode,
+    v: u16,
+    i: usize,
+) -> Progress
+    requires { ⌜ Loaded (now file) (now ix) ⌝ }
+    requires { ⌜ Holds (now g) (now tr) (now ls) k ⌝ }
+    ensures { λ d. ⌜ Expanded (onceAllIn (triplesAt (tablesOf (now (file .entry))) side n v i) (buildIn (now (g .entry)) (now (tr .entry)) (now (ls .entry)) k))
+        (now (g .exit)) (now (tr .exit)) (now (ls .exit)) d ⌝ }
+{
+    let c = views::aux_partner(file, ix, i);
+    let r = linking::named(file, ix, c);
+    pair_party(g, tr, ls, k, side, n, v, r)
+}
+
+// The word of the triple of node n and node p of the other side.
+fn word_by(side: Side, n: ConflictNode, v: u16, p: ConflictNode) -> u64
+    ensures { λ r. ⌜ TripleWord (tripleBy side n v p) r ⌝ }
+{
+    match side {
+        Side::Parent => triples::pack(n, p, v),
+        Side::Candidate => triples::pack(p, n, v),
+    }
+}
+
+// Variable c names a node whose triple with node n is not among the first m.
+fn is_new(
+    file: &[u8],
+    ix: &Slots,
+    tr: &Scratch,
+    ls: &ChainWords,
+    m: usize,
+    side: Side,
+    n: ConflictNode,
+    v: u16,
+    c: u16,
+) -> bool
+    requires { ⌜ Loaded (now file) (now ix) ⌝ }
+    requires { ⌜ Triples (now tr) (now ls) m ⌝ }
+    ensures { λ r. ⌜ r ≡ newBy side n v (madeIn (now (tr .entry)) m) (partyOf (tablesOf (now (file .entry))) c) ⌝ }
+{
+    let r = linking::named(file, ix, c);
+    let Party::Node(p) = r else {
+        return false;
+    };
+    let t = word_by(side, n, v, p);
+    if triples::made(tr, ls, m, t) {
+        return false;
+    }
+    true
+}
+
+// Past the partners of an auxiliary, from the stored value x on, that add no triple to the first m: the stored value at which
+// one does, or 0. Most were made before, and no `Progress` is built for those.
+fn first_new(
+    file: &[u8],
+    ix: &Slots,
+    tr: &Scratch,
+    ls: &ChainWords,
+    m: usize,
+    side: Side,
+    n: ConflictNode,
+    v: u16,
+    x: usize,
+) -> usize
+    requires { ⌜ Loaded (now file) (now ix) ⌝ }
+    requires { ⌜ Triples (now tr) (now ls) m ⌝ }
+    ensures { λ r. ⌜ Skipped (tablesOf (now (file .entry))) side n v (madeIn (now (tr .entry)) m) x r ⌝ }
+{
+    let mut y = x;
+    while 0 < y {
+        let i = y - 1;
+        let c = views::aux_partner(file, ix, i);
+        if is_new(file, ix, tr, ls, m, side, n, v, c) {
+            return y;
+        }
+        y = views::next_partner(file, ix, i);
+    }
+    y
+}
+
 // The triples of node n with an auxiliary's partners from the stored value x on.
 fn pair_all(
     file: &[u8],
@@ -145,18 +236,19 @@ fn pair_all(
     ensures { λ d. ⌜ Expanded (onceAllIn (pairsFrom (tablesOf (now (file .entry))) side n v x) (buildIn (now (g .entry)) (now (tr .entry)) (now (ls .entry)) k))
         (now (g .exit)) (now (tr .exit)) (now (ls .exit)) d ⌝ }
 {
-    let mut y = x;
+    let made = k.triples;
+    let mut y = first_new(file, ix, tr, ls, made, side, n, v, x);
     let mut m = k;
     while 0 < y {
         let i = y - 1;
-        let c = views::aux_partner(file, ix, i);
-        let r = linking::named(file, ix, c);
-        let d = pair_party(g, tr, ls, m, side, n, v, r);
+        let d = pair_at(file, ix, g, tr, ls, m, side, n, v, i);
         match d {
             Progress::Full(z) => return Progress::Full(z),
             Progress::On(z) => {
                 m = z;
-                y = views::next_partner(file, ix, i);
+                let j = z.triples;
+                let e = views::next_partner(file, ix, i);
+                y = first_new(file, ix, tr, ls, j, side, n, v, e);
             }
         }
     }

@@ -8,6 +8,7 @@ use native.Mathlib.Numerals.{add-one}
 use native.Mathlib.Omega.{arith}
 use lib.ListN.{length, replicate}
 use Rattle.records.specs.declared.Clause.{Clause}
+use Rattle.records.specs.declared.Clause.the-variants as C
 use Rattle.records.specs.declared.Table.the-variants.{Clauses}
 use Rattle.records.specs.Tables.{Tables}
 use Rattle.records.specs.Read.{tablesOf}
@@ -27,6 +28,12 @@ use Rattle.expansion.specs.Expand.{Build, startBuild}
 use Rattle.expansion.specs.Working.{StepSoFar, onTo, stopAt, expandIn}
 use Rattle.expansion.specs.Lasts.{lasts-none}
 use Rattle.expansion.specs.State.{buildIn, Holds, progressIn, HoldsIn, Expanded}
+use Rattle.expansion.specs.Forbidding.{expand-requires, widen-on, widen-full}
+use Rattle.linking.specs.declared.Grown.{Grown}
+use Rattle.linking.specs.declared.Grown.the-variants as G
+use Rattle.linking.specs.Links.{requiresOf, requirers}
+use Rattle.linking.specs.Working.{linkAllIn}
+use Rattle.linking.specs.Growth.{Grew}
 use Rattle.graph.specs.declared.Turn.{Turn}
 use Rattle.graph.specs.declared.Turn.the-variants as U
 use Rattle.graph.specs.declared.Drawing.{Drawing}
@@ -67,6 +74,30 @@ module _ (T : Tables) (c : Clause) (g tr w : List ℕ) (k : Work) (b : Bool) (q 
     core-full z f = record { is = sym (turned ∙ ap (λ (p : Progress). expandedIn (progressIn h us m p)) f); holds = rw f at (R .holds) }
 
 pub ruleset cores = (core-learnt, core-on, core-full)
+
+-- a Requires, whose links gave u
+module _ (T : Tables) (g tr w h : List ℕ) (k : Work) (a q : ℕ) (u : Grown) (H : Holds g tr w k)
+    (R : Grew (linkAllIn (requiresOf T q (requirers T a)) (graphIn g (k .size))) h u) where
+  pub requires-on : (s : Size) → u ≡ G.On s
+      → Turns (coreTurnIn T (C.Requires a q) (buildIn g tr w k)) h tr w (U.On (record { size = s; triples = k .triples }))
+  requires-on s e =
+      let n : Work = record { size = s; triples = k .triples } in
+      let X : Expanded (expandIn T (C.Requires a q) (buildIn g tr w k)) h tr w (P.On n) =
+      expand-requires T (C.Requires a q) g tr w h tr w k a q u (P.On n) refl H R (widen-on k u s e) in
+      core-on T (C.Requires a q) g tr w k false refl h tr w (P.On n) refl X n refl
+
+  pub requires-full : (s : Size) → u ≡ G.Full s → Turns (coreTurnIn T (C.Requires a q) (buildIn g tr w k)) h tr w (U.Refused 8 s)
+  requires-full s e =
+      let X : Expanded (expandIn T (C.Requires a q) (buildIn g tr w k)) h tr w (P.Full s) =
+      expand-requires T (C.Requires a q) g tr w h tr w k a q u (P.Full s) refl H R (widen-full k u s e) in
+      core-full T (C.Requires a q) g tr w k false refl h tr w (P.Full s) refl X s refl
+
+pub ruleset requirings = (requires-on, requires-full)
+
+-- the clause that a match found
+pub core-found : (T : Tables) (c d : Clause) (g tr w : List ℕ) (k : Work) (h us m : List ℕ) (r : Turn) → c ≡ d
+    → Turns (coreTurnIn T d (buildIn g tr w k)) h us m r → Turns (coreTurnIn T c (buildIn g tr w k)) h us m r
+core-found T c d g tr w k h us m r e R = rw e R
 
 -- how far building came, with clause i at hand
 abbrev pub handWork : Work → ℕ → Work

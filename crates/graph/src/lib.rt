@@ -15,6 +15,7 @@ ghost use Rattle.graph.specs.Files.{Makes, madeOf};
 use expansion::Progress;
 use expansion::Work;
 use index::Slots;
+use linking::Grown;
 use records::Clause;
 use store::ChainWords;
 use store::GraphWords;
@@ -95,6 +96,66 @@ fn core_turn(
     }
 }
 
+// A Requires of the core, by its links alone. The sizes are taken field by field: a copy of the whole would wait for its parts.
+fn requires_turn(
+    file: &[u8],
+    ix: &Slots,
+    g: &mut GraphWords,
+    tr: &Scratch,
+    ls: &ChainWords,
+    k: Work,
+    a: u16,
+    q: u16,
+) -> Turn
+    requires { ⌜ Loaded (now file) (now ix) ⌝ }
+    requires { ⌜ Holds (now g) (now tr) (now ls) k ⌝ }
+    ensures { λ r. ⌜ Turns (coreTurnIn (tablesOf (now (file .entry))) (Clause.Requires a q) (buildIn (now (g .entry)) (now (tr .entry)) (now (ls .entry)) k))
+        (now (g .exit)) (now (tr .entry)) (now (ls .entry)) r ⌝ }
+{
+    let s = k.size;
+    let n = k.triples;
+    let r = linking::expand_requires(file, ix, g, s, a, q);
+    match r {
+        Grown::On(t) => Turn::On(Work {
+            size: Size {
+                nodes: t.nodes,
+                edges: t.edges,
+                hand: t.hand,
+            },
+            triples: n,
+        }),
+        Grown::Full(t) => Turn::Refused(
+            8,
+            Size {
+                nodes: t.nodes,
+                edges: t.edges,
+                hand: t.hand,
+            },
+        ),
+    }
+}
+
+// A clause of the core; most are Requires.
+fn clause_turn(
+    file: &[u8],
+    ix: &Slots,
+    g: &mut GraphWords,
+    tr: &mut Scratch,
+    ls: &mut ChainWords,
+    k: Work,
+    c: Clause,
+) -> Turn
+    requires { ⌜ Loaded (now file) (now ix) ⌝ }
+    requires { ⌜ Holds (now g) (now tr) (now ls) k ⌝ }
+    ensures { λ r. ⌜ Turns (coreTurnIn (tablesOf (now (file .entry))) c (buildIn (now (g .entry)) (now (tr .entry)) (now (ls .entry)) k)) (now (g .exit))
+        (now (tr .exit)) (now (ls .exit)) r ⌝ }
+{
+    let Clause::Requires(a, q) = c else {
+        return core_turn(file, ix, g, tr, ls, k, c);
+    };
+    requires_turn(file, ix, g, tr, ls, k, a, q)
+}
+
 // Clause i at hand: the nodes and edges that it adds keep its number.
 fn at_hand(k: Work, i: usize) -> Work
     requires { ⌜ i < 1024 ⌝ }
@@ -131,7 +192,7 @@ fn turn_at(
     if views::in_core(file, ix, i) {
         let c = views::clause(file, ix, i);
         let m = at_hand(k, i);
-        return core_turn(file, ix, g, tr, ls, m, c);
+        return clause_turn(file, ix, g, tr, ls, m, c);
     }
     Turn::On(k)
 }

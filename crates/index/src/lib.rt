@@ -46,10 +46,13 @@ pub fn record_no(ix: &Slots, b: usize, l: usize, n: usize) -> usize
     if m == 0 { 2048 } else { m - 1 }
 }
 
-// Where the numbers of a kind's table begin; past the index for an unknown kind.
+// Where the numbers of a kind's table begin; past the index for an unknown kind. Candidates, of which a file has most, are asked for first.
 fn base(kind: u8) -> usize
     ensures { λ r. ⌜ (r ≡ baseOf kind) × (r ≤ 10432) ⌝ }
 {
+    if kind == 5 {
+        return regions::CANDIDATES;
+    }
     if 15 < kind {
         if kind < 26 {
             return regions::CLAUSES;

@@ -1,68 +1,17 @@
--- What `scan` and `kids` promise determines their answers and every number of the table that was lent.
+-- A table is known from the places that changed and from the kids that stand there: part of why the plan is determined.
 use mathlib.Core.Path.{_≡_, refl, sym, ap, _∙_}
-use mathlib.Core.Bool.{Bool}
 use mathlib.Core.List.{List, [], _∷_, map}
-use Prim.Native.Nat.{ℕ, zero, suc, _+_, _-_, _%_, _<_, _≤_}
+use Prim.Native.Nat.{ℕ, zero, suc, _+_, _-_, _<_, _≤_}
 use native.Mathlib.Omega.{arith}
 use native.Mathlib.Nat.{mod-eq-of-lt}
 use lib.ListN.{length, getD, length-map}
 use lib.Seq.{ext-getD}
 use lib.Dec.{eqb, ltb}
-use borrow.Author.Tests.{eqb-true, eqb-false, eq-eqb, ltb-true, ltb-false}
+use borrow.Author.Tests.{eqb-true, eqb-false, ltb-true, ltb-false}
 use Rattle.basis.specs.Lists.{upto}
 use Rattle.basis.specs.Members.{split}
-use Rattle.basis.specs.Chains.{downs, downs-hit, downs-miss}
-use Rattle.store.specs.declared.Edge.{Edge}
-use Rattle.store.specs.Table.{edgeIn}
-use Rattle.links.specs.Build.{sourceOf}
-use Rattle.links.specs.Walk.{outLeft, out-source}
 use Rattle.plan.specs.Fields.{kidAt, kidsFrom}
-use Rattle.planning.specs.declared.along.Found.{Found}
-use Rattle.planning.specs.Along.{Way, Scanned, Only, Nodes, KidsDone}
-
--- ---- a place of a walk is known from what is left to walk
-
-downs-grow : (key : ℕ → ℕ) (n e d : ℕ) → e ≤ d → length (downs key e n) ≤ length (downs key d n)
-downs-grow key n e zero h = let z : e ≡ 0 = omega arith in rw z (omega arith)
-downs-grow key n e (suc j) h =
-    split (eqb e (suc j))
-    (λ t. rw (eqb-true e (suc j) t) (omega arith))
-    (λ t. let r = downs-grow key n e j (omega (arith, eqb-false e (suc j) t)) in
-    split (eqb (key j) n) (λ u. rw (downs-hit key j n u) (omega arith)) (λ u. rw (downs-miss key j n u) r))
-
-downs-less : (key : ℕ → ℕ) (n e d : ℕ) → e < d → key (d - 1) ≡ n → length (downs key e n) < length (downs key d n)
-downs-less key n e zero h q = absurd (never h)
-  where
-    never : e < 0 → ⊥
-    never h = omega arith
-downs-less key n e (suc j) h q =
-    let z : suc j - 1 ≡ j = omega arith in
-    rw (downs-hit key j n (eq-eqb (key j) n (ap key (sym z) ∙ q))) (omega (arith, downs-grow key n e j (omega arith)))
-
-way-less : (g ls : List ℕ) (n e d : ℕ) → Way g ls n d → e < d → length (outLeft g n e) < length (outLeft g n d)
-unfolding outLeft sourceOf
-way-less g ls n e d W h =
-    rw (length-map (downs (sourceOf g) e n) (edgeIn g), length-map (downs (sourceOf g) d n) (edgeIn g))
-    (downs-less (sourceOf g) n e d h (out-source g (W .size) ls n d (W .out) (omega arith)))
-
-pub way-one : (g ls : List ℕ) (n e d : ℕ) → Way g ls n e → Way g ls n d → outLeft g n e ≡ outLeft g n d → e ≡ d
-way-one g ls n e d E D q =
-    split (ltb e d)
-    (λ t. absurd (never (length (outLeft g n e)) (length (outLeft g n d)) l (way-less g ls n e d D (ltb-true e d t))))
-    (λ t. split (ltb d e)
-    (λ u. absurd (never (length (outLeft g n d)) (length (outLeft g n e)) (sym l) (way-less g ls n d e E (ltb-true d e u))))
-    (λ u. omega (arith, ltb-false e d t, ltb-false d e u)))
-  where
-    l : length (outLeft g n e) ≡ length (outLeft g n d)
-    l = ap length q
-
-    never : (a b : ℕ) → a ≡ b → a < b → ⊥
-    never a b q h = omega arith
-
-pub scanned-one : (g ls ms : List ℕ) (n x e₁ : ℕ) (o₁ : Found) (e d : ℕ) (o f : Found) → Scanned g ls ms n x e₁ o₁ e o → Scanned g ls ms n x e₁ o₁ d f → (e ≡ d)
-    × (o ≡ f)
-scanned-one g ls ms n x e₁ o₁ e d o f S R =
-    (way-one g ls n e d (S .out) (R .out) (S .rest ∙ sym (R .rest)), S .all ∙ sym (R .all))
+use Rattle.planning.specs.Along.{Only, Nodes}
 
 -- ---- a table is known from the places that changed
 
@@ -108,10 +57,3 @@ pub kids-one : (u v : List ℕ) (c e : ℕ) → kidsFrom u c e ≡ kidsFrom v c 
 unfolding kidsFrom kidAt
 kids-one u v c e q U W i l m =
     sym (mod-eq-of-lt (U i l m)) ∙ map-one (kidAt u) (kidAt v) (e - c) c q i l (omega arith) ∙ mod-eq-of-lt (W i l m)
-
-pub kids-done-one : (g ms gr : List ℕ) (want : Bool) (ts k : List ℕ) (end : ℕ) (u v : List ℕ) (c d : ℕ) → KidsDone g ms gr want ts k end u c
-    → KidsDone g ms gr want ts k end v d → (c ≡ d) × (u ≡ v)
-kids-done-one g ms gr want ts k end u v c d U W =
-    let l : end - c ≡ end - d = sym (kids-length u c end) ∙ ap length (U .kids ∙ sym (W .kids)) ∙ kids-length v d end in
-    let e : d ≡ c = omega (arith, U .under, W .under) in
-    (sym e, only-one k u v c end (U .only) (rw e at (W .only)) (kids-one u v c end (U .kids ∙ sym (rw e at (W .kids))) (U .small) (rw e at (W .small))))

@@ -1,8 +1,7 @@
--- What `pass` promises determines its answer and every word of both tables that were lent.
+-- The words of runs are known from what they say: part of why the plan is determined.
 use mathlib.Core.Path.{_≡_, refl, sym, ap, _∙_}
-use mathlib.Core.Bool.{Bool}
 use mathlib.Core.List.{List, [], _∷_}
-use Prim.Native.Nat.{ℕ, zero, suc, _+_, _*_, _-_, _/_, _%_, _<_, _≤_}
+use Prim.Native.Nat.{ℕ, zero, suc, _+_, _-_, _/_, _%_, _<_, _≤_}
 use native.Mathlib.Omega.{arith}
 use lib.ListN.{length, getD}
 use lib.Dec.{eqb, ltb}
@@ -11,13 +10,10 @@ use Rattle.basis.specs.Lists.{upto}
 use Rattle.basis.specs.Members.{split}
 use Rattle.labels.specs.Runs.{Run}
 use Rattle.plan.specs.Like.{Each}
-use Rattle.plan.specs.Fields.{runIn, kidFirst, kidEnd, requirementIn, wordingIn, kidsIn, kidsFrom, runsFrom}
-use Rattle.planning.specs.Kids.{markedIn}
-use Rattle.planning.specs.Along.{Only, Nodes}
-use Rattle.planning.specs.RunsExact.{only-one, length-upto, kids-length, kids-one}
-use Rattle.planning.specs.Passed.{passed}
+use Rattle.plan.specs.Fields.{runIn, kidFirst, kidEnd, requirementIn, wordingIn, kidsIn, kidsFrom}
+use Rattle.planning.specs.Along.{Nodes}
+use Rattle.planning.specs.RunsExact.{kids-length, kids-one}
 use Rattle.planning.specs.Written.{RunFor, Tiled, tiled-under}
-use Rattle.planning.specs.Passing.{PassDone}
 
 pub each-length : {A B : Type 0} (Is : A → B → Type 0) (xs : List A) (ys : List B) → Each Is xs ys → length xs ≡ length ys
 each-length Is [] [] h = refl
@@ -99,21 +95,3 @@ unfolding runIn
 run-words p u rc rd h f i a b =
     let j : 256 + (i - 256) ≡ i = omega arith in
     rw (lt-ltb (i - 256) 1024 (omega arith), j) at (f (i - 256) (omega arith) (omega arith))
-
-pub pass-done-one : (g ms gr : List ℕ) (want : Bool) (qs : List Run) (p₁ k₁ : List ℕ) (rc₁ kc₁ : ℕ) (p k u v : List ℕ) (rc kc rd kd : ℕ) → rc₁ ≤ 1024
-    → PassDone g ms gr want qs p₁ k₁ rc₁ kc₁ p k rc kc → PassDone g ms gr want qs p₁ k₁ rc₁ kc₁ u v rd kd → (rc ≡ rd) × (kc ≡ kd) × (p ≡ u) × (k ≡ v)
-unfolding runsFrom
-pass-done-one g ms gr want qs p₁ k₁ rc₁ kc₁ p k u v rc kc rd kd h P Q =
-    let n : rc₁ - rc ≡ rc₁ - rd =
-    sym (length-upto (rc₁ - rc) rc) ∙ each-length (RunFor g ms gr p k kc) (upto (rc₁ - rc) rc) (passed (markedIn ms) want [] qs) (P .runs)
-    ∙ sym (each-length (RunFor g ms gr u v kd) (upto (rc₁ - rd) rd) (passed (markedIn ms) want [] qs) (Q .runs)) ∙ length-upto (rc₁ - rd) rd in
-    let e : rd ≡ rc = omega (arith, P .rc-down, Q .rc-down) in
-    let s : SameTiles p k u v (rc₁ - rc) rc kc kd kc₁ =
-    tiles-one g ms gr p k u v kc kd (rc₁ - rc) rc kc kd kc₁ (passed (markedIn ms) want [] qs) (P .runs) (rw e at (Q .runs)) (P .tiled) (rw e at (Q .tiled))
-    (P .small) (Q .small) in
-    let f : kd ≡ kc = sym (s .from) in (
-      sym e,
-      s .from,
-      only-one p₁ p u (256 + rc) (256 + rc₁) (P .only-p) (rw e at (Q .only-p)) (run-words p u rc rc₁ h (λ j a b. s .words j a (omega arith))),
-      only-one k₁ k v kc kc₁ (P .only-k) (rw f at (Q .only-k)) (s .places),
-    )

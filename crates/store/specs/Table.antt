@@ -21,11 +21,11 @@ use Rattle.store.specs.declared.Size.{Size}
 use Rattle.store.specs.declared.Put.{Put}
 use Rattle.store.specs.declared.Put.the-variants.{At, Full}
 use Rattle.store.specs.Direct.{Direct}
-use Rattle.store.specs.Graph.{Graph, handing, nodeAt, firstAt, isSolvable, isUnresolved, isConflict, isExcluded}
+use Rattle.store.specs.Graph.{Graph, handing, nodeAt, firstAt, isSolvable, isUnresolved, isExcluded}
 use Rattle.store.specs.Working.{AddedSoFar, addedTo, fullAt}
 use Rattle.store.specs.Words.{wordOf, nodeOf, firstClause, edgeWord, edgeOf, weightOf, byKind, requirementCode}
 use Rattle.store.specs.Words.{solvable-kind, unresolved-kind, requires-is, requires-none}
-use Rattle.store.specs.Words.{conflict-is, conflict-not, excluded-is, excluded-not}
+use Rattle.store.specs.Words.{excluded-is, excluded-not}
 use Rattle.store.specs.Numbers.{nodeNumber}
 
 -- the words of the first k nodes
@@ -228,14 +228,6 @@ module _ (g : List ℕ) (e w : ℕ) (q : w ≡ getD g e 0) where
   unfolding edgeIn
   requires-none-read h = rw (← q) (requires-none (w / 65536 % 256) (w / 16777216 % 65536) h)
 
-  pub conflict-not-read : w / 65536 % 256 ≡ 0 → false ≡ isConflict (edgeIn g e .weight)
-  unfolding edgeIn
-  conflict-not-read h = rw (← q) (conflict-not (w / 65536 % 256) (w / 16777216 % 65536) h)
-
-  pub conflict-read : (w / 65536 % 256 ≡ 0 → ⊥) → true ≡ isConflict (edgeIn g e .weight)
-  unfolding edgeIn
-  conflict-read h = rw (← q) (conflict-is (w / 65536 % 256) (w / 16777216 % 65536) h)
-
   pub excluded-read : 3 < w / 65536 % 256 → true ≡ isExcluded (edgeIn g e .weight)
   unfolding edgeIn
   excluded-read h = rw (← q) (excluded-is (w / 65536 % 256) (w / 16777216 % 65536) h)
@@ -282,8 +274,6 @@ pub ruleset reads = (
   target-read,
   requires-read,
   requires-none-read,
-  conflict-not-read,
-  conflict-read,
   excluded-read,
   excluded-not-read,
   node-read,

@@ -14,7 +14,7 @@ use Rattle.store.specs.declared.ConflictCause.the-variants as C
 use Rattle.store.specs.declared.ConflictEdge.{ConflictEdge}
 use Rattle.store.specs.declared.ConflictEdge.the-variants as W
 use Rattle.store.specs.declared.Edge.{Edge}
-use Rattle.store.specs.Graph.{sameNode, isSolvable, isUnresolved, isConflict, tryRequires, isExcluded}
+use Rattle.store.specs.Graph.{sameNode, isSolvable, isUnresolved, tryRequires, isExcluded}
 use Rattle.store.specs.Numbers.{nodeNumber}
 
 -- ---- nodes: kind + 4 number + 262144 clause, kinds in the order of `ConflictNode`
@@ -257,16 +257,6 @@ requires-none (suc zero) n d = refl
 requires-none (suc (suc zero)) n d = refl
 requires-none (suc (suc (suc zero))) n d = refl
 requires-none (suc (suc (suc (suc t)))) n d = refl
-
-pub conflict-not : (t n : ℕ) → t ≡ 0 → false ≡ isConflict (weightOf t n)
-conflict-not t n e = rw e
-
-pub conflict-is : (t n : ℕ) → (t ≡ 0 → ⊥) → true ≡ isConflict (weightOf t n)
-conflict-is zero n d = absurd (d refl)
-conflict-is (suc zero) n d = refl
-conflict-is (suc (suc zero)) n d = refl
-conflict-is (suc (suc (suc zero))) n d = refl
-conflict-is (suc (suc (suc (suc t)))) n d = refl
 
 pub excluded-is : (t n : ℕ) → 3 < t → true ≡ isExcluded (weightOf t n)
 excluded-is (suc (suc (suc (suc t)))) n h = refl

@@ -6,7 +6,7 @@ pub mod fan;
 ghost use mathlib.Core.Path.{_≡_};
 ghost use Prim.Native.Nat.{_+_, _*_, _-_, _<_, _≤_, _/_, _%_};
 ghost use lib.ListN.{length, replicate};
-ghost use Rattle.store.specs.Graph.{startGraph, renumber, settle, isConflict, isExcluded};
+ghost use Rattle.store.specs.Graph.{startGraph, renumber, settle, isExcluded};
 ghost use Rattle.store.specs.Graph.{isSolvable, isUnresolved};
 ghost use Rattle.store.specs.Working.{addNodeIn, addEdgeIn, addLinkIn};
 ghost use Rattle.store.specs.Words.{weightOf, byKind, requirementCode, EdgeWord, CauseWord, WeightWord, NodeWord};
@@ -149,14 +149,6 @@ pub fn requires_at(g: &GraphWords, e: usize) -> u64
     let t = w / 65536 % 256;
     let n = w / 16777216 % 65536;
     if t == 0 { n + 1 } else { 0 }
-}
-
-pub fn conflict_at(g: &GraphWords, e: usize) -> bool
-    ensures { λ r. ⌜ r ≡ isConflict (edgeIn (now (g .entry)) e .weight) ⌝ }
-{
-    let w = basis::get64(g, e);
-    let t = w / 65536 % 256;
-    if t == 0 { false } else { true }
 }
 
 pub fn excluded_at(g: &GraphWords, e: usize) -> bool

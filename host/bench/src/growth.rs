@@ -19,7 +19,7 @@ fn series() -> [Series; 3] {
     ]
 }
 
-const ROOMS: [usize; 5] = [1 << 16, 1 << 18, 1 << 20, 1 << 22, 1 << 24];
+const ROOMS: [usize; 6] = [1 << 16, 1 << 18, 1 << 20, 1 << 22, 1 << 24, 1 << 26];
 
 /// A size and the time that it takes.
 type Point = (f64, f64);

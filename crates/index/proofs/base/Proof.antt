@@ -11,7 +11,7 @@ unfolding baseOf tableNoOf shapeOf
 base-spec =
     tie.close
     (tie.spec
-    (λ c. (search (needs, base-clause), search needs)) (λ c. (search (needs, base-high), search needs))
+    (λ c. (search (needs, base-at), search needs)) (λ c. (search (needs, base-clause), search needs)) (λ c. (search (needs, base-high), search needs))
     (λ c. (search (needs, base-at), search needs))
     (λ c. (search (needs, base-at), search needs))
     (λ c. (search (needs, base-at), search needs))
