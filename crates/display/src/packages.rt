@@ -1,4 +1,4 @@
-// A package's text (document 01, "Display texts"), written; `sizes` measures it.
+// A package's text (document 01, "Display texts"), written; `package_sizes` measures it.
 
 use index::Slots;
 use store::Scratch;

@@ -1,4 +1,4 @@
--- The merge marks from each node's first member, in one pass: a node whose first member is another marks and-true (`simplify`: `m.len() > 1`).
+-- The merge marks from each node's first member, in one pass: a node whose first member is another marks both (`simplify`: `m.len() > 1`).
 use mathlib.Core.Path.{_≡_, refl, sym, ap, _∙_}
 use mathlib.Core.Logic.{_⊎_, inl, inr}
 use mathlib.Core.Bool.{Bool, true, false, cond, false≢true}

@@ -1,4 +1,4 @@
--- What document 01 asks of the labels: "no node has and-true labels; where the graph has no cycle, 'already' may be dropped from and-true rules".
+-- What document 01 asks of the labels: "no node has both labels; where the graph has no cycle, 'already' may be dropped from both rules".
 use mathlib.Core.Path.{_≡_, refl, sym, ap, _∙_, subst}
 use mathlib.Core.Logic.{_⊎_, inl, inr}
 use mathlib.Core.Bool.{Bool, true, false, cond, _&&_, _||_, not, false≢true}
@@ -138,10 +138,10 @@ module _ (G : Graph) (n : ℕ) where
   unfolding isLacking
   lacking-local p q h = rw (some-same p q (out G n) (λ t i. h t (in-targets t i)))
 
--- ---- no node has and-true labels
+-- ---- no node has both labels
 
 module _ (G : Graph) where
-  -- each node of I is resolved and has a node of I in every run; each of M is unresolved or has a run inside M; no node is in and-true
+  -- each node of I is resolved and has a node of I in every run; each of M is unresolved or has a run inside M; no node is in both
   record Apart (I M : List ℕ) : Type 0 where
     upright : (n : ℕ) → has n I ≡ true → (isUnresolved (nodeAt G n) ≡ false) × (everyRun (λ t. has t I) (runsOf (out G n)) ≡ true)
     hanging : (n : ℕ) → has n M ≡ true → (isUnresolved (nodeAt G n) ≡ true) ⊎ (someRun (λ t. has t M) (runsOf (out G n)) ≡ true)
@@ -203,7 +203,7 @@ module _ (G : Graph) where
       (λ f. rw (e, f, passing) (along ns I (n ∷ M) (one-less I M a n f)))
       (λ f. rw (e, f, passing) (along ns I M a)))
 
-  -- "no node has and-true labels"
+  -- "no node has both labels"
   pub not-both : (n : ℕ) → installable G n ≡ true → missing G n ≡ true → ⊥
   unfolding installables missings
   not-both n i m =
