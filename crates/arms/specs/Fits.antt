@@ -3,15 +3,14 @@
 use mathlib.Core.Path.{_≡_, refl, sym, ap, _∙_}
 use mathlib.Core.Bool.{Bool, true, false, cond}
 use mathlib.Core.List.{List}
-use Prim.Native.Nat.{ℕ, _+_, _/_, _<_}
-use lib.ListN.{length}
+use Prim.Native.Nat.{ℕ, _%_, _≤_}
+use lib.ListN.{length, replicate}
 use lib.Dec.{leb, ltb, eqb}
 use Rattle.basis.specs.Guard.{guard}
 use Rattle.basis.specs.Members.{clash}
 use Rattle.records.specs.declared.Allowed.{Allowed}
 use Rattle.records.specs.declared.Allowed.the-variants as A
 use Rattle.records.specs.declared.ReadAnswer.{ReadAnswer}
-use Rattle.records.specs.declared.ReadAnswer.the-variants.{Accepted, Refused}
 use Rattle.records.specs.declared.Counts.{Counts}
 use Rattle.records.specs.declared.First.the-variants as F
 use Rattle.records.specs.declared.Found.{Found}
@@ -23,12 +22,13 @@ use Rattle.records.specs.declared.CountStep.{CountStep}
 use Rattle.records.specs.declared.CountStep.the-variants.{Next, No}
 use Rattle.records.specs.declared.Table.{Table}
 use Rattle.records.specs.declared.Table.the-variants.{Names, Solvables, VersionSets, Requirements, Candidates, Reasons, Variables, Assigned, Clauses}
-use Rattle.records.specs.Shapes.{Rec, shapeOf, recordsOf}
-use Rattle.records.specs.Tables.{at}
+use Rattle.records.specs.Shapes.{Rec, shapeOf}
 use Rattle.records.specs.Text.{textPass, firstPass}
 use Rattle.records.specs.Pass.{foundAt, countPass, limitPass, isNext, isBefore, hasRoom, fieldPass, namedZero, shapePass, namedPass, freePass, numberPass}
-use Rattle.records.specs.Pass.{numbersPass, allowsPass, markOrigin, originPass, originsPass, admitPass, checkAt, checkPass, moreOf, noted, turnPass, marksPass}
-use Rattle.records.specs.Pass.{leftPass, turn-on, marks-on, left-next}
+use Rattle.records.specs.Pass.{numbersPass, allowsPass, markOrigin, originPass, originsPass, admitPass, checkAt, checkPass}
+use Rattle.records.specs.Pass.{leftPass, noCounts, left-start}
+use Rattle.records.specs.Read.{readOf, answerOf}
+use Rattle.records.specs.Agree.{read-run}
 
 -- ---- what the arms ask
 
@@ -127,11 +127,6 @@ saidBy f t = cond f (Next t) (No 0)
 -- a step that goes on is the check's
 unfoldable pub Sure : Counts → List ℕ → Rec → CountStep → Type 0
 Sure c m r s = (t : Table) → s ≡ Next t → s ≡ checkPass c m r
-
--- a turn by an arm: where it goes on, with the counts and the marks of the check; where it does not, with the marks as they were
-unfoldable pub SureTurn : Counts → List ℕ → Rec → ℕ → ReadAnswer → List ℕ → Type 0
-SureTurn c m r i s u =
-    ((d : Counts) → s ≡ Accepted d → (s ≡ turnPass c m r i) × (u ≡ marksPass c m r)) × ((k p : ℕ) → s ≡ Refused k p → u ≡ m)
 
 -- ---- ways out of the code
 
@@ -381,25 +376,8 @@ module _ (c : Counts) (m : List ℕ) (r : Rec) where
     unfolding foundAt shapeOf
     sure-any e p h w = by-arm k 25 _ f q e w refl p (λ y. pair-fits A.Any A.Any (sym h ∙ y))
 
--- ---- a turn by an arm
+-- ---- the whole file by the check
 
-module _ (c : Counts) (m : List ℕ) (r : Rec) (i : ℕ) (q : CountStep) where
-  pub sure-no : (k : ℕ) → q ≡ No k → SureTurn c m r i (Refused 0 0) m
-  unfolding SureTurn
-  sure-no k e = (λ d y. clash cc, λ l p y. refl)
-
-  pub sure-on : (t : Table) (d : Counts) (u : List ℕ) → Sure c m r q → q ≡ Next t → u ≡ noted t r m → d ≡ moreOf t c → SureTurn c m r i (Accepted d) u
-  unfolding SureTurn
-  sure-on t d u h e v w =
-      let z : q ≡ checkPass c m r = sure-step c m r q t h e in
-      (λ f y. (turn-on c m r q z i t d e w, marks-on c m r q z t u e v), λ l p y. clash cc)
-
-module _ (file : List ℕ) (i : ℕ) (c : Counts) (m u : List ℕ) (w s : ReadAnswer) (inv : leftPass file i c m
-    ≡ w) (h : SureTurn c m (at (recordsOf file) i) i s u) where
-  pub quick-next : (d : Counts) → s ≡ Accepted d → i < length file / 32 → leftPass file (i + 1) d u ≡ w
-  unfolding SureTurn
-  quick-next d e l = let z = h .0 d e in left-next file i c m w inv s l (z .0) d u e (z .1)
-
-  pub quick-stop : (k p : ℕ) (a : ReadAnswer) → s ≡ Refused k p → a ≡ leftPass file i c u → a ≡ w
-  unfolding SureTurn
-  quick-stop k p a e z = z ∙ ap (leftPass file i c) (h .1 k p e) ∙ inv
+pub read-left : (file : List ℕ) (x : ReadAnswer) → length file ≤ 65536 → length file % 32 ≡ 0 → x ≡ leftPass file 0 noCounts (replicate 1024 0)
+    → x ≡ answerOf (readOf file)
+read-left file x h l q = read-run file x h l (q ∙ left-start file noCounts (replicate 1024 0))

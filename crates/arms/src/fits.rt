@@ -3,19 +3,16 @@ use basis::wide16;
 use records::Allowed;
 use records::CountStep;
 use records::Counts;
-use records::ReadAnswer;
 use records::Table;
 use records::check::mark_origin;
 use records::fields::a_at;
 use records::fields::b_at;
 use records::fields::c_at;
 use records::fields::kind_at;
-use records::kinds::more;
 use records::origins::allowed;
 use records::origins::is_free;
 use records::origins::named_good;
 use records::origins::named_zero;
-use records::pass::note;
 use records::text::flagged;
 use records::text::text_good;
 use records::text::unmarked;
@@ -24,7 +21,7 @@ ghost use Prim.Native.Nat.{_<_};
 ghost use Rattle.records.specs.Shapes.{recordsOf};
 ghost use Rattle.records.specs.Tables.{at};
 ghost use Rattle.arms.specs.Fits.{textedFits, namedFits, candidateFits, standsFits, variableFits, originFits, refersFits, aloneFits, partiesFit};
-ghost use Rattle.arms.specs.Fits.{pairFits, boundedFits, assignedFits, saidBy, Sure, SureTurn};
+ghost use Rattle.arms.specs.Fits.{pairFits, boundedFits, assignedFits, saidBy, Sure};
 
 // Fields a, b and c as indices.
 fn wide_a(file: &[u8], i: usize) -> usize
@@ -263,8 +260,8 @@ fn said(f: bool, t: Table) -> CountStep
     CountStep::No(0)
 }
 
-// Record i by the arm of its kind.
-fn quick(file: &[u8], i: usize, c: Counts, m: &[u16]) -> CountStep
+// Record i by the arm of its kind: the table that it goes into; 0 where the arm says no.
+pub fn quick(file: &[u8], i: usize, c: Counts, m: &[u16]) -> CountStep
     ensures { λ r. ⌜ Sure c (now (m .entry)) (at (recordsOf (now (file .entry))) i) r ⌝ }
 {
     let kind = kind_at(file, i);
@@ -396,22 +393,5 @@ fn quick(file: &[u8], i: usize, c: Counts, m: &[u16]) -> CountStep
             said(f, Table::Clauses)
         }
         _ => CountStep::No(0),
-    }
-}
-
-// Record i by the arm of its kind: the counts after it, with its mark noted; a refusal of number 0, and no mark, where the arm says no.
-pub fn quick_turn(file: &[u8], i: usize, c: Counts, m: &mut [u16]) -> ReadAnswer
-    ensures { λ r. ⌜ SureTurn c (now (m .entry)) (at (recordsOf (now (file .entry))) i) i r (now (m .exit)) ⌝ }
-{
-    let s = quick(file, i, c, m);
-    match s {
-        CountStep::No(_) => ReadAnswer::Refused {
-            number: 0,
-            place: 0,
-        },
-        CountStep::Next(t) => {
-            note(file, i, t, m);
-            ReadAnswer::Accepted(more(t, c))
-        }
     }
 }

@@ -1,18 +1,16 @@
-// The record file as a whole: it is read without writing, and the answer is the size of each table or a refusal from 1 to 6. A good record
-// goes by the arm of its kind (`fits`), which asks all at once; from the first that an arm does not take, by the check that says why.
+// The record file as a whole, with the check that says why a record is refused: it is read without writing, and the answer is the size
+// of each table or a refusal from 1 to 6. A good record goes by the arm of its kind (`fits`), which asks all at once.
 
-mod fits;
+pub mod fits;
 
-use fits::quick_turn;
 use records::Counts;
 use records::ReadAnswer;
 use records::pass::turn;
 ghost use mathlib.Core.Path.{_≡_};
-ghost use Rattle.records.specs.Shapes.{recordsOf};
 ghost use Rattle.records.specs.Read.{readOf, answerOf};
-ghost use Rattle.records.specs.Pass.{passFrom, leftPass, noCounts};
+ghost use Rattle.records.specs.Pass.{leftPass};
 
-// The records from i on, with the counts and marks of those before, by the check that says why a record is refused.
+// The records from i on, with the counts and marks of those before.
 fn rest(file: &[u8], m: &mut [u16], i: usize, c: Counts) -> ReadAnswer
     ensures { λ r. ⌜ r ≡ leftPass (now (file .entry)) i c (now (m .entry)) ⌝ }
 {
@@ -28,34 +26,6 @@ fn rest(file: &[u8], m: &mut [u16], i: usize, c: Counts) -> ReadAnswer
         j += 1;
     }
     ReadAnswer::Accepted(d)
-}
-
-// All records in their order, with a mark of 0 for each variable at first: by the arms of their kinds until one says no.
-fn run(file: &[u8], m: &mut [u16]) -> ReadAnswer
-    ensures { λ r. ⌜ r ≡ passFrom (recordsOf (now (file .entry))) 0 noCounts (now (m .entry)) ⌝ }
-{
-    let n = file.len() / 32;
-    let mut c = Counts {
-        names: 0,
-        solvables: 0,
-        sets: 0,
-        requirements: 0,
-        candidates: 0,
-        reasons: 0,
-        variables: 0,
-        assigned: 0,
-        clauses: 0,
-    };
-    let mut i = 0;
-    while i < n {
-        let s = quick_turn(file, i, c, m);
-        let ReadAnswer::Accepted(d) = s else {
-            return rest(file, m, i, c);
-        };
-        c = d;
-        i += 1;
-    }
-    ReadAnswer::Accepted(c)
 }
 
 // Reads a file of records: how many each table has, or the first refusal (1 to 6) with its place.
@@ -76,5 +46,16 @@ pub fn read(file: &[u8]) -> ReadAnswer
         };
     }
     let mut marks = [0u16; 1024];
-    run(file, &mut marks)
+    let c = Counts {
+        names: 0,
+        solvables: 0,
+        sets: 0,
+        requirements: 0,
+        candidates: 0,
+        reasons: 0,
+        variables: 0,
+        assigned: 0,
+        clauses: 0,
+    };
+    rest(file, &mut marks, 0, c)
 }

@@ -44,7 +44,7 @@ pub fn check_in(
     requires { ⌜ now ls ≡ replicate 3456 0 ⌝ }
     ensures { λ r. ⌜ r ≡ checkOf (now (file .entry)) ⌝ }
 {
-    let m = graph::of_file(file, ix, g, tr, ls);
+    let m = graph::check_file(file, ix, g, tr, ls);
     match m {
         Made::Refused(k, p) => refusal(k, p),
         Made::Whole(_) => refusal(0, 0),

@@ -57,7 +57,7 @@ pub fn edges_in(
     ensures { λ r. ⌜ r ≡ edgesAnswer (now (file .entry)) (length (now (list .entry))) ⌝ }
     ensures { λ _. ⌜ now (list .exit) ≡ edgesLeft (now (file .entry)) (now (list .entry)) ⌝ }
 {
-    let m = graph::of_file(file, ix, g, tr, ls);
+    let m = graph::check_file(file, ix, g, tr, ls);
     match m {
         Made::Refused(k, p) => refusal(k, p),
         Made::Whole(s) => edges_whole(g, s, list),

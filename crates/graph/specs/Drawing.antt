@@ -1,6 +1,6 @@
 -- Building over the tables: one clause, all clauses, the end. Each law is one way out of a function.
 use mathlib.Core.Path.{_≡_, refl, sym, ap, _∙_}
-use mathlib.Core.Bool.{Bool, true, false}
+use mathlib.Core.Bool.{Bool, true, false, false≢true}
 use mathlib.Core.List.{List, [], _∷_}
 use mathlib.Core.Option.{Option, none, some}
 use Prim.Native.Nat.{ℕ, zero, suc, _+_, _-_, _<_, _≤_}
@@ -20,6 +20,7 @@ use Rattle.store.specs.Graph.{Graph, startGraph, settle, unreached}
 use Rattle.store.specs.Table.{graphIn, Stored, Growing, taken, taken-growing, taken-graph}
 use Rattle.links.specs.Build.{Chains}
 use Rattle.links.specs.Queue.{lowestOf}
+use Rattle.links.specs.Sweep.{sweptIn, swept-whole}
 use Rattle.expansion.specs.Hashed.{Triples, madeIn, triples-none, made-none, clear-fresh, Clear}
 use Rattle.expansion.specs.declared.Work.{Work}
 use Rattle.expansion.specs.declared.Progress.{Progress}
@@ -200,12 +201,12 @@ abbrev pub Chained : List ℕ → List ℕ → Drawing → Type 0
 Chained g w (D.Whole s) = Chains g s w
 Chained g w (D.Refused q i s) = Unit {0}
 
--- outcome X and graph G are what table g and answer r hold; a drawn graph is chained in w
-pub record Drew (X : Outcome) (G : Graph) (g w : List ℕ) (r : Drawing) : Type 0 where
+-- outcome X and graph G are what table g and answer r hold; where b asks for chains, a drawn graph is chained in w
+pub record Drew (b : Bool) (X : Outcome) (G : Graph) (g w : List ℕ) (r : Drawing) : Type 0 where
   pub is : drawingIn g r ≡ X
   pub holds : graphIn g (drawingSize r) ≡ G
   pub stored : Stored g (drawingSize r)
-  pub chained : Chained g w r
+  pub chained : b ≡ true → Chained g w r
 
 none-low : (o : Option ℕ) (u : ℕ) → u ≡ lowestOf o → u ≡ 0 → o ≡ none
 none-low none u q e = refl
@@ -215,22 +216,31 @@ some-low : (o : Option ℕ) (u : ℕ) → u ≡ lowestOf o → (u ≡ 0 → ⊥)
 some-low none u q e = absurd (e q)
 some-low (some n) u q e = let z : n ≡ u - 1 = omega arith in ap some z
 
--- t is what `settle` left in h, u what looking for a node that is not reached gave
-module _ (g h w : List ℕ) (s t : Size) (u : ℕ) (C : Chains h t w) (e : graphIn h t ≡ settle (graphIn g s)) (q : u ≡ lowestOf (unreached (graphIn h t))) where
-  pub end-drawn : u ≡ 0 → Drew (reachedAll (settle (graphIn g s))) (settle (graphIn g s)) h w (D.Whole t)
+-- u is what looking for a node that is not reached gave
+module _ (g w : List ℕ) (t : Size) (u : ℕ) (C : Chains g t w) (q : u ≡ lowestOf (unreached (graphIn g t))) where
+  pub end-drawn : u ≡ 0 → Drew true (reachedAll (graphIn g t)) (graphIn g t) g w (D.Whole t)
   unfolding reachedAll
-  end-drawn z =
-      let y : unreached (settle (graphIn g s)) ≡ none = ap unreached (sym e) ∙ none-low (unreached (graphIn h t)) u q z in
-      record { is = rw (y, reachedAll) (ap drawn e); holds = e; stored = C .stored; chained = C }
+  end-drawn z = record { is = rw (none-low (unreached (graphIn g t)) u q z, reachedAll); holds = refl; stored = C .stored; chained = λ _. C }
 
   -- p is the node's number, wider
-  pub end-unreached : (p : ℕ) → (u ≡ 0 → ⊥) → p ≡ u - 1 → Drew (reachedAll (settle (graphIn g s))) (settle (graphIn g s)) h w (D.Refused 9 p t)
+  pub end-unreached : (p : ℕ) → (u ≡ 0 → ⊥) → p ≡ u - 1 → Drew true (reachedAll (graphIn g t)) (graphIn g t) g w (D.Refused 9 p t)
   unfolding reachedAll
   end-unreached p z f =
-      let y : unreached (settle (graphIn g s)) ≡ some (u - 1) = ap unreached (sym e) ∙ some-low (unreached (graphIn h t)) u q z in
-      record { is = rw (y, reachedAll, f); holds = e; stored = C .stored; chained = tt }
+      record { is = rw (some-low (unreached (graphIn g t)) u q z, reachedAll, f); holds = refl; stored = C .stored; chained = λ _. tt }
 
-pub ruleset ends = (end-drawn, end-unreached)
+-- t is what `settle` left in h
+module _ (b : Bool) (g h w : List ℕ) (s t : Size) (e : graphIn h t ≡ settle (graphIn g s)) where
+  pub end-settled : (d : Drawing) → Drew true (reachedAll (graphIn h t)) (graphIn h t) h w d
+      → Drew b (reachedAll (settle (graphIn g s))) (settle (graphIn g s)) h w d
+  end-settled d F = rw (← e) (record { is = F .is; holds = F .holds; stored = F .stored; chained = λ _. F .chained refl })
+
+  -- without chains: r is what one pass over the edges gave
+  pub end-swept : (r : Bool) → r ≡ true → r ≡ sweptIn h t → Stored h t → b ≡ false
+      → Drew b (reachedAll (settle (graphIn g s))) (settle (graphIn g s)) h w (D.Whole t)
+  unfolding reachedAll
+  end-swept r y q S n =
+      let z : unreached (settle (graphIn g s)) ≡ none = ap unreached (sym e) ∙ swept-whole h t S (sym q ∙ y) in
+      record { is = rw (z, reachedAll) (ap drawn e); holds = e; stored = S; chained = λ c. absurd (false≢true (sym n ∙ c)) }
 
 -- ---- the whole
 
@@ -252,18 +262,18 @@ module _ (T : Tables) (n : ℕ) (g tr w h us m : List ℕ) (s : Size) (r : Core)
       R .is ∙ ap (λ (x : ℕ). buildFromIn x T 0 (buildIn g tr w (record { size = s; triples = 0 }))) a
       ∙ ap (buildFromIn (length (T .clauses)) T 0) (start-build g tr w s q e)
 
-  pub build-refused : (k i : ℕ) (z : Size) → r ≡ O.Refused k i z → Drew (graphOf T) (leftOf T) h m (D.Refused k i z)
+  pub build-refused : (b : Bool) (k i : ℕ) (z : Size) → r ≡ O.Refused k i z → Drew b (graphOf T) (leftOf T) h m (D.Refused k i z)
   unfolding graphOf leftOf
-  build-refused k i z f =
+  build-refused b k i z f =
       let y : buildOfIn T ≡ stoppedAt k i (graphIn h z) = sym whole ∙ ap (coreIn h us m) f in
       let P : Growing h z = rw f at (R .holds) in
       let x : buildOf T ≡ stopped k i = sym (forget-build T) ∙ ap forgetBuilt y in
-      record { is = rw (x, graphOf); holds = rw (y, leftOf); stored = P .stored; chained = tt }
+      record { is = rw (x, graphOf); holds = rw (y, leftOf); stored = P .stored; chained = λ _. tt }
 
-  pub build-whole : (k : Work) (j v : List ℕ) (d : Drawing) → r ≡ O.Whole k
-      → Drew (reachedAll (settle (graphIn h (k .size)))) (settle (graphIn h (k .size))) j v d → Drew (graphOf T) (leftOf T) j v d
+  pub build-whole : (b : Bool) (k : Work) (j v : List ℕ) (d : Drawing) → r ≡ O.Whole k
+      → Drew b (reachedAll (settle (graphIn h (k .size)))) (settle (graphIn h (k .size))) j v d → Drew b (graphOf T) (leftOf T) j v d
   unfolding graphOf leftOf
-  build-whole k j v d f F =
+  build-whole b k j v d f F =
       let y : buildOfIn T ≡ builtTo (buildIn h us m k) = sym whole ∙ ap (coreIn h us m) f in
       let x : buildOf T ≡ built (buildIn h us m k) = sym (forget-build T) ∙ ap forgetBuilt y in
       record { is = F .is ∙ rw (x, graphOf); holds = F .holds ∙ rw (y, leftOf); stored = F .stored; chained = F .chained }

@@ -1,17 +1,19 @@
 // The conflict graph of a loaded file (conflict.rs: `Conflict::graph`): its core's clauses in file order, then the removal of
-// `unresolved`, the chains and reachability; refusals 7, 8 and 9.
+// `unresolved`, the chains and reachability; refusals 7, 8 and 9. Who goes along no chains gets the graph without them.
 ghost use mathlib.Core.Path.{_≡_};
+ghost use mathlib.Core.Bool.{true};
 ghost use Prim.Native.Nat.{_<_, _≤_};
 ghost use lib.ListN.{length, replicate};
 ghost use Rattle.records.specs.Read.{tablesOf};
 ghost use Rattle.index.specs.Index.{Loaded, Blank};
 ghost use Rattle.store.specs.Graph.{settle};
-ghost use Rattle.store.specs.Table.{graphIn, Growing};
+ghost use Rattle.store.specs.Table.{graphIn, Stored, Growing};
 ghost use Rattle.expansion.specs.State.{buildIn, Holds};
 ghost use Rattle.graph.specs.Graphs.{isLearnt, reachedAll, graphOf};
 ghost use Rattle.graph.specs.Working.{coreTurnIn, turnAtIn, buildFromIn, leftOf};
 ghost use Rattle.graph.specs.Drawing.{handWork, Turns, Builds, Drew};
 ghost use Rattle.graph.specs.Files.{Makes, madeOf};
+ghost use Rattle.graph.specs.Checked.{Checks, MakesFor};
 use expansion::Progress;
 use expansion::Work;
 use index::Slots;
@@ -231,13 +233,12 @@ fn build_core(
     Core::Whole(m)
 }
 
-// Unresolved may go, then the chains, then 9.
-fn finish(g: &mut GraphWords, ls: &mut ChainWords, s: Size) -> Drawing
-    requires { ⌜ Growing (now g) s ⌝ }
+// The chains, then 9.
+fn by_chains(g: &GraphWords, ls: &mut ChainWords, t: Size) -> Drawing
+    requires { ⌜ Stored (now g) t ⌝ }
     requires { ⌜ length (now ls) ≡ 3456 ⌝ }
-    ensures { λ r. ⌜ Drew (reachedAll (settle (graphIn (now (g .entry)) s))) (settle (graphIn (now (g .entry)) s)) (now (g .exit)) (now (ls .exit)) r ⌝ }
+    ensures { λ r. ⌜ Drew true (reachedAll (graphIn (now (g .entry)) t)) (graphIn (now (g .entry)) t) (now (g .entry)) (now (ls .exit)) r ⌝ }
 {
-    let t = store::settle(g, s);
     links::chain(g, t, ls);
     let u = links::reach::lowest_unreached(g, t, ls);
     if u == 0 {
@@ -247,7 +248,23 @@ fn finish(g: &mut GraphWords, ls: &mut ChainWords, s: Size) -> Drawing
     Drawing::Refused(9, p, t)
 }
 
-// The graph of a file with n clauses. The tables come as fresh arrays; ls holds the chains of a graph that is drawn.
+// Unresolved may go, then 9. Where no chains are asked for, one pass over the edges does, or they are made for 9 alone.
+fn finish(g: &mut GraphWords, ls: &mut ChainWords, s: Size, chains: bool) -> Drawing
+    requires { ⌜ Growing (now g) s ⌝ }
+    requires { ⌜ length (now ls) ≡ 3456 ⌝ }
+    ensures { λ r. ⌜ Drew chains (reachedAll (settle (graphIn (now (g .entry)) s))) (settle (graphIn (now (g .entry)) s)) (now (g .exit)) (now (ls .exit)) r ⌝ }
+{
+    let t = store::settle(g, s);
+    if chains {
+        return by_chains(g, ls, t);
+    }
+    if links::reach::swept(g, t) {
+        return Drawing::Whole(t);
+    }
+    by_chains(g, ls, t)
+}
+
+// The graph of a file with n clauses. The tables come as fresh arrays; ls holds the chains of a graph that is drawn, where they are asked for.
 fn build(
     file: &[u8],
     ix: &Slots,
@@ -255,13 +272,14 @@ fn build(
     g: &mut GraphWords,
     tr: &mut Scratch,
     ls: &mut ChainWords,
+    chains: bool,
 ) -> Drawing
     requires { ⌜ Loaded (now file) (now ix) ⌝ }
     requires { ⌜ n ≡ length (tablesOf (now file) .clauses) ⌝ }
     requires { ⌜ now g ≡ replicate 1152 0 ⌝ }
     requires { ⌜ length (now tr) ≡ 1280 ⌝ }
     requires { ⌜ now ls ≡ replicate 3456 0 ⌝ }
-    ensures { λ r. ⌜ Drew (graphOf (tablesOf (now (file .entry)))) (leftOf (tablesOf (now (file .entry)))) (now (g .exit)) (now (ls .exit)) r ⌝ }
+    ensures { λ r. ⌜ Drew chains (graphOf (tablesOf (now (file .entry)))) (leftOf (tablesOf (now (file .entry)))) (now (g .exit)) (now (ls .exit)) r ⌝ }
 {
     let s = store::start(g);
     let k = Work {
@@ -273,7 +291,7 @@ fn build(
         Core::Refused(q, i, z) => Drawing::Refused(q, i, z),
         Core::Whole(m) => {
             let z = m.size;
-            finish(g, ls, z)
+            finish(g, ls, z, chains)
         }
     }
 }
@@ -287,7 +305,33 @@ fn made_of(d: Drawing) -> Made
     }
 }
 
-// From bytes to the graph: every call begins here. The tables come as fresh arrays; on a refusal they are of no use.
+// What a file makes, with the chains where they are asked for.
+fn make(
+    file: &[u8],
+    ix: &mut Slots,
+    g: &mut GraphWords,
+    tr: &mut Scratch,
+    ls: &mut ChainWords,
+    chains: bool,
+) -> Made
+    requires { ⌜ Blank (now ix) ⌝ }
+    requires { ⌜ now g ≡ replicate 1152 0 ⌝ }
+    requires { ⌜ length (now tr) ≡ 1280 ⌝ }
+    requires { ⌜ now ls ≡ replicate 3456 0 ⌝ }
+    ensures { λ r. ⌜ MakesFor chains (now (file .entry)) (now (ix .exit)) (now (g .exit)) (now (ls .exit)) r ⌝ }
+{
+    let a = index::load(file, ix);
+    match a {
+        records::ReadAnswer::Refused { number, place } => Made::Refused(number, place),
+        records::ReadAnswer::Accepted(c) => {
+            let n = c.clauses;
+            let d = build(file, ix, n, g, tr, ls, chains);
+            made_of(d)
+        }
+    }
+}
+
+// From bytes to the graph: every call begins here, or at `check_file`. The tables come as fresh arrays; on a refusal they are of no use.
 pub fn of_file(
     file: &[u8],
     ix: &mut Slots,
@@ -301,13 +345,22 @@ pub fn of_file(
     requires { ⌜ now ls ≡ replicate 3456 0 ⌝ }
     ensures { λ r. ⌜ Makes (now (file .entry)) (now (ix .exit)) (now (g .exit)) (now (ls .exit)) r ⌝ }
 {
-    let a = index::load(file, ix);
-    match a {
-        records::ReadAnswer::Refused { number, place } => Made::Refused(number, place),
-        records::ReadAnswer::Accepted(c) => {
-            let n = c.clauses;
-            let d = build(file, ix, n, g, tr, ls);
-            made_of(d)
-        }
-    }
+    make(file, ix, g, tr, ls, true)
+}
+
+// The same for a caller that goes along no chains: of the tables only the graph's is of use after it.
+pub fn check_file(
+    file: &[u8],
+    ix: &mut Slots,
+    g: &mut GraphWords,
+    tr: &mut Scratch,
+    ls: &mut ChainWords,
+) -> Made
+    requires { ⌜ Blank (now ix) ⌝ }
+    requires { ⌜ now g ≡ replicate 1152 0 ⌝ }
+    requires { ⌜ length (now tr) ≡ 1280 ⌝ }
+    requires { ⌜ now ls ≡ replicate 3456 0 ⌝ }
+    ensures { λ r. ⌜ Checks (now (file .entry)) (now (g .exit)) r ⌝ }
+{
+    make(file, ix, g, tr, ls, false)
 }

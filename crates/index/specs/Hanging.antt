@@ -55,11 +55,11 @@ module _ (L : Layout) (F : Fits L) (ix : List ℕ) (wide : length ix ≡ L .size
 
 -- ---- the items from j on are in
 
-record From (L : Layout) (key : ℕ → ℕ) (m j : ℕ) (ix : List ℕ) : Type 0 where
-  head : (n : ℕ) → n < L .keys → getD ix (L .heads + n) 0 ≡ oldest key j m n
-  link : (k : ℕ) → k < L .items → getD ix (L .links + k) 0 ≡ cond (leb j k) (linkOf key (L .keys) m k) 0
+pub record From (L : Layout) (key : ℕ → ℕ) (m j : ℕ) (ix : List ℕ) : Type 0 where
+  pub head : (n : ℕ) → n < L .keys → getD ix (L .heads + n) 0 ≡ oldest key j m n
+  pub link : (k : ℕ) → k < L .items → getD ix (L .links + k) 0 ≡ cond (leb j k) (linkOf key (L .keys) m k) 0
 
-from-none : (L : Layout) (key : ℕ → ℕ) (m : ℕ) (ix : List ℕ) → ((n : ℕ) → n < L .keys → getD ix (L .heads + n) 0 ≡ 0)
+pub from-none : (L : Layout) (key : ℕ → ℕ) (m : ℕ) (ix : List ℕ) → ((n : ℕ) → n < L .keys → getD ix (L .heads + n) 0 ≡ 0)
     → ((k : ℕ) → k < L .items → getD ix (L .links + k) 0 ≡ 0) → From L key m m ix
 unfolding linkOf
 from-none L key m ix h l = record { head = λ n k. h n k ∙ sym (oldest-past key m m n (omega arith)); link = λ k s. l k s ∙ sym (none k) }
@@ -70,7 +70,7 @@ from-none L key m ix h l = record { head = λ n k. h n k ∙ sym (oldest-past ke
         (λ q. rw q (split (ltb (key k) (L .keys)) (λ t. rw t (oldest-past key (suc k) m (key k) (omega (arith, leb-true m k q)))) (λ t. rw t)))
         (λ q. rw q)
 
-from-all : (L : Layout) (key : ℕ → ℕ) (m : ℕ) (ix : List ℕ) → From L key m 0 ix → Hangs L key m ix
+pub from-all : (L : Layout) (key : ℕ → ℕ) (m : ℕ) (ix : List ℕ) → From L key m 0 ix → Hangs L key m ix
 from-all L key m ix f = record { head = f .head; link = λ k h. f .link k h ∙ rw (le-leb 0 k (omega arith)) }
 
 module _ (L : Layout) (F : Fits L) (key : ℕ → ℕ) (m i : ℕ) (ix : List ℕ) (wide : length ix ≡ L .size) (im : i < m) (mm : m
@@ -124,10 +124,10 @@ module _ (L : Layout) (F : Fits L) (key : ℕ → ℕ) (m i : ℕ) (ix : List �
 -- ---- what a phase leaves alone
 
 -- the slots below lo and from hi on are as they were
-record Within (lo hi : ℕ) (ix iy : List ℕ) : Type 0 where
-  long : length iy ≡ length ix
-  low : (a : ℕ) → a < lo → getD iy a 0 ≡ getD ix a 0
-  high : (a : ℕ) → hi ≤ a → getD iy a 0 ≡ getD ix a 0
+pub record Within (lo hi : ℕ) (ix iy : List ℕ) : Type 0 where
+  pub long : length iy ≡ length ix
+  pub low : (a : ℕ) → a < lo → getD iy a 0 ≡ getD ix a 0
+  pub high : (a : ℕ) → hi ≤ a → getD iy a 0 ≡ getD ix a 0
 
 within-none : (lo hi : ℕ) (ix : List ℕ) → Within lo hi ix ix
 within-none lo hi ix = record { long = refl; low = λ a h. refl; high = λ a h. refl }
@@ -177,10 +177,10 @@ candidate-spans = record { links-from = omega arith; links-to = omega arith; hea
 partner-spans : Spans partnerLay 6336 10432
 partner-spans = record { links-from = omega arith; links-to = omega arith; heads-from = omega arith; heads-to = omega arith }
 
-record Hung (file : List ℕ) (L : Layout) (key : ℕ → ℕ) (m lo hi : ℕ) (ix iy : List ℕ) : Type 0 where
-  still : Based file iy
-  hangs : From L key m 0 iy
-  inside : Within lo hi ix iy
+pub record Hung (file : List ℕ) (L : Layout) (key : ℕ → ℕ) (m lo hi : ℕ) (ix iy : List ℕ) : Type 0 where
+  pub still : Based file iy
+  pub hangs : From L key m 0 iy
+  pub inside : Within lo hi ix iy
 
 module _ (file : List ℕ) where
   reads-candidate : (ix : List ℕ) → Based file ix → (k : ℕ) → at (recordsOf file) (recordNo 896 1024 ix k) .a ≡ candidateKey (tablesOf file) k
@@ -202,7 +202,7 @@ module _ (file : List ℕ) where
       let r = candidates-hold m k iy (omega arith) l (based-within file ix iy 5056 6336 (omega arith) q b) g in
       record { still = r .still; hangs = r .hangs; inside = within-twice 5056 6336 ix iy (candidatesHung file k iy) q (r .inside) }
 
-  partners-hold : (m j : ℕ) (ix : List ℕ) → j ≤ m → m ≤ 1024 → Based file ix → From partnerLay (partnerKey (tablesOf file)) m j ix
+  pub partners-hold : (m j : ℕ) (ix : List ℕ) → j ≤ m → m ≤ 1024 → Based file ix → From partnerLay (partnerKey (tablesOf file)) m j ix
       → Hung file partnerLay (partnerKey (tablesOf file)) m 6336 10432 ix (partnersHung file j ix)
   unfolding partnersHung
   partners-hold m zero ix h l b f = record { still = b; hangs = f; inside = within-none 6336 10432 ix }
@@ -217,7 +217,7 @@ module _ (file : List ℕ) where
 
 -- ---- the whole
 
-hangs-low : (L : Layout) (key : ℕ → ℕ) (m lo hi : ℕ) (ix iy : List ℕ) → L .links + L .items ≤ lo → L .heads + L .keys ≤ lo → Within lo hi ix iy
+pub hangs-low : (L : Layout) (key : ℕ → ℕ) (m lo hi : ℕ) (ix iy : List ℕ) → L .links + L .items ≤ lo → L .heads + L .keys ≤ lo → Within lo hi ix iy
     → Hangs L key m ix → Hangs L key m iy
 hangs-low L key m lo hi ix iy a b q h =
     record { head = λ n k. q .low (L .heads + n) (omega arith) ∙ h .head n k; link = λ n k. q .low (L .links + n) (omega arith) ∙ h .link n k }

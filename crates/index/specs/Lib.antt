@@ -7,6 +7,8 @@ pub mod Regions
 pub mod More
 pub mod Loading
 pub mod Hanging
+pub mod Strung
+pub mod Taking
 pub mod Load
 pub mod Unique
 pub mod Refs

@@ -36,30 +36,30 @@ use Rattle.index.specs.More.{filter-more, filter-less, marks-long, marks
 
 -- ---- what is known behind the records pre
 
--- each region holds what is wanted of them, and the part of the chains is blank
-record Filled (pre : List Rec) (ix : List ℕ) : Type 0 where
-  wide : length ix ≡ 10432
-  own : (t : Table) (k : ℕ) → k < limit t → getD ix (base t + k) 0 ≡ wanted t pre k
-  free : (a : ℕ) → 5056 ≤ a → getD ix a 0 ≡ 0
+-- each region holds what is wanted of them, and the part from lo on is blank
+pub record Filled (lo : ℕ) (pre : List Rec) (ix : List ℕ) : Type 0 where
+  pub wide : length ix ≡ 10432
+  pub own : (t : Table) (k : ℕ) → k < limit t → getD ix (base t + k) 0 ≡ wanted t pre k
+  pub free : (a : ℕ) → lo ≤ a → getD ix a 0 ≡ 0
 
 -- the candidates and the clauses are counted
 abbrev Counted : Tables → Places → Type 0
 Counted T c = (c .candidates ≡ length (T .candidates)) × (c .clauses ≡ length (T .clauses))
 
 -- the tables T are made of them
-abbrev HeldIn : List Rec → Tables → Type 0
+abbrev pub HeldIn : List Rec → Tables → Type 0
 HeldIn pre T = (t : Table) → tableOf t T ≡ filter (isIn t) pre
 
 record Behind (pre : List Rec) (T : Tables) (c : Places) (ix : List ℕ) : Type 0 where
   valid : Valid T
   held : HeldIn pre T
   counts : Counted T c
-  filled : Filled pre ix
+  filled : Filled 5056 pre ix
 
 -- ---- where a record goes, and what is stored there
 
 -- the records of a table stand in the order in which they come; those of kind 8 by their variables
-abbrev isListed : Table → Bool
+abbrev pub isListed : Table → Bool
 isListed t = not (eqb (tableNo t) 7)
 
 -- what holds of the tables in order and of the records 8 holds of every table
@@ -70,15 +70,15 @@ by-listing P f a =
     a (f Clauses refl)
 
 -- the place in its region of the record r that comes to the tables T
-abbrev keyFor : Table → Rec → Tables → ℕ
+abbrev pub keyFor : Table → Rec → Tables → ℕ
 keyFor t r T = cond (isListed t) (length (tableOf t T)) (r .a)
 
 -- what is stored for it, if it is record j: its number plus one; of a record 8 its clause plus one
-abbrev valueFor : Table → Rec → ℕ → ℕ
+abbrev pub valueFor : Table → Rec → ℕ → ℕ
 valueFor t r j = cond (isListed t) (j + 1) (r .b + 1)
 
 -- the tables whose records bring their numbers along: all but candidates, records 8 and clauses
-abbrev isOwn : Table → Bool
+abbrev pub isOwn : Table → Bool
 isOwn Names = true
 isOwn Solvables = true
 isOwn VersionSets = true
@@ -124,17 +124,17 @@ module _ (T : Tables) (v : Valid T) (r : Rec) (w : length (r .text) ≡ 24) (s :
   sound-in : (u : Table) → s .table ≡ u → Sound T u (length (tableOf u T)) r
   sound-in u z = rw z at (sound-new T r s w p)
 
-  own-number : (u : Table) → s .table ≡ u → isOwn u ≡ true → r .a ≡ length (tableOf u T)
+  pub own-number : (u : Table) → s .table ≡ u → isOwn u ≡ true → r .a ≡ length (tableOf u T)
   own-number u z o =
       let h : Sound T u (length (tableOf u T)) r = sound-in u z in
       let y : h .shape .a ≡ S.Own = own-slot (r .kind) (h .shape) (h .known) (rw (h .mine) o) in
       rw y at (h .right-a)
 
-  assigned-small : s .table ≡ Assigned → (r .a < 1024) × (r .b < 1024)
+  pub assigned-small : s .table ≡ Assigned → (r .a < 1024) × (r .b < 1024)
   assigned-small z = sound-assigned T (length (T .assigned)) r v (sound-in Assigned z)
 
   -- its place is in its region
-  key-small : (u : Table) → s .table ≡ u → keyFor u r T < limit u
+  pub key-small : (u : Table) → s .table ≡ u → keyFor u r T < limit u
   key-small =
       by-listing (λ u. s .table ≡ u → keyFor u r T < limit u)
       (λ u l z. rw l (ltb-true (length (tableOf u T)) (limit u) (rw z at (p .room))))
@@ -214,29 +214,19 @@ module _ (pre : List Rec) (T : Tables) (held : HeldIn pre T) (r : Rec) where
 
 -- ---- one record more
 
-module _ (pre : List Rec) (T : Tables) (c : Places) (ix : List ℕ) (B : Behind pre T c ix)
+module _ (pre : List Rec) (T : Tables) (held : HeldIn pre T) (valid : Valid T)
     (r : Rec) (w : length (r .text) ≡ 24) (s : Shape) (p : Passed T r s) where
-  held-more : HeldIn (snoc pre r) (put (s .table) r T)
+  pub held-more : HeldIn (snoc pre r) (put (s .table) r T)
   held-more t =
       split (isIn t r)
-      (λ e. rw (table-put t r s T (p .known), e, filter-more (isIn t) pre r e, ← B .held t))
-      (λ e. rw (table-put t r s T (p .known), e, filter-less (isIn t) pre r e, ← B .held t))
+      (λ e. rw (table-put t r s T (p .known), e, filter-more (isIn t) pre r e, ← held t))
+      (λ e. rw (table-put t r s T (p .known), e, filter-less (isIn t) pre r e, ← held t))
 
-  counted-more : (u : Table) → Counted (put u r T) (passedBy (base u) c)
-  unfolding passedBy
-  counted-more =
-      let n : Counted T c = B .counts in
-      each-table (λ u. Counted (put u r T) (passedBy (base u) c))
-      n n n n (rw (n .0, length-append) refl, n .1) n n n (n .0, rw (n .1, length-append) refl)
-
-  filled-more : Filled (snoc pre r) (marked (base (s .table)) r (length pre) c ix)
-  filled-more =
-      rw (stored T (B .valid) r w s p c ix (length pre) (B .counts) (s .table) refl)
-      (record { wide = length-set ix place value ∙ N .wide; own = own-more; free = free-more })
+  -- it is stored at its place
+  pub filled-set : (lo : ℕ) (ix : List ℕ) → 5056 ≤ lo → Filled lo pre ix
+      → Filled lo (snoc pre r) (set ix (base (s .table) + keyFor (s .table) r T) (valueFor (s .table) r (length pre)))
+  filled-set lo ix bound N = record { wide = length-set ix place value ∙ N .wide; own = own-more; free = free-more }
     where
-      N : Filled pre ix
-      N = B .filled
-
       key : ℕ
       key = keyFor (s .table) r T
 
@@ -247,12 +237,12 @@ module _ (pre : List Rec) (T : Tables) (c : Places) (ix : List ℕ) (B : Behind 
       value = valueFor (s .table) r (length pre)
 
       small : key < limit (s .table)
-      small = key-small T (B .valid) r w s p (s .table) refl
+      small = key-small T valid r w s p (s .table) refl
 
       inside : place < 5056
       inside = omega (arith, below-chains (s .table), small)
 
-      free-more : (a : ℕ) → 5056 ≤ a → getD (set ix place value) a 0 ≡ 0
+      free-more : (a : ℕ) → lo ≤ a → getD (set ix place value) a 0 ≡ 0
       free-more a h = getD-set-other ix place a value 0 (λ z. omega (arith, inside)) ∙ N .free a h
 
       mine : isIn (s .table) r ≡ true
@@ -267,7 +257,7 @@ module _ (pre : List Rec) (T : Tables) (c : Places) (ix : List ℕ) (B : Behind 
           let g : getD (set ix place value) (base t + k) 0 ≡ value =
           rw e (getD-set-same ix place value 0 (omega (arith, N .wide, inside))) in
           let y : value ≡ valueFor t r (length pre) = ap (λ (u : Table). valueFor u r (length pre)) z in
-          g ∙ y ∙ sym (wanted-here pre T (B .held) r t k (rw z at mine) (λ x. unseen T r s p (z ∙ x)) q)
+          g ∙ y ∙ sym (wanted-here pre T (held) r t k (rw z at mine) (λ x. unseen T r s p (z ∙ x)) q)
 
       -- any other place
       other : (t : Table) (k : ℕ) → k < limit t → (base t + k ≡ place → ⊥)
@@ -275,8 +265,8 @@ module _ (pre : List Rec) (T : Tables) (c : Places) (ix : List ℕ) (B : Behind 
       other t k h d =
           getD-set-other ix place (base t + k) value 0 d ∙ N .own t k h
           ∙ split (isIn t r)
-          (λ e. let z : s .table ≡ t = its-table t r s (p .known) e in sym (wanted-else pre T (B .held) r t k e (λ q. d (rw (z, q)))))
-          (λ e. sym (wanted-other pre T (B .held) r t k e))
+          (λ e. let z : s .table ≡ t = its-table t r s (p .known) e in sym (wanted-else pre T (held) r t k e (λ q. d (rw (z, q)))))
+          (λ e. sym (wanted-other pre T (held) r t k e))
 
       own-more : (t : Table) (k : ℕ) → k < limit t → getD (set ix place value) (base t + k) 0 ≡ wanted t (snoc pre r) k
       own-more t k h =
@@ -284,14 +274,28 @@ module _ (pre : List Rec) (T : Tables) (c : Places) (ix : List ℕ) (B : Behind 
           (λ e. here t k h (eqb-true (base t + k) place e))
           (λ e. other t k h (eqb-false (base t + k) place e))
 
+module _ (pre : List Rec) (T : Tables) (c : Places) (ix : List ℕ) (B : Behind pre T c ix)
+    (r : Rec) (w : length (r .text) ≡ 24) (s : Shape) (p : Passed T r s) where
+  counted-more : (u : Table) → Counted (put u r T) (passedBy (base u) c)
+  unfolding passedBy
+  counted-more =
+      let n : Counted T c = B .counts in
+      each-table (λ u. Counted (put u r T) (passedBy (base u) c))
+      n n n n (rw (n .0, length-append) refl, n .1) n n n (n .0, rw (n .1, length-append) refl)
+
+  filled-more : Filled 5056 (snoc pre r) (marked (base (s .table)) r (length pre) c ix)
+  filled-more =
+      rw (stored T (B .valid) r w s p c ix (length pre) (B .counts) (s .table) refl)
+      (filled-set pre T (B .held) (B .valid) r w s p 5056 ix (omega arith) (B .filled))
+
   behind-more : Behind (snoc pre r) (put (s .table) r T) (passedBy (base (s .table)) c) (marked (base (s .table)) r (length pre) c ix)
   behind-more =
-      record { valid = valid-more T r s p w (B .valid); held = held-more; counts = counted-more (s .table); filled = filled-more }
+      record { valid = valid-more T r s p w (B .valid); held = held-more pre T (B .held) (B .valid) r w s p; counts = counted-more (s .table); filled = filled-more }
 
 -- ---- every record
 
 filled-all : (rs pre : List Rec) (T U : Tables) (c : Places) (ix : List ℕ) → Steps T rs U → All (λ r. length (r .text) ≡ 24) rs
-    → Behind pre T c ix → Filled (pre ++ rs) (numbered rs (length pre) c ix)
+    → Behind pre T c ix → Filled 5056 (pre ++ rs) (numbered rs (length pre) c ix)
 unfolding numbered
 filled-all [] pre T U c ix p w B = rw (append-nil pre) (B .filled)
 filled-all (r ∷ rs) pre T U c ix p w B =
@@ -302,9 +306,9 @@ filled-all (r ∷ rs) pre T U c ix p w B =
     rw (b, ← append-assoc pre (r ∷ []) rs, ← l) (filled-all rs (snoc pre r) _ U _ _ (p .2) (w .1) more)
 
 -- before the first
-filled-none : (ix : List ℕ) → Blank ix → Filled [] ix
+pub filled-none : (lo : ℕ) (ix : List ℕ) → Blank ix → Filled lo [] ix
 unfolding marksBy
-filled-none ix b = record { wide = b .wide; own = λ t k h. b .zeros (base t + k) ∙ sym (nothing t k); free = λ a h. b .zeros a }
+filled-none lo ix b = record { wide = b .wide; own = λ t k h. b .zeros (base t + k) ∙ sym (nothing t k); free = λ a h. b .zeros a }
   where
     nothing : (t : Table) (k : ℕ) → wanted t [] k ≡ 0
     nothing =
@@ -318,7 +322,7 @@ behind-none ix b =
       valid = valid-none;
       held = each-table (λ t. tableOf t noTables ≡ []) refl refl refl refl refl refl refl refl refl;
       counts = (refl, refl);
-      filled = filled-none ix b;
+      filled = filled-none 5056 ix b;
     }
 
 -- the records of an accepted file, numbered into a blank index: its regions are those of the file, and the part of the chains is blank
@@ -327,6 +331,6 @@ pub numbers-hold : (file ix : List ℕ) → readOf file ≡ good (tablesOf file)
 numbers-hold file ix e b =
     let a = read-accepted file (tablesOf file) e in
     let w = all-whole (length file / 32) file (omega arith) in
-    let N : Filled (recordsOf file) (numbered (recordsOf file) 0 noPlaces ix) =
+    let N : Filled 5056 (recordsOf file) (numbered (recordsOf file) 0 noPlaces ix) =
     filled-all (recordsOf file) [] noTables (tablesOf file) noPlaces ix (a .steps) w (behind-none ix b) in
     (record { accepted = e; wide = N .wide; own = N .own }, N .free)

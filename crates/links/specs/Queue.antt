@@ -324,7 +324,7 @@ blank = replicate 256 0
 abbrev begun : ℕ → List ℕ
 begun a = set (set blank (128 + a) 1) 0 a
 
-zeros : (k i : ℕ) → _≡_ {A = ℕ} (getD (replicate k 0) i 0) 0
+pub zeros : (k i : ℕ) → _≡_ {A = ℕ} (getD (replicate k 0) i 0) 0
 zeros zero i = refl
 zeros (suc k) zero = refl
 zeros (suc k) (suc i) = zeros k i

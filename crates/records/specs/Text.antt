@@ -1,12 +1,12 @@
 -- What byte 1 and the text of a record may be, as the code tests it: a chain of guards that says the same as `firstGood`.
 use mathlib.Core.Path.{_≡_, refl, sym, ap, _∙_}
-use mathlib.Core.Bool.{Bool, true, false, _&&_}
-use mathlib.Core.List.{List}
-use Prim.Native.Nat.{ℕ, _+_, _*_, _-_, _≤_, _<_}
+use mathlib.Core.Bool.{Bool, true, false, _&&_, false≢true}
+use mathlib.Core.List.{List, [], _∷_}
+use Prim.Native.Nat.{ℕ, zero, suc, _+_, _*_, _-_, _≤_, _<_}
 use native.Mathlib.Omega.{arith}
 use native.Mathlib.Numerals.{add-one}
-use lib.ListN.{length, getD, drop, drop-of-length-le}
-use lib.Seq.{drop-cons}
+use lib.ListN.{length, getD, drop, length-drop, drop-of-length-le}
+use lib.Seq.{drop-cons, drop-drop, getD-drop}
 use lib.Dec.{leb, ltb, eqb}
 use borrow.Author.Tests.{lt-leb, le-leb, eq-eqb, ne-eqb, ltb-true, ltb-false}
 use Rattle.basis.specs.Lists.{all}
@@ -150,6 +150,63 @@ module _ (s : List ℕ) where
         split (ltb w 1)
         (λ q. q ∙ zero-end s 24 (eight-next 16 w j (omega arith) (omega arith) (let b : w < 1 = ltb-true _ _ q in omega arith) e) (omega arith))
         (λ q. q ∙ eight-stop 16 w j (omega arith) (omega arith) (let b : 1 ≤ w = ltb-false _ _ q in omega arith) e)
+
+-- what all bytes pass, those from j on pass
+all-drop : (p : ℕ → Bool) (j : ℕ) (l : List ℕ) → all p l ≡ true → all p (drop j l) ≡ true
+all-drop p zero l e = e
+all-drop p (suc j) [] e = e
+all-drop p (suc j) (x ∷ l) e =
+    split (p x)
+    (λ q. all-drop p j l (rw (q, all) at e))
+    (λ q. absurd (false≢true (rw (q, all) at e)))
+
+-- the last eight bytes tell what is left from k on, which is less: some of them are told twice
+module _ (s : List ℕ) (k w : ℕ) (inv : ZeroLeft s k) (d : k ≤ length s) (h : 8 ≤ length s) (l : length s - k < 8) (e : w ≡ eightAt s (length s - 8)) where
+  abbrev p : ℕ
+  p = length s - 8
+
+  long : length (drop p s) ≡ 8
+  long = length-drop p s ∙ omega arith
+
+  here : w ≡ eightAt (drop p s) 0
+  unfolding eightAt
+  here =
+      let z : p + 0 ≡ p = omega arith in
+      e ∙ rw (
+        getD-drop p s 0 0,
+        getD-drop p s 1 0,
+        getD-drop p s 2 0,
+        getD-drop p s 3 0,
+        getD-drop p s 4 0,
+        getD-drop p s 5 0,
+        getD-drop p s 6 0,
+        getD-drop p s 7 0,
+        z,
+      )
+
+  further : drop k s ≡ drop (k - p) (drop p s)
+  further = let z : p + (k - p) ≡ k = omega arith in sym (drop-drop (k - p) p s ∙ ap (λ (n : ℕ). drop n s) z)
+
+  clean : w ≤ 0 → true ≡ allZero s
+  unfolding ZeroLeft allZero
+  clean z =
+      let i : ZeroLeft (drop p s) 8 = eight-next (drop p s) 0 w (zero-start (drop p s)) (omega arith) (omega (arith, long)) z here in
+      let t : all (eqb 0) (drop p s) ≡ true = sym (zero-end (drop p s) 8 i (omega (arith, long))) in
+      sym (all-drop (eqb 0) (k - p) (drop p s) t) ∙ ap (all (eqb 0)) (sym further) ∙ inv
+
+  used : 0 < w → false ≡ allZero s
+  unfolding allZero
+  used z =
+      let f : false ≡ all (eqb 0) (drop p s) = eight-stop (drop p s) 0 w (zero-start (drop p s)) (omega arith) (omega (arith, long)) z here in
+      split (all (eqb 0) s)
+      (λ q. absurd (false≢true (f ∙ all-drop (eqb 0) p s q)))
+      (λ q. sym q)
+
+  pub last-eight : ltb w 1 ≡ allZero s
+  last-eight =
+      split (ltb w 1)
+      (λ q. q ∙ clean (let b : w < 1 = ltb-true _ _ q in omega arith))
+      (λ q. q ∙ used (let b : 1 ≤ w = ltb-false _ _ q in omega arith))
 
 -- ---- byte 1 and the text
 

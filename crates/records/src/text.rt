@@ -50,7 +50,7 @@ fn eight(s: &[u8], at: usize) -> u64
         + 72057594037927936 * part(s[at + 7])
 }
 
-// Each byte is 0: eight at a time, the rest one by one.
+// Each byte is 0: eight at a time, the rest by the last eight, or one by one where there are fewer.
 fn all_zero(s: &[u8]) -> bool
     ensures { λ r. ⌜ r ≡ allZero (now (s .entry)) ⌝ }
 {
@@ -61,6 +61,10 @@ fn all_zero(s: &[u8]) -> bool
             return false;
         }
         k += 8;
+    }
+    if 8 <= s.len() {
+        let w = eight(s, s.len() - 8);
+        return w < 1;
     }
     while k < s.len() {
         let b = s[k];

@@ -1,16 +1,16 @@
 -- "If unresolved has no incoming edge it is removed, and the last node takes number 1": petgraph's `remove_node`, word by word.
 -- The last node's word goes to place 1, and the ends that were the last number become 1; edges keep their order.
 use mathlib.Core.Path.{_≡_, refl, sym, ap, _∙_}
-use mathlib.Core.Bool.{Bool, true, false, not}
+use mathlib.Core.Bool.{Bool, true, false, not, _||_, false≢true}
 use mathlib.Core.List.{List, [], _∷_, _++_, map, map-append}
 use Prim.Native.Nat.{ℕ, zero, suc, _+_, _*_, _-_, _/_, _%_, _<_, _≤_}
 use native.Mathlib.Nat.{not-suc-le-zero}
 use native.Mathlib.Numerals.{add-one}
 use native.Mathlib.Omega.{arith}
 use lib.ListN.{length, getD, take, drop, set, length-set, length-drop}
-use lib.Seq.{take-suc, take-suc-set, take-set-le, drop-set-add, drop-set-lt, getD-set-same, getD-set-other, getD-drop}
+use lib.Seq.{take-suc, take-suc-set, take-set-le, drop-set-add, drop-set-lt, getD-set-same, getD-set-other, getD-drop, set-getD}
 use lib.Dec.{eqb, ltb}
-use borrow.Author.Tests.{eqb-true, eqb-false, eq-eqb, ne-eqb, ltb-true, ltb-false}
+use borrow.Author.Tests.{eqb-true, eqb-false, eq-eqb, ne-eqb, ltb-true, ltb-false, not-true}
 use Rattle.basis.specs.Lists.{any}
 use Rattle.basis.specs.Members.{split}
 use Rattle.basis.specs.Below.{allBelow, below-step, below-fails, below-at}
@@ -29,13 +29,13 @@ use Rattle.store.specs.Table.{nodeWords, graphIn, edgeIn, Stored, Growin
 unfoldable pub spares : List ℕ → ℕ → Bool
 spares g i = not (eqb (edgeIn g i .target) 1)
 
-pub spare-next : (g : List ℕ) (i t : ℕ) → allBelow (spares g) i ≡ true → (t ≡ 1 → ⊥) → t ≡ edgeIn g i .target → allBelow (spares g) (i + 1) ≡ true
-unfolding spares
-spare-next g i t h d q = below-step (spares g) i h (rw (ne-eqb (edgeIn g i .target) 1 (λ z. d (q ∙ z))))
+pub spare-next : (g : List ℕ) (i : ℕ) → allBelow (spares g) i ≡ true → (getD g i 0 / 256 % 256 ≡ 1 → ⊥) → allBelow (spares g) (i + 1) ≡ true
+unfolding spares edgeIn
+spare-next g i h d = below-step (spares g) i h (rw (ne-eqb (getD g i 0 / 256 % 256) 1 d))
 
-pub spare-stop : (g : List ℕ) (i m t : ℕ) → t ≡ 1 → t ≡ edgeIn g i .target → i < m → false ≡ allBelow (spares g) m
-unfolding spares
-spare-stop g i m t z q h = below-fails (spares g) i m h (rw (eq-eqb (edgeIn g i .target) 1 (sym q ∙ z)))
+pub spare-stop : (g : List ℕ) (i m : ℕ) → getD g i 0 / 256 % 256 ≡ 1 → i < m → false ≡ allBelow (spares g) m
+unfolding spares edgeIn
+spare-stop g i m z h = below-fails (spares g) i m h (rw (eq-eqb (getD g i 0 / 256 % 256) 1 z))
 
 spared : (g : List ℕ) (e : ℕ) → spares g e ≡ true → getD g e 0 / 256 % 256 ≡ 1 → ⊥
 unfolding spares edgeIn
@@ -70,6 +70,45 @@ spares-any g (suc m) h =
 abbrev pub renumberWord : ℕ → ℕ → ℕ
 renumberWord last w = renumber last (w % 256) + 256 * renumber last (w / 256 % 256) + 65536 * (w / 65536)
 
+-- edge i renumbered
+unfoldable pub renumberAt : ℕ → List ℕ → ℕ → List ℕ
+renumberAt last g i = set g i (renumberWord last (getD g i 0))
+
+-- an end of the edge is the last number
+unfoldable pub touches : ℕ → ℕ → Bool
+touches last w = eqb (w % 256) last || eqb (w / 256 % 256) last
+
+pub touch-source : (last w : ℕ) → w % 256 ≡ last → true ≡ touches last w
+unfolding touches
+touch-source last w q = rw (eq-eqb (w % 256) last q)
+
+pub touch-target : (last w : ℕ) → (w % 256 ≡ last → ⊥) → eqb (w / 256 % 256) last ≡ touches last w
+unfolding touches
+touch-target last w d = rw (ne-eqb (w % 256) last d)
+
+pub ruleset touchings = (touch-source, touch-target)
+
+-- neither end is the last number: the word stays
+untouched : (last w : ℕ) → touches last w ≡ false → renumberWord last w ≡ w
+unfolding touches
+untouched last w e =
+    split (eqb (w % 256) last)
+    (λ t. absurd (false≢true (sym (rw t at e))))
+    (λ t. split (eqb (w / 256 % 256) last) (λ u. absurd (false≢true (sym (rw (t, u) at e)))) (λ u. rw (t, u) whole))
+  where
+    whole : w % 256 + 256 * (w / 256 % 256) + 65536 * (w / 65536) ≡ w
+    whole = omega arith
+
+-- what is there need not be stored
+pub renumber-kept : (last : ℕ) (g : List ℕ) (i : ℕ) (b : Bool) → not b ≡ true → b ≡ touches last (getD g i 0) → g ≡ renumberAt last g i
+unfolding renumberAt
+renumber-kept last g i b f q = sym (ap (set g i) (untouched last (getD g i 0) (sym q ∙ not-true b f)) ∙ set-getD g i 0)
+
+-- r is what a call gave for word i
+pub renumber-stored : (last : ℕ) (g : List ℕ) (i r : ℕ) → r ≡ renumberWord last (getD g i 0) → set g i r ≡ renumberAt last g i
+unfolding renumberAt
+renumber-stored last g i r q = rw q
+
 -- the first i edges renumbered, one after the other
 unfoldable pub renumberTo : ℕ → List ℕ → ℕ → List ℕ
 renumberTo last g zero = g
@@ -79,10 +118,10 @@ pub renumber-none : (last : ℕ) (g : List ℕ) → g ≡ renumberTo last g 0
 unfolding renumberTo
 renumber-none last g = refl
 
--- r is what a call gave for word i
-pub renumber-next : (last : ℕ) (g h : List ℕ) (i r : ℕ) → h ≡ renumberTo last g i → r ≡ renumberWord last (getD h i 0) → set h i r ≡ renumberTo last g (i + 1)
-unfolding renumberTo
-renumber-next last g h i r q e = rw (add-one i, e, q)
+-- k is what a call left of h, word i renumbered
+pub renumber-next : (last : ℕ) (g h k : List ℕ) (i : ℕ) → h ≡ renumberTo last g i → k ≡ renumberAt last h i → k ≡ renumberTo last g (i + 1)
+unfolding renumberTo renumberAt
+renumber-next last g h k i q e = rw (add-one i, e, q)
 
 pub renumber-all : (last : ℕ) (g h : List ℕ) (i m : ℕ) → h ≡ renumberTo last g i → i ≤ m → m ≤ i → h ≡ renumberTo last g m
 renumber-all last g h i m q a b = let z : m ≡ i = omega arith in rw z q

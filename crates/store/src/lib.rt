@@ -11,7 +11,7 @@ ghost use Rattle.store.specs.Graph.{isSolvable, isUnresolved};
 ghost use Rattle.store.specs.Working.{addNodeIn, addEdgeIn, addLinkIn};
 ghost use Rattle.store.specs.Words.{weightOf, byKind, requirementCode, EdgeWord, CauseWord, WeightWord, NodeWord};
 ghost use Rattle.basis.specs.Below.{allBelow};
-ghost use Rattle.store.specs.Settling.{spares, renumberWord, renumberTo, removed};
+ghost use Rattle.store.specs.Settling.{spares, touches, renumberWord, renumberAt, renumberTo, removed};
 ghost use Rattle.store.specs.Finding.{findOf};
 ghost use Rattle.store.specs.Adding.{addTarget};
 ghost use Rattle.store.specs.Direct.{entryAt, entered, more, putAt};
@@ -139,6 +139,21 @@ pub fn target_at(g: &GraphWords, e: usize) -> usize
     ensures { λ r. ⌜ (r ≡ edgeIn (now (g .entry)) e .target) × (r < 256) ⌝ }
 {
     (basis::get64(g, e) / 256 % 256) as usize
+}
+
+// The ends of an edge whose place is known to be one of the table's: no test.
+pub fn source_there(g: &GraphWords, e: usize) -> usize
+    requires { ⌜ e < 1024 ⌝ }
+    ensures { λ r. ⌜ (r ≡ edgeIn (now (g .entry)) e .source) × (r < 256) ⌝ }
+{
+    (g[e] % 256) as usize
+}
+
+pub fn target_there(g: &GraphWords, e: usize) -> usize
+    requires { ⌜ e < 1024 ⌝ }
+    ensures { λ r. ⌜ (r ≡ edgeIn (now (g .entry)) e .target) × (r < 256) ⌝ }
+{
+    (g[e] / 256 % 256) as usize
 }
 
 // One more than the requirement's number, or 0 for a conflict: conflict.rs's `try_requires` as one number.
@@ -430,11 +445,12 @@ pub fn link(g: &mut GraphWords, s: Size, x: ConflictNode, y: ConflictNode, w: Co
 
 // No edge leads to node 1.
 fn spared(g: &GraphWords, m: usize) -> bool
+    requires { ⌜ m ≤ 1024 ⌝ }
     ensures { λ r. ⌜ r ≡ allBelow (spares (now (g .entry))) m ⌝ }
 {
     let mut i: usize = 0;
     while i < m {
-        let t = target_at(g, i);
+        let t = g[i] / 256 % 256;
         if t == 1 {
             return false;
         }
@@ -459,15 +475,37 @@ fn renumbered_word(w: u64, last: u64) -> u64
     s + 256 * t + 65536 * (w / 65536)
 }
 
+// An end of the edge is node `last`.
+fn touches(w: u64, last: u64) -> bool
+    ensures { λ r. ⌜ r ≡ touches last w ⌝ }
+{
+    if w % 256 == last {
+        return true;
+    }
+    w / 256 % 256 == last
+}
+
+// Edge i renumbered; most words stay as they are, and those are not stored again.
+fn renumber_at(g: &mut GraphWords, i: usize, last: u64)
+    requires { ⌜ i < 1024 ⌝ }
+    ensures { λ _. ⌜ now (g .exit) ≡ renumberAt last (now (g .entry)) i ⌝ }
+{
+    let w = g[i];
+    let b = touches(w, last);
+    if !b {
+        return;
+    }
+    let r = renumbered_word(w, last);
+    g[i] = r;
+}
+
 fn renumber_all(g: &mut GraphWords, m: usize, last: u64)
     requires { ⌜ m ≤ 1024 ⌝ }
     ensures { λ _. ⌜ now (g .exit) ≡ renumberTo last (now (g .entry)) m ⌝ }
 {
     let mut i: usize = 0;
     while i < m {
-        let w = g[i];
-        let r = renumbered_word(w, last);
-        g[i] = r;
+        renumber_at(g, i, last);
         i += 1;
     }
 }

@@ -9,7 +9,7 @@ use native.Mathlib.Omega.{arith}
 use lib.ListN.{length, take, drop, getD, length-append, length-take, length-drop}
 use lib.Pow.{shr-shr, field}
 use lib.Dec.{eqb, ltb}
-use borrow.Author.Tests.{lt-ltb, le-ltb, ltb-false}
+use borrow.Author.Tests.{lt-ltb, le-ltb, ltb-false, eq-eqb, ne-eqb}
 use borrow.Rule.Slice.PartMut.{putMid}
 use Rattle.basis.specs.Members.{split}
 use Rattle.texts.specs.Indent.{older}
@@ -269,30 +269,42 @@ byte-enough ws i k b h is =
     (λ q. let z : b ≡ 256 = rw q at is in let w : ⊥ = omega arith in absurd w)
     (λ q. ltb-false k 8 q)
 
+-- of k levels that are left, how many are looked at where eight do not stand in one word
+unfoldable pub evenedOf : ℕ → ℕ → ℕ
+evenedOf i k = cond (eqb (i % 2) 1) 1 k
+
+pub evened-odd : (i k : ℕ) → i % 2 ≡ 1 → 1 ≡ evenedOf i k
+unfolding evenedOf
+evened-odd i k h = rw (eq-eqb (i % 2) 1 h)
+
+pub evened-even : (i k : ℕ) → (i % 2 ≡ 1 → ⊥) → k ≡ evenedOf i k
+unfolding evenedOf
+evened-even i k h = rw (ne-eqb (i % 2) 1 h)
+
 -- what a step takes: eight levels, or fewer
 unfoldable pub stepOf : List ℕ → ℕ → ℕ → ℕ → ℕ
-unfolding fewOf codeIn
-stepOf ws i k b = cond (ltb b 256) 8 (fewOf k (codeIn ws i k))
+unfolding fewOf codeIn evenedOf
+stepOf ws i k b = cond (ltb b 256) 8 (fewOf (evenedOf i k) (codeIn ws i (evenedOf i k)))
 
 pub step-byte : (ws : List ℕ) (i k b : ℕ) → b < 256 → 8 ≡ stepOf ws i k b
 unfolding stepOf
 step-byte ws i k b h = rw (lt-ltb b 256 h)
 
-step-rest : (ws : List ℕ) (i k b c : ℕ) → 256 ≤ b → c ≡ codeIn ws i k → fewOf k c ≡ stepOf ws i k b
+step-rest : (ws : List ℕ) (i k b j c : ℕ) → 256 ≤ b → j ≡ evenedOf i k → c ≡ codeIn ws i j → fewOf j c ≡ stepOf ws i k b
 unfolding stepOf
-step-rest ws i k b c h e = rw (le-ltb b 256 h, e)
+step-rest ws i k b j c h d e = rw (le-ltb b 256 h, e, d)
 
-pub step-fewer : (ws : List ℕ) (i k b c r : ℕ) → r ≡ fewOf k c → 256 ≤ b → c ≡ codeIn ws i k → r ≡ stepOf ws i k b
-step-fewer ws i k b c r q h e = q ∙ step-rest ws i k b c h e
+pub step-fewer : (ws : List ℕ) (i k b j c r : ℕ) → r ≡ fewOf j c → 256 ≤ b → j ≡ evenedOf i k → c ≡ codeIn ws i j → r ≡ stepOf ws i k b
+step-fewer ws i k b j c r q h d e = q ∙ step-rest ws i k b j c h d e
 
-pub rest-room : (ws : List ℕ) (i k b c : ℕ) (o : List ℕ) → 256 ≤ b → c ≡ codeIn ws i k
+pub rest-room : (ws : List ℕ) (i k b j c : ℕ) (o : List ℕ) → 256 ≤ b → j ≡ evenedOf i k → c ≡ codeIn ws i j
     → length (levelsFrom ws i (stepOf ws i k b)) + 7 ≤ length o
-    → length (levelsFrom ws i (fewOf k c)) + 7 ≤ length o
-rest-room ws i k b c o h e r = rw (step-rest ws i k b c h e) r
+    → length (levelsFrom ws i (fewOf j c)) + 7 ≤ length o
+rest-room ws i k b j c o h d e r = rw (step-rest ws i k b j c h d e) r
 
-pub rest-near : (ws : List ℕ) (i k b c : ℕ) {o d : List ℕ} {r : ℕ} → Near (levelsFrom ws i (fewOf k c)) o d r → 256 ≤ b → c ≡ codeIn ws i k
-    → Near (levelsFrom ws i (stepOf ws i k b)) o d r
-rest-near ws i k b c w h e = rw (← step-rest ws i k b c h e) w
+pub rest-near : (ws : List ℕ) (i k b j c : ℕ) {o d : List ℕ} {r : ℕ} → Near (levelsFrom ws i (fewOf j c)) o d r → 256 ≤ b → j ≡ evenedOf i k
+    → c ≡ codeIn ws i j → Near (levelsFrom ws i (stepOf ws i k b)) o d r
+rest-near ws i k b j c w h d e = rw (← step-rest ws i k b j c h d e) w
 
 levels-split : (ws : List ℕ) (i j k : ℕ) → levelsFrom ws i (j + k) ≡ levelsFrom ws i j ++ levelsFrom ws (i + j) k
 unfolding levelsFrom

@@ -13,7 +13,7 @@ ghost use Rattle.texts.specs.Indent.{older, deepest, indent};
 ghost use Rattle.texts.specs.MarkBits.{bit, marksAt};
 ghost use Rattle.texts.specs.Pieces.{bytesOf, cornerOf, pairWord, pairBytes, BytesLaid, Near};
 ghost use Rattle.texts.specs.Shown.{shownFirst, aboveText, levelsFrom};
-ghost use Rattle.texts.specs.Fours.{pairWords, pairWidths, pairText, fourText, byteText, codeIn, byteIn, fewOf, stepOf};
+ghost use Rattle.texts.specs.Fours.{pairWords, pairWidths, pairText, fourText, byteText, codeIn, byteIn, fewOf, evenedOf, stepOf};
 
 // The first level that is shown: the top one is skipped without the option.
 fn first(top: bool) -> usize
@@ -225,6 +225,18 @@ fn few(k: usize, c: usize) -> usize
     2
 }
 
+// Of k levels that are left, how many are looked at where eight do not stand in one word: one from an odd level, so that from the
+// first word's end on all others begin with their word.
+fn evened(i: usize, k: usize) -> usize
+    requires { ⌜ 0 < k ⌝ }
+    ensures { λ r. ⌜ (r ≡ evenedOf i k) × (0 < r) × (r ≤ k) ⌝ }
+{
+    if i % 2 == 1 {
+        return 1;
+    }
+    k
+}
+
 // The next levels: eight by their number b, or fewer.
 fn put_step(
     out: &mut [u8],
@@ -245,8 +257,9 @@ fn put_step(
     if b < 256 {
         return put_byte(out, words, widths, b);
     }
-    let c = code_at(levels, i, k);
-    put_few(out, levels, words, widths, i, k, c)
+    let j = evened(i, k);
+    let c = code_at(levels, i, j);
+    put_few(out, levels, words, widths, i, j, c)
 }
 
 // How many levels that is.
@@ -258,8 +271,9 @@ fn step(levels: &[u64; 65], i: usize, k: usize, b: usize) -> usize
     if b < 256 {
         return 8;
     }
-    let c = code_at(levels, i, k);
-    few(k, c)
+    let j = evened(i, k);
+    let c = code_at(levels, i, j);
+    few(j, c)
 }
 
 // The levels above, and up to seven bytes more that are not the room's own.

@@ -7,15 +7,15 @@ use std::collections::HashMap;
 use std::hint::black_box;
 use std::time::Instant;
 
-/// The arrays that `urzulempa_check` and `urzulempa_edges` clear: index, graph, triples, chains, the reader's marks, reachability. Each is
+/// The arrays that `urzulempa_check` and `urzulempa_edges` clear: index, graph, triples, chains, the reader's marks and last candidates, reachability. Each is
 /// cleared by itself here, in the nearest cache, which all of them together would not fit.
-pub const GRAPH: &[usize] = &[20_864, 9_216, 10_240, 6_912, 2_048, 512];
+pub const GRAPH: &[usize] = &[20_864, 9_216, 10_240, 6_912, 2_048, 512, 512];
 /// `urzulempa_nodes`: these, and those of labels, groups and names.
-pub const NODES: &[usize] = &[20_864, 9_216, 10_240, 6_912, 2_048, 512, 3_072];
+pub const NODES: &[usize] = &[20_864, 9_216, 10_240, 6_912, 2_048, 512, 512, 3_072];
 /// `urzulempa_graphviz`, simplified: these, and those of groups, names and marks.
-pub const DRAW: &[usize] = &[20_864, 9_216, 10_240, 6_912, 2_048, 512, 2_176];
+pub const DRAW: &[usize] = &[20_864, 9_216, 10_240, 6_912, 2_048, 512, 512, 2_176];
 /// `urzulempa_explain` (docs/DECISIONS.md lists them): these, the triples' once more for the plan, frames, kids, and the small ones.
-pub const EXPLAIN: &[usize] = &[20_864, 9_216, 10_240, 6_912, 2_048, 10_240, 8_320, 2_048, 5_000];
+pub const EXPLAIN: &[usize] = &[20_864, 9_216, 10_240, 6_912, 2_048, 10_240, 8_320, 2_048, 5_512];
 /// The words of the graph's nodes and edges, which whatever is said of a graph has to read.
 pub const WORDS: usize = 9_216;
 

@@ -157,7 +157,7 @@ fn texts() {
         both(|| keep(black_box(oracle::explain(black_box(&file), 0, &mut a))), || keep(black_box(urzulempa::explain(black_box(&file), 0, &mut b)))),
         limit::of(&file, limit::EXPLAIN, urzulempa::explain(&file, 0, &mut b).bytes),
     );
-    println!("| of that, clearing the 64648 bytes of arrays that a call owns, 10240 of them twice | | | {} | | | |", time(limit::clearing(&[64_648, 10_240])));
+    println!("| of that, clearing the 65160 bytes of arrays that a call owns, 10240 of them twice | | | {} | | | |", time(limit::clearing(&[65_160, 10_240])));
     row(
         "graph text of P7, a call",
         file.len(),

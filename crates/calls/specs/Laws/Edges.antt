@@ -13,8 +13,8 @@ use Rattle.store.specs.Table.{graphIn, Stored, edges-count}
 use Rattle.graph.specs.declared.Made.{Made}
 use Rattle.graph.specs.declared.Made.the-variants as M
 use Rattle.graph.specs.Graphs.{Outcome, drawn, refused, graphOf}
-use Rattle.graph.specs.Files.{outcomeBy, outcomeOf, Makes}
-use Rattle.graph.specs.Laws.Files.{makes-outcome}
+use Rattle.graph.specs.Files.{outcomeBy, outcomeOf}
+use Rattle.graph.specs.Checked.{Checks, checks-outcome}
 use Rattle.lists.specs.Edges.{edgesOver}
 use Rattle.calls.specs.declared.Answer.{Answer}
 use Rattle.calls.specs.Answers.{refusalOf, outcomeAnswer, checkBy, checkOf}
@@ -55,19 +55,19 @@ pub ruleset wholes = (short-answer, short-list, whole-answer, whole-list)
 
 -- ---- m is what the file makes
 
-module _ (file ix g w : List ℕ) (m : Made) (R : Makes file ix g w m) (l : List ℕ) where
+module _ (file g : List ℕ) (m : Made) (R : Checks file g m) (l : List ℕ) where
   pub bytes-refused : (x : Answer) (k p : ℕ) → m ≡ M.Refused k p → x ≡ refusalOf k p → x ≡ edgesAnswer file (length l)
   unfolding edgesAnswer
-  bytes-refused x k p e h = h ∙ ap (λ (o : Outcome). edgesBy o (length l)) (makes-outcome file ix g w m R (M.Refused k p) e)
+  bytes-refused x k p e h = h ∙ ap (λ (o : Outcome). edgesBy o (length l)) (checks-outcome file g m R (M.Refused k p) e)
 
   pub bytes-refused-list : (k p : ℕ) → m ≡ M.Refused k p → l ≡ edgesLeft file l
   unfolding edgesLeft
-  bytes-refused-list k p e = ap (λ (o : Outcome). leavesBy o l) (makes-outcome file ix g w m R (M.Refused k p) e)
+  bytes-refused-list k p e = ap (λ (o : Outcome). leavesBy o l) (checks-outcome file g m R (M.Refused k p) e)
 
   pub bytes-whole : (x : Answer) (s : Size) → m ≡ M.Whole s → x ≡ edgesAsked (graphIn g s) (length l) → x ≡ edgesAnswer file (length l)
   unfolding edgesAnswer
-  bytes-whole x s e h = h ∙ ap (λ (o : Outcome). edgesBy o (length l)) (makes-outcome file ix g w m R (M.Whole s) e)
+  bytes-whole x s e h = h ∙ ap (λ (o : Outcome). edgesBy o (length l)) (checks-outcome file g m R (M.Whole s) e)
 
   pub bytes-whole-list : (k : List ℕ) (s : Size) → m ≡ M.Whole s → k ≡ edgesInto (graphIn g s) l → k ≡ edgesLeft file l
   unfolding edgesLeft
-  bytes-whole-list k s e h = h ∙ ap (λ (o : Outcome). leavesBy o l) (makes-outcome file ix g w m R (M.Whole s) e)
+  bytes-whole-list k s e h = h ∙ ap (λ (o : Outcome). leavesBy o l) (checks-outcome file g m R (M.Whole s) e)

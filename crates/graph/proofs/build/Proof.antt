@@ -13,5 +13,5 @@ build-spec =
     (c .before .before .before .before .before .before .before .before .before .before .before .before .before .before .pre .1 .0)
     (c .before .before .before .before .before .before .before .before .before .before .before .start .ensures .0)
     (c .before .before .before .before .before .before .before .before .before .before .before .before .before .before .pre .1 .1 .1 .1)
-    (c .before .before .before .before .before .before .before .build-core .ensures) (c .before .before .before .before .before .r2 .given .0 .0) _ _ _
+    (c .before .before .before .before .before .before .before .build-core .ensures) _ (c .before .before .before .before .before .r2 .given .0 .0) _ _ _
     (search needs) (c .finish .ensures)))

@@ -1,5 +1,5 @@
 use borrow.Author.Needs.{needs}
-use Rattle.graph.specs.Laws.Files.{made-whole, made-refused}
+use Rattle.graph.specs.Checked.{made-whole, made-refused}
 use Rattle.graph.proofs.made_of.Statement.{statement}
 use Rattle.graph.proofs.made_of.Tie as tie
 

@@ -1,67 +1,18 @@
--- How the code comes to what a file makes, and what callers take from it.
+-- What callers take from what a file makes.
 use mathlib.Core.Path.{_≡_, refl, sym, ap, _∙_}
 use mathlib.Core.List.{List}
 use Prim.Native.Nat.{ℕ}
-use Rattle.basis.specs.Members.{clash}
-use Rattle.records.specs.declared.ReadAnswer.{ReadAnswer}
-use Rattle.records.specs.declared.ReadAnswer.the-variants.{Accepted, Refused}
-use Rattle.records.specs.declared.Counts.{Counts}
 use Rattle.records.specs.Tables.{Tables}
-use Rattle.records.specs.Read.{Reading, good, bad, readOf, answerOf, tablesOf}
-use Rattle.index.specs.Index.{Loaded, Held}
-use Rattle.index.specs.Load.{load-loaded}
+use Rattle.records.specs.Read.{Reading, good, bad, readOf, tablesOf}
+use Rattle.index.specs.Index.{Loaded}
 use Rattle.index.specs.Found.{loaded-good}
 use Rattle.store.specs.declared.Size.{Size}
-use Rattle.store.specs.Graph.{Graph}
 use Rattle.store.specs.Table.{graphIn, Stored}
 use Rattle.links.specs.Build.{Chains}
-use Rattle.graph.specs.declared.Drawing.{Drawing}
-use Rattle.graph.specs.declared.Drawing.the-variants as D
 use Rattle.graph.specs.declared.Made.{Made}
 use Rattle.graph.specs.declared.Made.the-variants as M
-use Rattle.graph.specs.Graphs.{Outcome, drawn, refused, graphOf}
-use Rattle.graph.specs.Drawing.{Drew, drawingIn}
-use Rattle.graph.specs.Files.{outcomeBy, outcomeOf, madeIn, Standing, Makes, madeOf}
-
--- ---- the ways through the code
-
-pub made-whole : (d : Drawing) (x : Made) (s : Size) → d ≡ D.Whole s → x ≡ M.Whole s → x ≡ madeOf d
-made-whole d x s e q = rw e q
-
-pub made-refused : (d : Drawing) (x : Made) (k p : ℕ) (s : Size) → d ≡ D.Refused k p s → x ≡ M.Refused k p → x ≡ madeOf d
-made-refused d x k p s e q = rw e q
-
--- the reader's answer a taken apart
-module _ (file : List ℕ) (a : ReadAnswer) (q : a ≡ answerOf (readOf file)) where
-  read-bad : (k p : ℕ) → a ≡ Refused k p → readOf file ≡ bad k p
-  read-bad k p e = go (readOf file) (sym e ∙ q)
-    where
-      go : (y : Reading) → Refused k p ≡ answerOf y → y ≡ bad k p
-      go (bad l i) f = cc
-      go (good T) f = clash (cc)
-
-  pub makes-unread : (ix g w : List ℕ) (r : Made) (k p : ℕ) → a ≡ Refused k p → r ≡ M.Refused k p → Makes file ix g w r
-  unfolding outcomeOf
-  makes-unread ix g w r k p e h = rw h (record { is = rw (read-bad k p e); standing = tt })
-
-standing-made : (file ix g w : List ℕ) (X : Outcome) (G : Graph) (d : Drawing) → Loaded file ix → Drew X G g w d → Standing file ix g w (madeOf d)
-standing-made file ix g w X G (D.Whole s) L R = (L, R .chained)
-standing-made file ix g w X G (D.Refused k p s) L R = tt
-
-made-drawing : (g : List ℕ) (d : Drawing) → madeIn g (madeOf d) ≡ drawingIn g d
-made-drawing g (D.Whole s) = refl
-made-drawing g (D.Refused k p s) = refl
-
-pub makes-drew : (file ix iy g w : List ℕ) (a : ReadAnswer) (c : Counts) (G : Graph) (d : Drawing) (r : Made) → a ≡ Accepted c → Held a file ix iy
-    → Drew (graphOf (tablesOf file)) G g w d → r ≡ madeOf d → Makes file iy g w r
-unfolding outcomeOf
-makes-drew file ix iy g w a c G d r e H R h =
-    let L : Loaded file iy = load-loaded file ix iy a c H e in
-    rw h
-    (record {
-      is = made-drawing g d ∙ R .is ∙ rw (loaded-good file iy L);
-      standing = standing-made file iy g w (graphOf (tablesOf file)) G d L R;
-    })
+use Rattle.graph.specs.Graphs.{drawn, refused, graphOf}
+use Rattle.graph.specs.Files.{outcomeBy, outcomeOf, madeIn, Standing, Makes}
 
 -- ---- for callers: what the answer tells them
 

@@ -18,7 +18,7 @@ renumber-all-spec =
     tie.close
     (tie.spec Inv-loop μ-loop
     (λ c. (search needs, search laws))
-    (λ c. search needs) (λ c. search needs) (λ c κs. search needs) (λ c. search needs) (λ c. search needs)
+    (λ c κs. search needs)
     (λ c. search needs) (λ c. search needs)
     (λ c. (search needs, search laws))
     (λ c. search laws))

@@ -20,7 +20,7 @@ spared-spec =
     tie.close
     (tie.spec Inv-loop μ-loop
     (λ c. (search needs, search laws))
-    (λ c κs. search needs)
+    (λ c. search needs) (λ c. search needs)
     (λ c. search laws)
     (λ c. search needs) (λ c. search needs)
     (λ c. (search needs, search laws))

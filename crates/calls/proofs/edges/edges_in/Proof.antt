@@ -1,5 +1,5 @@
 use borrow.Author.Needs.{needs}
-use Rattle.graph.specs.Laws.Files.{makes-stored}
+use Rattle.graph.specs.Checked.{checks-stored}
 use Rattle.calls.specs.Laws.Edges.{bytes-refused, bytes-refused-list, bytes-whole, bytes-whole-list}
 use Rattle.calls.proofs.edges.edges_in.Statement.{statement}
 use Rattle.calls.proofs.edges.edges_in.Tie as tie
@@ -12,7 +12,7 @@ edges-in-spec =
     (λ c. search needs)
     (λ c κs. search needs)
     (λ c. search needs)
-    (λ c κs. search (needs, makes-stored))
+    (λ c κs. search (needs, checks-stored))
     (λ c. (search bytes-refused, search bytes-refused-list))
     (λ c. search needs)
     (λ c. (search bytes-whole, search bytes-whole-list)))

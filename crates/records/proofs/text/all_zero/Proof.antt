@@ -1,7 +1,7 @@
 use borrow.Author.Needs.{needs}
 use Prim.Native.Nat.{_≤_, _-_}
 use lib.ListN.{length}
-use Rattle.records.specs.Text.{ZeroLeft, zero-start, zero-stop, zero-next, zero-end, eight-next, eight-stop}
+use Rattle.records.specs.Text.{ZeroLeft, zero-start, zero-stop, zero-next, zero-end, eight-next, eight-stop, last-eight}
 use Rattle.records.proofs.text.all_zero.Statement.{statement}
 use Rattle.records.proofs.text.all_zero.Tie as tie
 
@@ -28,6 +28,9 @@ all-zero-spec =
     (λ c. search needs)
     (λ c. search needs)
     (λ c. (search needs, search (needs, eight-next)))
+    (λ c. search needs)
+    (λ c κs. search needs)
+    (λ c. search (needs, last-eight))
     (λ c. search needs)
     (λ c. search needs)
     (λ c. search (needs, zero-stop))

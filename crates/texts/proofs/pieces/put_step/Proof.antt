@@ -8,5 +8,5 @@ put-step-spec =
     tie.close
     (tie.spec
     (λ c κs. (search needs, (search needs, search eight-room))) (λ c. search needs) (λ c. (search eight-step, search needs))
-    (λ c κs. search needs) (λ c κs. (search needs, (search needs, (search needs, search rest-room)))) (λ c. search needs)
+    (λ c κs. search needs) (λ c κs. search needs) (λ c κs. (search needs, (search needs, (search needs, search rest-room)))) (λ c. search needs)
     (λ c. (search rest-near, search needs)))

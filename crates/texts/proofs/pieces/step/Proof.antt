@@ -8,4 +8,4 @@ step-spec =
     tie.close
     (tie.spec
     (λ c. (search step-byte, search needs, search byte-enough))
-    (λ c κs. search needs) (λ c κs. search needs) (λ c. (search step-fewer, search needs, search needs)))
+    (λ c κs. search needs) (λ c κs. search needs) (λ c κs. search needs) (λ c. (search step-fewer, search needs, search needs)))
