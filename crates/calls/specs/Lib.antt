@@ -1,13 +1,10 @@
 pub mod Answers
 pub mod Nodes
-pub mod Draws
 pub mod Says
+pub mod Plans
 pub mod Plain
-pub mod Edges
 pub mod Air
 pub mod Settings
 pub mod Write
 pub mod WhatIf
-pub mod Wall
-pub mod Season
 pub mod Laws

@@ -9,7 +9,7 @@ ghost use Rattle.graph.specs.Graphs.{graphOf, drawn};
 ghost use Rattle.drawing.specs.Same.{optionOf};
 ghost use Rattle.calls.specs.Air.{SaysAir};
 use crate::Answer;
-use crate::checks::refusal;
+use crate::answers::refusal;
 use crate::explains::explain_whole;
 use air::Profile;
 use graph::Made;

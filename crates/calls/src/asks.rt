@@ -12,7 +12,7 @@ ghost use Rattle.whatif.specs.Asked.{askTables};
 ghost use Rattle.drawing.specs.Same.{optionOf};
 ghost use Rattle.calls.specs.WhatIf.{SaysWhatIf};
 use crate::Answer;
-use crate::checks::refusal;
+use crate::answers::refusal;
 use crate::explains::explain_marked;
 use graph::Made;
 use index::Slots;

@@ -2,33 +2,14 @@
 ghost use mathlib.Core.Path.{_≡_};
 ghost use lib.ListN.{length, replicate};
 ghost use Rattle.index.specs.Index.{Blank};
-ghost use Rattle.calls.specs.Answers.{refusalOf, checkOf};
+ghost use Rattle.calls.specs.Answers.{checkOf};
 use crate::Answer;
+use crate::answers::refusal;
 use graph::Made;
 use index::Slots;
 use store::ChainWords;
 use store::GraphWords;
 use store::Scratch;
-
-// "the last three are 0 for 1 to 9 and 12"; 0 means done.
-pub fn refusal(number: u64, place: u64) -> Answer
-    ensures { λ r. ⌜ r ≡ refusalOf number place ⌝ }
-{
-    Answer {
-        number,
-        place,
-        bytes: 0,
-        units: 0,
-        depth: 0,
-    }
-}
-
-// A number as an answer holds it.
-pub fn wide(x: usize) -> u64
-    ensures { λ r. ⌜ r ≡ x ⌝ }
-{
-    x as u64
-}
 
 // A graph that is drawn is done.
 pub fn check_in(

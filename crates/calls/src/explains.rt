@@ -10,15 +10,13 @@ ghost use Rattle.labels.specs.Marks.{labelBits};
 ghost use Rattle.shape.specs.Graphed.{Graphed};
 ghost use Rattle.graph.specs.Graphs.{graphOf, drawn};
 ghost use Rattle.plan.specs.Plan.{shownOf};
-ghost use Rattle.plan.specs.Planned.{Planned};
 ghost use Rattle.planning.specs.Building.{FreshPlan};
-ghost use Rattle.explanation.specs.Walk.{Ready};
 ghost use Rattle.drawing.specs.Same.{optionOf};
-ghost use Rattle.calls.specs.Says.{Says, Shows, PlannedAs, Walked, editionOf, toldAs};
+ghost use Rattle.calls.specs.Says.{Says, Shows, PlannedAs, editionOf};
 use crate::Answer;
-use crate::checks::refusal;
-use crate::checks::wide;
-use explanation::walk::WalkAnswer;
+use crate::answers::refusal;
+use crate::plans::plan_of;
+use crate::plans::walk_plan;
 use graph::Made;
 use index::Slots;
 use store::ChainWords;
@@ -26,30 +24,6 @@ use store::GraphWords;
 use store::PerNode;
 use store::Scratch;
 use store::Size;
-
-// Groups, then the plan, where the labels are known.
-pub fn plan_of(
-    file: &[u8],
-    ix: &Slots,
-    g: &GraphWords,
-    s: Size,
-    ls: &ChainWords,
-    marks: &PerNode,
-    p: &mut Scratch,
-    k: &mut [u16; 1024],
-)
-    requires { ⌜ Loaded (now file) (now ix) ⌝ }
-    requires { ⌜ Chains (now g) s (now ls) ⌝ }
-    requires { ⌜ now marks ≡ labelBits (graphIn (now g) s) ⌝ }
-    requires { ⌜ FreshPlan (now p) (now k) ⌝ }
-    ensures { λ _. ⌜ Planned (shownOf (tablesOf (now (file .entry))) (graphIn (now (g .entry)) s)) (now (p .exit)) (now (k .exit)) ⌝ }
-    ensures { λ _. ⌜ length (now (p .exit)) ≡ 1280 ⌝ }
-{
-    let mut leads = [0u16; 128];
-    naming::group_named(file, ix, g, s, ls, &mut leads);
-    let mut gr = [0u16; 128];
-    planning::build_plan(file, ix, g, s, ls, marks, &leads, &mut gr, p, k);
-}
 
 // The plan as the edition reads it (order 11).
 fn plan_as(
@@ -71,35 +45,6 @@ fn plan_as(
 {
     plan_of(file, ix, g, s, ls, marks, p, k);
     plan::reading::read_as(p, every);
-}
-
-fn told(t: WalkAnswer) -> Answer
-    ensures { λ r. ⌜ r ≡ toldAs t ⌝ }
-{
-    Answer {
-        number: t.number,
-        place: wide(t.place),
-        bytes: wide(t.bytes),
-        units: wide(t.units),
-        depth: wide(t.depth),
-    }
-}
-
-// The walk over a plan, as an answer.
-pub fn walk_plan(
-    file: &[u8],
-    ix: &Slots,
-    p: &Scratch,
-    k: &[u16; 1024],
-    top: bool,
-    room: &mut [u8],
-) -> Answer
-    requires { ⌜ Loaded (now file) (now ix) ⌝ }
-    requires { ⌜ Ready (tablesOf (now file)) (now p) (now k) ⌝ }
-    ensures { λ r. ⌜ Walked (tablesOf (now (file .entry))) (now (p .entry)) (now (k .entry)) top (now (room .entry)) (now (room .exit)) r ⌝ }
-{
-    let t = explanation::walk::explain_plan(file, ix, p, k, room, top);
-    told(t)
 }
 
 // What is shown of a graph whose labels are known. The table that held the triples is cleared and holds the plan.

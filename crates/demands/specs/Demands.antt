@@ -25,8 +25,8 @@ use Rattle.plan.specs.Plan.{shownOf}
 use Rattle.texts.specs.Wrote.{over}
 use Rattle.drawing.specs.Draw.{drawnOf, drawingUnits}
 use Rattle.wall.specs.Export.{exportUnits}
-use Rattle.wall.specs.Lent.{tgfCounts, tgfNodes, tgfEdges}
-use Rattle.wall.specs.Read.{readText}
+use Rattle.tgf.specs.Lent.{tgfCounts, tgfNodes, tgfEdges}
+use Rattle.tgf.specs.Read.{readText}
 use Rattle.salvage.specs.Lent.{salvageAnswer, salvageRoom, salvageList}
 use Rattle.writing.specs.Write.{writeAnswer, writeRoom}
 use Rattle.settings.specs.Change.{changeOf, roomOf}
@@ -41,11 +41,11 @@ use Rattle.calls.specs.declared.Answer.{Answer}
 use Rattle.calls.specs.Answers.{refusalOf, checkOf}
 use Rattle.calls.specs.Air.{airOf, SaysAir}
 use Rattle.calls.specs.Laws.Air.{says-air-one}
-use Rattle.calls.specs.Draws.{resultAnswer, drawFile}
-use Rattle.calls.specs.Edges.{edgesAnswer, edgesLeft}
+use Rattle.charts.specs.Draws.{resultAnswer, drawFile}
+use Rattle.charts.specs.Edges.{edgesAnswer, edgesLeft}
 use Rattle.calls.specs.Nodes.{nodesAnswer, nodesLeft}
 use Rattle.calls.specs.Settings.{changeAnswer}
-use Rattle.calls.specs.Wall.{exportFile}
+use Rattle.charts.specs.Wall.{exportFile}
 use Rattle.calls.specs.WhatIf.{whatIfAnswer, whatIfLeft, SaysWhatIf}
 use Rattle.calls.specs.Laws.WhatIf.{says-what-if-one}
 use Rattle.calls.specs.Write.{writtenAnswer}

@@ -1,3 +1,10 @@
+pub mod Noted
+pub mod Cored
+pub mod OtherEdges
+pub mod OtherGroups
+pub mod OtherLabels
+pub mod OtherGraphviz
+pub mod OtherExplanation
 pub mod Numbers
 pub mod Calls
 pub mod Counts

@@ -15,7 +15,7 @@ use Rattle.store.specs.Graph.{Graph}
 use Rattle.graph.specs.Graphs.{drawn, graphOf}
 use Rattle.labels.specs.Runs.{Run}
 use Rattle.groups.specs.Groups.{groups, singles}
-use Rattle.naming.specs.Naming.{nameOf}
+use Rattle.groups.specs.Naming.{nameOf}
 use Rattle.machine.specs.Machine.{Plan, State, after, shows, loops, stopOf}
 use Rattle.machine.specs.Units.{TextUnit, Result, textOf, depthOf}
 use Rattle.machine.specs.Explained.{unitsFor}

@@ -1,3 +1,1 @@
-pub mod CaptionShort
-pub mod CaptionSizes
 pub mod Quoted

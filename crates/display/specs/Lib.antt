@@ -1,4 +1,3 @@
-pub mod Captions
 pub mod Laws
 pub mod PackageWriting
 pub mod PackageLengths

@@ -56,6 +56,18 @@ fn put_versions(file: &[u8], ix: &Slots, p: &Scratch, out: &mut [u8], x: usize) 
     at
 }
 
+// Two further versions.
+fn put_two(file: &[u8], ix: &Slots, out: &mut [u8], a: u16, b: u16) -> usize
+    requires { ⌜ Loaded (now file) (now ix) ⌝ }
+    requires { ⌜ 6 + length (versionText (tablesOf (now file)) a) + length (versionText (tablesOf (now file)) b) ≤ length (now out) ⌝ }
+    ensures { λ r. ⌜ r ≡ 6 + length (versionText (tablesOf (now (file .entry))) a) + length (versionText (tablesOf (now (file .entry))) b) ⌝ }
+    ensures { λ r. ⌜ Wrote (nextVersion (tablesOf (now (file .entry))) a ++ nextVersion (tablesOf (now (file .entry))) b) (now (out .entry))
+        (now (out .exit)) r ⌝ }
+{
+    let i = put_version(file, ix, out, a);
+    i + put_version(file, ix, &mut out[i..], b)
+}
+
 // Two versions, dots for those that are left out, and the last.
 fn put_ends(file: &[u8], ix: &Slots, out: &mut [u8], a: u16, b: u16, z: u16) -> usize
     requires { ⌜ Loaded (now file) (now ix) ⌝ }
@@ -63,10 +75,9 @@ fn put_ends(file: &[u8], ix: &Slots, out: &mut [u8], a: u16, b: u16, z: u16) -> 
         ≤ length (now out) ⌝ }
     ensures { λ r. ⌜ Wrote (endsText (tablesOf (now (file .entry))) a b z) (now (out .entry)) (now (out .exit)) r ⌝ }
 {
-    let i = put_version(file, ix, out, a);
-    let j = i + put_version(file, ix, &mut out[i..], b);
-    let k = j + wordings::dots(&mut out[j..]);
-    k + put_version(file, ix, &mut out[k..], z)
+    let i = put_two(file, ix, out, a, b);
+    let j = i + wordings::dots(&mut out[i..]);
+    j + put_version(file, ix, &mut out[j..], z)
 }
 
 // What stands behind the first version: the other versions, or where they are more than five two of them and the last.
@@ -88,7 +99,7 @@ fn put_further(file: &[u8], ix: &Slots, p: &Scratch, out: &mut [u8], x: usize) -
 }
 
 // The name and the first version.
-fn put_first(out: &mut [u8], name: &[u8], version: &[u8]) -> usize
+pub fn put_first(out: &mut [u8], name: &[u8], version: &[u8]) -> usize
     requires { ⌜ length (now name) + 1 + length (now version) ≤ length (now out) ⌝ }
     ensures { λ r. ⌜ r ≡ length (now (name .entry)) + 1 + length (now (version .entry)) ⌝ }
     ensures { λ r. ⌜ Wrote (now (name .entry) ++ utf8 " " ++ now (version .entry)) (now (out .entry)) (now (out .exit)) r ⌝ }

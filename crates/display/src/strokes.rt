@@ -104,6 +104,17 @@ fn put_paint(out: &mut [u8], red: bool) -> usize
     graphviz::black(out)
 }
 
+// The opening quote and the end that the edge leaves.
+fn put_source(file: &[u8], ix: &Slots, out: &mut [u8], x: ConflictNode) -> usize
+    requires { ⌜ Loaded (now file) (now ix) ⌝ }
+    requires { ⌜ length (quoted (nodeText (tablesOf (now file)) x)) + 1 ≤ length (now out) ⌝ }
+    ensures { λ r. ⌜ r ≡ length (quoted (nodeText (tablesOf (now (file .entry))) x)) + 1 ⌝ }
+    ensures { λ r. ⌜ Wrote (utf8 "\"" ++ quoted (nodeText (tablesOf (now (file .entry))) x)) (now (out .entry)) (now (out .exit)) r ⌝ }
+{
+    let a = graphviz::quote(out);
+    a + put_node(file, ix, &mut out[a..], x)
+}
+
 // Both ends, quoted.
 fn put_ends(file: &[u8], ix: &Slots, out: &mut [u8], x: ConflictNode, y: ConflictNode) -> usize
     requires { ⌜ Loaded (now file) (now ix) ⌝ }
@@ -112,10 +123,30 @@ fn put_ends(file: &[u8], ix: &Slots, out: &mut [u8], x: ConflictNode, y: Conflic
     ensures { λ r. ⌜ Wrote (utf8 "\"" ++ quoted (nodeText (tablesOf (now (file .entry))) x) ++ utf8 "\" -> \""
         ++ quoted (nodeText (tablesOf (now (file .entry))) y)) (now (out .entry)) (now (out .exit)) r ⌝ }
 {
-    let a = graphviz::quote(out);
-    let b = a + put_node(file, ix, &mut out[a..], x);
-    let d = b + graphviz::arrow(&mut out[b..]);
-    d + put_node(file, ix, &mut out[d..], y)
+    let a = put_source(file, ix, out, x);
+    let b = a + graphviz::arrow(&mut out[a..]);
+    b + put_node(file, ix, &mut out[b..], y)
+}
+
+// Both ends and the colour.
+fn put_line(
+    file: &[u8],
+    ix: &Slots,
+    out: &mut [u8],
+    x: ConflictNode,
+    y: ConflictNode,
+    red: bool,
+) -> usize
+    requires { ⌜ Loaded (now file) (now ix) ⌝ }
+    requires { ⌜ length (quoted (nodeText (tablesOf (now file)) x)) + length (quoted (nodeText (tablesOf (now file)) y)) + 7 + length (paint red)
+        ≤ length (now out) ⌝ }
+    ensures { λ r. ⌜ r
+        ≡ length (quoted (nodeText (tablesOf (now (file .entry))) x)) + length (quoted (nodeText (tablesOf (now (file .entry))) y)) + 7 + length (paint red) ⌝ }
+    ensures { λ r. ⌜ Wrote (utf8 "\"" ++ quoted (nodeText (tablesOf (now (file .entry))) x) ++ utf8 "\" -> \""
+        ++ quoted (nodeText (tablesOf (now (file .entry))) y) ++ paint red) (now (out .entry)) (now (out .exit)) r ⌝ }
+{
+    let a = put_ends(file, ix, out, x, y);
+    a + put_paint(&mut out[a..], red)
 }
 
 // An edge from x to y that says w.
@@ -132,10 +163,9 @@ pub fn put_stroke(
     requires { ⌜ strokeSize (tablesOf (now file)) x y red w ≤ length (now out) ⌝ }
     ensures { λ r. ⌜ Wrote (stroke (tablesOf (now (file .entry))) x y red w) (now (out .entry)) (now (out .exit)) r ⌝ }
 {
-    let a = put_ends(file, ix, out, x, y);
-    let b = a + put_paint(&mut out[a..], red);
-    let d = b + put_label(file, ix, &mut out[b..], w);
-    d + graphviz::edge_end(&mut out[d..])
+    let a = put_line(file, ix, out, x, y, red);
+    let b = a + put_label(file, ix, &mut out[a..], w);
+    b + graphviz::edge_end(&mut out[b..])
 }
 
 // Whether an edge that says w and leads to x is red: all are but a requirement that has a candidate.

@@ -9,3 +9,8 @@ pub mod Prints
 pub mod Laws
 pub mod Leads
 pub mod Texts
+pub mod Firsts
+pub mod Naming
+pub mod Noted
+pub mod Named
+pub mod NameSamples

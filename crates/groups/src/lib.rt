@@ -2,6 +2,7 @@
 mod keys;
 mod leads;
 pub mod names;
+pub mod naming;
 mod prints;
 
 ghost use mathlib.Core.Path.{_≡_};

@@ -11,7 +11,7 @@ use Rattle.store.specs.Graph.{Graph, nodeAt, firstAt}
 use Rattle.graph.specs.Graphs.{Outcome, drawn, refused, graphOf}
 use Rattle.labels.specs.Labels.{installables, missings, installable, missing}
 use Rattle.groups.specs.Groups.{leadOf}
-use Rattle.naming.specs.Naming.{nameOf}
+use Rattle.groups.specs.Naming.{nameOf}
 use Rattle.store.specs.Numbers.{nodeNumber}
 use Rattle.store.specs.Numbers.{nodeKind}
 use Rattle.lists.specs.declared.entries.NodeEntry.{NodeEntry}

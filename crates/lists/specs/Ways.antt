@@ -25,7 +25,7 @@ use Rattle.labels.specs.Labels.{installable, missing}
 use Rattle.labels.specs.Marks.{bitsOf, labelBits, marks-at}
 use Rattle.groups.specs.Groups.{titleOf, leadBy, leadOf}
 use Rattle.groups.specs.Leads.{leadsTo, leads-at, lead-le}
-use Rattle.naming.specs.Naming.{nameOf}
+use Rattle.groups.specs.Naming.{nameOf}
 use Rattle.lists.specs.Listing.{entriesTo, kind-small}
 use Rattle.store.specs.Numbers.{nodeKind}
 use Rattle.lists.specs.Listing as W

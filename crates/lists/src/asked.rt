@@ -55,7 +55,7 @@ fn list_marked(
         return refusal(10, 0);
     }
     let mut leads = [0u16; 128];
-    naming::group_named(file, ix, g, s, ls, &mut leads);
+    groups::naming::group_named(file, ix, g, s, ls, &mut leads);
     crate::words::list(g, s, marks, &leads, words);
     Counted {
         number: 0,

@@ -59,7 +59,7 @@ fn list_in(
         return refusal(10, 0);
     }
     labels::label(g, s, ls, marks);
-    naming::group_named(file, ix, g, s, ls, leads);
+    groups::naming::group_named(file, ix, g, s, ls, leads);
     crate::words::list(g, s, marks, leads, words);
     Counted {
         number: 0,

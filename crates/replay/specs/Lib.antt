@@ -1,10 +1,2 @@
-pub mod Again
-pub mod Asked
-pub mod Head
-pub mod Later
-pub mod Latest
-pub mod Seasons
-pub mod Seen
-pub mod Sum
+pub mod Compared
 pub mod Tally
-pub mod Walls

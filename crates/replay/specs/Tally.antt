@@ -6,7 +6,7 @@ use Prim.Native.Nat.{ℕ, _+_, _%_, _^_}
 use lib.Dec.{eqb}
 use borrow.Author.Tests.{eq-eqb, ne-eqb}
 use Rattle.replay.specs.declared.Tally.{Tally}
-use Rattle.replay.specs.Head.{wordAt}
+use Rattle.again.specs.Head.{wordAt}
 
 -- the list goes no further
 abbrev pub stoppedAt : Tally → Tally

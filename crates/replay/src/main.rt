@@ -1,24 +1,16 @@
 // Replays a list of recorded answers of conflict.rs: each call is made again, on a room that holds 165 in every byte, and its answer
 // and the checksum of the whole room are compared with what is recorded (host/oracle/src/record.rs makes the list and tells its form).
 // One line for each file: the shape, the seed and the recorded numbers; below it what differs.
-mod asked;
 mod compares;
-mod early;
-mod heads;
-mod later;
-mod latest;
-mod seasons;
-mod sums;
-mod walls;
 
 ghost use mathlib.Core.Path.{_≡_};
-ghost use Prim.Native.Nat.{_+_, _%_, _^_};
+ghost use Prim.Native.Nat.{_+_, _<_, _%_, _^_};
 ghost use Rattle.replay.specs.Tally.{stoppedAt, oneMore, endedBy};
+use again::Seen;
+use again::heads::recorded;
+use again::heads::word;
 use compares::agrees;
-use compares::replayed;
-use early::Seen;
-use heads::recorded;
-use heads::word;
+use remade::replayed;
 
 // What has been replayed; `on` while more may come, `whole` once the end was met with the right counts.
 struct Tally {
@@ -52,17 +44,21 @@ fn say_seen(s: Seen) {
     say_next(s.sum);
 }
 
+// A text, and the word of a head that stands there.
+fn say_word(text: &[u8], head: &[u8], at: usize)
+    requires { ⌜ at < 1024 ⌝ }
+{
+    say(text);
+    say_next(word(head, at));
+}
+
 // The call of a head that does not agree.
 fn say_call(head: &[u8]) {
-    say(b"\n  differs: call");
-    say_next(word(head, 8));
-    say(b", option");
-    say_next(word(head, 16));
-    say(b", words");
-    say_next(word(head, 80));
-    say_next(word(head, 88));
-    say(b", room");
-    say_next(word(head, 24));
+    say_word(b"\n  differs: call", head, 8);
+    say_word(b", option", head, 16);
+    say_word(b", words", head, 80);
+    say_word(b"", head, 88);
+    say_word(b", room", head, 24);
     say(b"\n    recorded:");
     say_seen(recorded(head));
 }
@@ -124,29 +120,34 @@ fn one_more(t: Tally, differ: u64) -> Tally
     }
 }
 
-// One call on the file.
-fn call(fd: i32, file: &[u8], t: Tally) -> Tally {
+// The call of a head, on the file.
+fn call(file: &[u8], head: &[u8], t: Tally) -> Tally {
+    if word(head, 0) != 2 {
+        return stopped(t);
+    }
+    say_next(word(head, 32));
+    if agrees(file, head) {
+        return one_more(t, t.differ);
+    }
+    say_call(head);
+    say_now(file, head);
+    one_more(t, more(t.differ))
+}
+
+// The next call on the file.
+fn next_call(fd: i32, file: &[u8], t: Tally) -> Tally {
     let mut head = [0u8; 96];
     if !filled(fd, &mut head, 96) {
         return stopped(t);
     }
-    if word(&head, 0) != 2 {
-        return stopped(t);
-    }
-    say_next(word(&head, 32));
-    if agrees(file, &head) {
-        return one_more(t, t.differ);
-    }
-    say_call(&head);
-    say_now(file, &head);
-    one_more(t, more(t.differ))
+    call(file, &head, t)
 }
 
 fn calls_on(fd: i32, file: &[u8], n: u64, t: Tally) -> Tally {
     let mut u = t;
     let mut i: u64 = 0;
     while i < n {
-        u = call(fd, file, u);
+        u = next_call(fd, file, u);
         i = i + 1;
     }
     u
@@ -216,19 +217,23 @@ fn ended(head: &[u8], t: Tally) -> Tally
     }
 }
 
+fn file_or_end(fd: i32, file: &mut [u8], head: &[u8], t: Tally) -> Tally {
+    let kind = word(head, 0);
+    if kind == 1 {
+        return file_and_calls(fd, file, head, t);
+    }
+    if kind == 3 {
+        return ended(head, t);
+    }
+    stopped(t)
+}
+
 fn next(fd: i32, file: &mut [u8], t: Tally) -> Tally {
     let mut head = [0u8; 96];
     if !filled(fd, &mut head, 96) {
         return stopped(t);
     }
-    let kind = word(&head, 0);
-    if kind == 1 {
-        return file_and_calls(fd, file, &head, t);
-    }
-    if kind == 3 {
-        return ended(&head, t);
-    }
-    stopped(t)
+    file_or_end(fd, file, &head, t)
 }
 
 fn replay(fd: i32, file: &mut [u8]) -> Tally {
@@ -250,13 +255,15 @@ fn replay(fd: i32, file: &mut [u8]) -> Tally {
     t
 }
 
+fn say_count(n: u64, text: &[u8]) {
+    say_number(n);
+    say(text);
+}
+
 fn say_all(t: Tally) {
-    say_number(t.files);
-    say(b" files, ");
-    say_number(t.answers);
-    say(b" answers, ");
-    say_number(t.differ);
-    say(b" differ\n");
+    say_count(t.files, b" files, ");
+    say_count(t.answers, b" answers, ");
+    say_count(t.differ, b" differ\n");
     if t.whole {
         return;
     }

@@ -6,6 +6,7 @@ use reader::text_of;
 use urzulempa::urzulempa_explain;
 ghost use mathlib.Core.Path.{_≡_};
 ghost use Prim.Native.Nat.{_≤_, min};
+ghost use lib.ListN.{length};
 ghost use Rattle.records.specs.Text.{allText};
 ghost use Rattle.shift_log.specs.Log.{Numbered, counted, unreadMore};
 
@@ -24,39 +25,68 @@ fn say_number(n: u64) {
     io::print_decimal(1, n);
 }
 
-// A clause, by its kind.
-fn say_clause(kind: u8) {
-    match kind {
-        16 => say(b"InstallRoot"),
-        17 => say(b"Excluded"),
-        18 => say(b"Learnt"),
-        19 => say(b"Requires"),
-        20 => say(b"Lock"),
-        21 => say(b"ForbidMultipleInstances"),
-        22 => say(b"Constrains"),
-        23 => say(b"ConstrainsParent"),
-        24 => say(b"ConstrainsExcluded"),
-        25 => say(b"AnyOf"),
-        _ => {
-            say(b"kind ");
-            say_number(kind as u64);
-        }
+fn say_with(text: &[u8], n: u64) {
+    say(text);
+    say_number(n);
+}
+
+// Where the text behind the one at `at` begins. The texts of a list stand behind one another, each ends with a bar.
+fn behind(list: &[u8], at: usize) -> usize
+    requires { ⌜ at ≤ length (now list) ⌝ }
+    ensures { λ r. ⌜ r ≤ length (now (list .entry)) ⌝ }
+{
+    let e = bytes::scan::find(list, at, list.len(), b'|');
+    if e < list.len() {
+        return e + 1;
     }
+    e
+}
+
+// Where text n of a list begins, counted from 0.
+fn nth(list: &[u8], n: u64) -> usize
+    ensures { λ r. ⌜ r ≤ length (now (list .entry)) ⌝ }
+{
+    let mut at: usize = 0;
+    let mut k: u64 = 0;
+    while k < n {
+        at = behind(list, at);
+        k = k + 1;
+    }
+    at
+}
+
+fn say_nth(list: &[u8], n: u64) {
+    let at = nth(list, n);
+    let e = bytes::scan::find(list, at, list.len(), b'|');
+    say(&list[at..e]);
+}
+
+// A clause, by its kind.
+fn say_clause(kind: u64) {
+    if kind < 16 {
+        say_with(b"kind ", kind);
+        return;
+    }
+    if kind > 25 {
+        say_with(b"kind ", kind);
+        return;
+    }
+    say_nth(
+        b"InstallRoot|Excluded|Learnt|Requires|Lock|ForbidMultipleInstances|Constrains|ConstrainsParent|ConstrainsExcluded|AnyOf|",
+        kind - 16,
+    );
 }
 
 // A kind of record.
-fn say_kind(kind: u8) {
-    match kind {
-        1 => say(b"name"),
-        2 => say(b"solvable"),
-        3 => say(b"version set"),
-        4 => say(b"requirement"),
-        5 => say(b"candidate"),
-        6 => say(b"reason"),
-        7 => say(b"variable"),
-        8 => say(b"assigned-by"),
-        _ => say_clause(kind),
+fn say_kind(kind: u64) {
+    if kind < 9 {
+        say_nth(
+            b"kind 0|name|solvable|version set|requirement|candidate|reason|variable|assigned-by|",
+            kind,
+        );
+        return;
     }
+    say_clause(kind);
 }
 
 // Each byte can be shown: "each from 32 to 126".
@@ -93,7 +123,7 @@ fn say_quoted(text: &[u8]) {
 // Which record it is: its kind, and its text.
 fn say_which(file: &[u8], i: usize) {
     say(b" (");
-    say_kind(kind_of(file, i));
+    say_kind(kind_of(file, i) as u64);
     say_quoted(text_of(file, i));
     say(b")");
 }
@@ -104,56 +134,46 @@ fn say_place(file: &[u8], number: u64, place: u64) {
         return;
     }
     if number < 7 {
-        say(b" at record ");
-        say_number(place);
+        say_with(b" at record ", place);
         say_which(file, place as usize);
         return;
     }
     if number < 9 {
-        say(b" at clause ");
-        say_number(place);
+        say_with(b" at clause ", place);
         return;
     }
     if number == 9 {
-        say(b" at node ");
-        say_number(place);
+        say_with(b" at node ", place);
         return;
     }
     if number == 11 {
-        say(b" at solvable ");
-        say_number(place);
-    }
-}
-
-// A record that is refused: 1 to 6.
-fn say_record(number: u64) {
-    match number {
-        1 => say(b"no file of 32-byte records, or too long"),
-        2 => say(b"a kind of record that does not exist"),
-        3 => say(b"a bad length, flag, text byte or origin, or a byte that has to be 0"),
-        4 => say(b"out of order, or names what is not defined before it"),
-        5 => say(b"names a variable of an origin that is not allowed there"),
-        6 => say(b"one more than its table holds"),
-        _ => say(b"no such refusal"),
+        say_with(b" at solvable ", place);
     }
 }
 
 // Why a file has no whole explanation.
 fn say_reason(number: u64) {
-    match number {
-        7 => say(b"a learnt clause in the core"),
-        8 => say(b"the conflict is too large to draw"),
-        9 => say(b"not reached from the root"),
-        10 => say(b"the room was full"),
-        11 => say(b"its package comes to be opened below itself, the lines before that are whole"),
-        12 => say(b"the option is neither 0 nor 1"),
-        _ => say_record(number),
-    }
+    let n = if number < 13 { number } else { 0 };
+    say_nth(
+        b"no such refusal|\
+        no file of 32-byte records, or too long|\
+        a kind of record that does not exist|\
+        a bad length, flag, text byte or origin, or a byte that has to be 0|\
+        out of order, or names what is not defined before it|\
+        names a variable of an origin that is not allowed there|\
+        one more than its table holds|\
+        a learnt clause in the core|\
+        the conflict is too large to draw|\
+        not reached from the root|\
+        the room was full|\
+        its package comes to be opened below itself, the lines before that are whole|\
+        the option is neither 0 nor 1|",
+        n,
+    );
 }
 
 fn say_refusal(file: &[u8], number: u64, place: u64) {
-    say(b"refused with ");
-    say_number(number);
+    say_with(b"refused with ", number);
     say_place(file, number, place);
     say(b": ");
     say_reason(number);
@@ -168,12 +188,9 @@ fn say_result(file: &[u8], a: Answer) {
 }
 
 fn say_counts(a: Answer) {
-    say(b"; ");
-    say_number(a.units);
-    say(b" lines, ");
-    say_number(a.bytes);
-    say(b" bytes, depth ");
-    say_number(a.depth);
+    say_with(b"; ", a.units);
+    say_with(b" lines, ", a.bytes);
+    say_with(b" bytes, depth ", a.depth);
     say(b"\n");
 }
 
@@ -247,6 +264,24 @@ fn readable(fd: i32) -> bool {
     0 <= n
 }
 
+fn cannot(s: Shift) -> Shift
+    ensures { λ r. ⌜ r ≡ unreadMore s ⌝ }
+{
+    say(b"cannot be read\n\n");
+    not_read(s)
+}
+
+// An opened file.
+fn log_file(fd: i32, s: Shift) -> Shift {
+    if !readable(fd) {
+        libc::close(fd);
+        return cannot(s);
+    }
+    let number = read_and_tell(fd);
+    libc::close(fd);
+    one_more(s, number)
+}
+
 // The file that an argument names.
 fn log(i: usize, s: Shift) -> Shift {
     let mut path = io::buffer();
@@ -255,17 +290,9 @@ fn log(i: usize, s: Shift) -> Shift {
     say(b": ");
     let fd = os::open_read(&path[..n]);
     if fd < 0 {
-        say(b"cannot be read\n\n");
-        return not_read(s);
+        return cannot(s);
     }
-    if !readable(fd) {
-        libc::close(fd);
-        say(b"cannot be read\n\n");
-        return not_read(s);
-    }
-    let number = read_and_tell(fd);
-    libc::close(fd);
-    one_more(s, number)
+    log_file(fd, s)
 }
 
 fn log_all(count: usize) -> Shift {
@@ -284,11 +311,8 @@ fn log_all(count: usize) -> Shift {
 
 fn main() {
     let s = log_all(os::arg_count());
-    say(b"The shift: ");
-    say_number(s.done);
-    say(b" explained, ");
-    say_number(s.refused);
-    say(b" refused, ");
-    say_number(s.unread);
+    say_with(b"The shift: ", s.done);
+    say_with(b" explained, ", s.refused);
+    say_with(b" refused, ", s.unread);
     say(b" not read.\n");
 }

@@ -6,7 +6,7 @@ mod whatifs;
 use calls::Answer;
 use salvage::Salvaged;
 use settings::Settings;
-use wall::Counts;
+use tgf::Counts;
 ghost use mathlib.Core.Path.{_≡_};
 ghost use lib.ListN.{length};
 ghost use Rattle.salvage.specs.Lent.{salvageAnswer, salvageRoom, salvageList};
@@ -14,20 +14,20 @@ ghost use Rattle.season.specs.Words.{joinWords};
 ghost use Rattle.settings.specs.Change.{changeOf, roomOf};
 ghost use Rattle.settings.specs.Settings.{settingsOf};
 ghost use Rattle.texts.specs.Wrote.{over};
-ghost use Rattle.wall.specs.Lent.{tgfCounts, tgfNodes, tgfEdges};
-ghost use Rattle.wall.specs.Read.{readText};
+ghost use Rattle.tgf.specs.Lent.{tgfCounts, tgfNodes, tgfEdges};
+ghost use Rattle.tgf.specs.Read.{readText};
 ghost use Rattle.calls.specs.Air.{SaysAir};
 ghost use Rattle.calls.specs.Answers.{checkOf};
-ghost use Rattle.calls.specs.Draws.{resultAnswer, drawFile};
-ghost use Rattle.calls.specs.Edges.{edgesAnswer, edgesLeft};
+ghost use Rattle.charts.specs.Draws.{resultAnswer, drawFile};
+ghost use Rattle.charts.specs.Edges.{edgesAnswer, edgesLeft};
 ghost use Rattle.calls.specs.Plain.{plainOption};
 ghost use Rattle.calls.specs.Says.{Says};
-ghost use Rattle.calls.specs.Season.{Adds, joinAnswer};
+ghost use Rattle.seasons.specs.Season.{Adds, joinAnswer};
 ghost use Rattle.calls.specs.Settings.{changeAnswer};
 ghost use Rattle.calls.specs.Write.{writtenAnswer};
 ghost use Rattle.writing.specs.Write.{writeAnswer, writeRoom};
 ghost use Rattle.calls.specs.WhatIf.{SaysWhatIf};
-ghost use Rattle.calls.specs.Wall.{exportFile};
+ghost use Rattle.charts.specs.Wall.{exportFile};
 
 // Refusals 1 to 9, and no text.
 #[no_mangle]
@@ -43,7 +43,7 @@ pub extern "C" fn urzulempa_graphviz(file: &[u8], option: u64, room: &mut [u8]) 
     ensures { λ r. ⌜ r ≡ resultAnswer (drawFile (now (file .entry)) option (length (now (room .entry)))) ⌝ }
     ensures { λ _. ⌜ now (room .exit) ≡ over (drawFile (now (file .entry)) option (length (now (room .entry))) .text) (now (room .entry)) ⌝ }
 {
-    calls::draw(file, option, room)
+    charts::draw(file, option, room)
 }
 
 // The explanation by the reading rules of an edition (order 11): 1 is the Rust's, in 2 every package is reported when first shown.
@@ -107,7 +107,7 @@ pub extern "C" fn urzulempa_edges(file: &[u8], list: &mut [u16]) -> Answer
     ensures { λ r. ⌜ r ≡ edgesAnswer (now (file .entry)) (length (now (list .entry))) ⌝ }
     ensures { λ _. ⌜ now (list .exit) ≡ edgesLeft (now (file .entry)) (now (list .entry)) ⌝ }
 {
-    calls::list_edges(file, list)
+    charts::list_edges(file, list)
 }
 
 // Repairs a damaged file into the room and lists the numbers of the replaced records (order 7). 1 for above 65,536 bytes, a record's
@@ -179,7 +179,7 @@ pub extern "C" fn urzulempa_tgf(file: &[u8], room: &mut [u8]) -> Answer
     ensures { λ r. ⌜ r ≡ resultAnswer (exportFile (now (file .entry)) (length (now (room .entry)))) ⌝ }
     ensures { λ _. ⌜ now (room .exit) ≡ over (exportFile (now (file .entry)) (length (now (room .entry))) .text) (now (room .entry)) ⌝ }
 {
-    calls::export(file, room)
+    charts::export(file, room)
 }
 
 // Reads such a text back (order 14): two numbers a node, where its label begins and how long it is, and four an edge, its ends and the
@@ -190,7 +190,7 @@ pub extern "C" fn urzulempa_tgf_read(text: &[u8], nodes: &mut [u32], edges: &mut
     ensures { λ _. ⌜ now (nodes .exit) ≡ tgfNodes (readText (now (text .entry))) (now (nodes .entry)) (length (now (edges .entry))) ⌝ }
     ensures { λ _. ⌜ now (edges .exit) ≡ tgfEdges (readText (now (text .entry))) (length (now (nodes .entry))) (now (edges .entry)) ⌝ }
 {
-    wall::read(text, nodes, edges)
+    tgf::read(text, nodes, edges)
 }
 
 // Explains one file into the room as `urzulempa_explain_edition` does and adds it to a season's report of 27 numbers (order 8): how many
@@ -206,7 +206,7 @@ pub extern "C" fn urzulempa_season(
 ) -> Answer
     ensures { λ r. ⌜ Adds edition (now (file .entry)) option (now (report .entry)) (now (report .exit)) (now (room .entry)) (now (room .exit)) r ⌝ }
 {
-    calls::add_file(report, file, edition, option, room)
+    seasons::add_file(report, file, edition, option, room)
 }
 
 // Puts a second report behind the first (order 8): its file numbers follow the first's. 10 for a report that is not 27 numbers, 14 where
@@ -216,5 +216,5 @@ pub extern "C" fn urzulempa_join(report: &mut [u64], second: &[u64]) -> Answer
     ensures { λ r. ⌜ r ≡ joinAnswer (now (report .entry)) (now (second .entry)) ⌝ }
     ensures { λ _. ⌜ now (report .exit) ≡ joinWords (now (report .entry)) (now (second .entry)) ⌝ }
 {
-    calls::join_reports(report, second)
+    seasons::join_reports(report, second)
 }

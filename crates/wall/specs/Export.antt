@@ -9,8 +9,8 @@ use Rattle.store.specs.declared.Edge as Stored
 use Rattle.store.specs.Graph.{Graph}
 use Rattle.machine.specs.Units.{Result}
 use Rattle.drawing.specs.Graphviz.{fitUnits}
-use Rattle.display.specs.Captions.{nodeCaption, edgeCaption}
-use Rattle.wall.specs.Lines.{Label, WallEdge, nodeLine, hashLine, edgeLine, nodeLines, linesOf}
+use Rattle.wall.specs.Captions.{nodeCaption, edgeCaption}
+use Rattle.tgf.specs.Lines.{Label, WallEdge, nodeLine, hashLine, edgeLine, nodeLines, linesOf}
 
 -- the line of node i
 unfoldable pub nodeText : Tables → ℕ → ConflictNode → List ℕ

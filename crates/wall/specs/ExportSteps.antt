@@ -4,8 +4,8 @@ use lib.ListN.{length}
 use Rattle.records.specs.Tables.{Tables}
 use Rattle.store.specs.declared.ConflictNode.{ConflictNode}
 use Rattle.store.specs.declared.ConflictEdge.{ConflictEdge}
-use Rattle.display.specs.Captions.{nodeCaption, edgeCaption}
-use Rattle.wall.specs.Lines.{decimal}
+use Rattle.wall.specs.Captions.{nodeCaption, edgeCaption}
+use Rattle.tgf.specs.Lines.{decimal}
 
 abbrev pub nodeSize : Tables → ℕ → ConflictNode → ℕ
 nodeSize T i x = length (decimal i) + length (nodeCaption T x) + 2

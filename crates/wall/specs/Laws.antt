@@ -1,14 +1,8 @@
+pub mod CaptionShort
+pub mod CaptionSizes
 pub mod Weights
 pub mod Texts
 pub mod Back
-pub mod Told
 pub mod Captions
 pub mod Writing
 pub mod Walk
-pub mod Numbers
-pub mod Labels
-pub mod Both
-pub mod Ways
-pub mod Counting
-pub mod Filling
-pub mod Answers

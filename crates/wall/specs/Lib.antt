@@ -1,8 +1,4 @@
+pub mod Captions
 pub mod Laws
 pub mod Export
 pub mod ExportSteps
-pub mod Lines
-pub mod Read
-pub mod Lent
-pub mod Steps
-pub mod Cases

@@ -2,7 +2,7 @@
 // room as it is, and the answer is 10.
 use crate::numbers::number_size;
 use crate::numbers::put_ends;
-use crate::numbers::put_number;
+use crate::numbers::put_spaced;
 use drawing::PenAnswer;
 use index::Slots;
 use store::ConflictEdge;
@@ -19,7 +19,7 @@ ghost use Rattle.index.specs.Index.{Loaded};
 ghost use Rattle.store.specs.Table.{nodeIn, edgeIn};
 ghost use Rattle.texts.specs.Wrote.{Wrote};
 ghost use Rattle.drawing.specs.Pen.{Fine, Adds};
-ghost use Rattle.wall.specs.Lines.{hashLine};
+ghost use Rattle.tgf.specs.Lines.{hashLine};
 ghost use Rattle.wall.specs.Export.{nodeText, edgeText};
 ghost use Rattle.wall.specs.ExportSteps.{nodeSize, edgeSize};
 
@@ -28,7 +28,7 @@ fn node_size(file: &[u8], ix: &Slots, i: usize, x: ConflictNode) -> usize
     ensures { λ r. ⌜ (r ≡ nodeSize (tablesOf (now (file .entry))) i x) × (r ≤ 54) ⌝ }
 {
     let a = number_size(i);
-    let b = display::caption_sizes::node_size(file, ix, x);
+    let b = crate::caption_sizes::node_size(file, ix, x);
     a + b + 2
 }
 
@@ -39,10 +39,9 @@ fn put_node(file: &[u8], ix: &Slots, out: &mut [u8], i: usize, x: ConflictNode) 
     requires { ⌜ nodeSize (tablesOf (now file)) i x ≤ length (now out) ⌝ }
     ensures { λ r. ⌜ Wrote (nodeText (tablesOf (now (file .entry))) i x) (now (out .entry)) (now (out .exit)) r ⌝ }
 {
-    let a = put_number(out, i);
-    let b = a + wordings::space(&mut out[a..]);
-    let d = b + display::captions::put_node(file, ix, &mut out[b..], x);
-    d + wordings::newline(&mut out[d..])
+    let a = put_spaced(out, i);
+    let b = a + crate::captions::put_node(file, ix, &mut out[a..], x);
+    b + wordings::newline(&mut out[b..])
 }
 
 fn add_node_line(
@@ -131,7 +130,7 @@ fn edge_size(file: &[u8], ix: &Slots, a: usize, b: usize, w: ConflictEdge) -> us
 {
     let d = number_size(a);
     let e = number_size(b);
-    let l = display::caption_sizes::label_size(file, ix, w);
+    let l = crate::caption_sizes::label_size(file, ix, w);
     d + e + l + 3
 }
 
@@ -143,7 +142,7 @@ fn put_edge(file: &[u8], ix: &Slots, out: &mut [u8], a: usize, b: usize, w: Conf
     ensures { λ r. ⌜ Wrote (edgeText (tablesOf (now (file .entry))) a b w) (now (out .entry)) (now (out .exit)) r ⌝ }
 {
     let d = put_ends(out, a, b);
-    let e = d + display::captions::put_label(file, ix, &mut out[d..], w);
+    let e = d + crate::captions::put_label(file, ix, &mut out[d..], w);
     e + wordings::newline(&mut out[e..])
 }
 

@@ -1,101 +1,82 @@
-// The text of the wall display (document 02, order 14), read back: Trivial Graph Format. First the whole text is judged and counted,
-// and nothing that was lent is written; then the lists are filled.
-mod count;
-pub mod export;
+// The text of the wall display (document 02, order 14): Trivial Graph Format, line by line into the lent room. Packages are not folded.
+mod caption_sizes;
+mod captions;
 mod export_lines;
-mod fill;
-mod lines;
 mod numbers;
-mod parts;
 mod walk;
 
-use count::count;
-use fill::fill_edges;
-use fill::fill_nodes;
+use drawing::PenAnswer;
+use index::Slots;
+use store::GraphWords;
+use store::Size;
 ghost use mathlib.Core.Path.{_≡_};
 ghost use lib.ListN.{length};
-ghost use Rattle.wall.specs.Read.{readText};
-ghost use Rattle.wall.specs.Lent.{refused, tgfCounts, tgfNodes, tgfEdges};
+ghost use Rattle.records.specs.Read.{tablesOf};
+ghost use Rattle.index.specs.Index.{Loaded};
+ghost use Rattle.store.specs.Table.{graphIn, Stored};
+ghost use Rattle.texts.specs.Wrote.{over};
+ghost use Rattle.drawing.specs.Graphviz.{answerIn};
+ghost use Rattle.drawing.specs.Pen.{Fine, Adds};
+ghost use Rattle.wall.specs.Export.{restUnits, exportUnits, exportShown};
 
-// A number or the length of a label, and the place behind it; or nothing.
-pub struct Part {
-    pub ok: bool,
-    pub value: usize,
-    pub next: usize,
-}
-
-// Where a node's label begins, how long it is, and the place behind its line; or nothing.
-pub struct NodeLine {
-    pub ok: bool,
-    pub begin: usize,
-    pub size: usize,
-    pub next: usize,
-}
-
-pub struct EdgeLine {
-    pub ok: bool,
-    pub source: usize,
-    pub target: usize,
-    pub begin: usize,
-    pub size: usize,
-    pub next: usize,
-}
-
-// What is seen of a text: the number of its first bad or missing line; or 0, and how many nodes and edges it has.
-pub struct Seen {
-    pub ok: bool,
-    pub bad: usize,
-    pub nodes: usize,
-    pub edges: usize,
-}
-
-#[repr(C)]
-pub struct Counts {
-    pub number: u64,
-    pub place: u64,
-    pub nodes: u64,
-    pub edges: u64,
-}
-
-// Reads a text of the wall display: two numbers for each node, four for each edge.
-pub fn read(text: &[u8], nodes: &mut [u32], edges: &mut [u32]) -> Counts
-    ensures { λ r. ⌜ r ≡ tgfCounts (readText (now (text .entry))) (length (now (nodes .entry))) (length (now (edges .entry))) ⌝ }
-    ensures { λ _. ⌜ now (nodes .exit) ≡ tgfNodes (readText (now (text .entry))) (now (nodes .entry)) (length (now (edges .entry))) ⌝ }
-    ensures { λ _. ⌜ now (edges .exit) ≡ tgfEdges (readText (now (text .entry))) (length (now (nodes .entry))) (now (edges .entry)) ⌝ }
+// The line with # and the edges.
+fn export_rest(
+    file: &[u8],
+    ix: &Slots,
+    g: &GraphWords,
+    s: Size,
+    out: &mut [u8],
+    p: PenAnswer,
+) -> PenAnswer
+    requires { ⌜ Loaded (now file) (now ix) ⌝ }
+    requires { ⌜ Stored (now g) s ⌝ }
+    requires { ⌜ Fine (now out) p ⌝ }
+    requires { ⌜ p .number ≡ 0 ⌝ }
+    ensures { λ r. ⌜ Adds (restUnits (tablesOf (now (file .entry))) (graphIn (now (g .entry)) s)) (now (out .entry)) p (now (out .exit)) r ⌝ }
 {
-    let s = count(text);
-    if !s.ok {
-        return Counts {
-            number: 3,
-            place: s.bad as u64,
-            nodes: 0,
-            edges: 0,
-        };
+    let q = export_lines::add_hash(out, p);
+    if q.number != 0 {
+        return q;
     }
-    let n = s.nodes;
-    let k = s.edges;
-    if nodes.len() < 2 * n {
-        return Counts {
-            number: 10,
-            place: 0,
-            nodes: 0,
-            edges: 0,
-        };
+    walk::add_edges(file, ix, g, s, out, q)
+}
+
+// All lines, behind those that stand.
+fn export_from(
+    file: &[u8],
+    ix: &Slots,
+    g: &GraphWords,
+    s: Size,
+    out: &mut [u8],
+    p: PenAnswer,
+) -> PenAnswer
+    requires { ⌜ Loaded (now file) (now ix) ⌝ }
+    requires { ⌜ Stored (now g) s ⌝ }
+    requires { ⌜ Fine (now out) p ⌝ }
+    requires { ⌜ p .number ≡ 0 ⌝ }
+    ensures { λ r. ⌜ Adds (exportUnits (tablesOf (now (file .entry))) (graphIn (now (g .entry)) s)) (now (out .entry)) p (now (out .exit)) r ⌝ }
+{
+    let q = walk::add_nodes(file, ix, g, s, out, p);
+    if q.number != 0 {
+        return q;
     }
-    if edges.len() < 4 * k {
-        return Counts {
-            number: 10,
-            place: 0,
-            nodes: 0,
-            edges: 0,
-        };
-    }
-    let h = fill_nodes(text, n, nodes);
-    fill_edges(text, h + 2, n, k, edges);
-    Counts {
+    export_rest(file, ix, g, s, out, q)
+}
+
+// The text of a graph, as far as whole lines fit.
+pub fn export(file: &[u8], ix: &Slots, g: &GraphWords, s: Size, out: &mut [u8]) -> PenAnswer
+    requires { ⌜ Loaded (now file) (now ix) ⌝ }
+    requires { ⌜ Stored (now g) s ⌝ }
+    ensures { λ r. ⌜ r ≡ answerIn (exportShown (tablesOf (now (file .entry))) (graphIn (now (g .entry)) s) (length (now (out .entry)))) ⌝ }
+    ensures { λ r. ⌜ now (out .exit) ≡ over (exportShown (tablesOf (now (file .entry))) (graphIn (now (g .entry)) s) (length (now (out .entry))) .text)
+        (now (out .entry)) ⌝ }
+{
+    let p = PenAnswer {
         number: 0,
         place: 0,
-        nodes: n as u64,
-        edges: k as u64,
-    }
+        bytes: 0,
+        units: 0,
+        depth: 0,
+    };
+    export_from(file, ix, g, s, out, p)
 }

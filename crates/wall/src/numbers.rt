@@ -7,7 +7,7 @@ ghost use Prim.Native.Nat.{_+_, _<_, _≤_};
 ghost use lib.ListN.{length};
 ghost use Rattle.basis.specs.Quote.{utf8};
 ghost use Rattle.texts.specs.Wrote.{Wrote};
-ghost use Rattle.wall.specs.Lines.{decimal};
+ghost use Rattle.tgf.specs.Lines.{decimal};
 
 // How many digits.
 pub fn number_size(n: usize) -> usize
@@ -22,7 +22,7 @@ pub fn number_size(n: usize) -> usize
     3
 }
 
-pub fn put_number(out: &mut [u8], n: usize) -> usize
+fn put_number(out: &mut [u8], n: usize) -> usize
     requires { ⌜ n < 1000 ⌝ }
     requires { ⌜ length (decimal n) ≤ length (now out) ⌝ }
     ensures { λ r. ⌜ r ≡ length (decimal n) ⌝ }
@@ -44,6 +44,17 @@ pub fn put_number(out: &mut [u8], n: usize) -> usize
     put(out, &c)
 }
 
+// A number and a space.
+pub fn put_spaced(out: &mut [u8], n: usize) -> usize
+    requires { ⌜ n < 1000 ⌝ }
+    requires { ⌜ length (decimal n) + 1 ≤ length (now out) ⌝ }
+    ensures { λ r. ⌜ r ≡ length (decimal n) + 1 ⌝ }
+    ensures { λ r. ⌜ Wrote (decimal n ++ utf8 " ") (now (out .entry)) (now (out .exit)) r ⌝ }
+{
+    let a = put_number(out, n);
+    a + wordings::space(&mut out[a..])
+}
+
 // Both ends of an edge, a space behind each.
 pub fn put_ends(out: &mut [u8], a: usize, b: usize) -> usize
     requires { ⌜ (a < 1000) × (b < 1000) ⌝ }
@@ -51,8 +62,7 @@ pub fn put_ends(out: &mut [u8], a: usize, b: usize) -> usize
     ensures { λ r. ⌜ r ≡ length (decimal a) + length (decimal b) + 2 ⌝ }
     ensures { λ r. ⌜ Wrote (decimal a ++ utf8 " " ++ decimal b ++ utf8 " ") (now (out .entry)) (now (out .exit)) r ⌝ }
 {
-    let d = put_number(out, a);
-    let e = d + wordings::space(&mut out[d..]);
-    let f = e + put_number(&mut out[e..], b);
-    f + wordings::space(&mut out[f..])
+    let d = put_spaced(out, a);
+    let e = d + put_number(&mut out[d..], b);
+    e + wordings::space(&mut out[e..])
 }

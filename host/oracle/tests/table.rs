@@ -1,4 +1,4 @@
-//! The proved table of document 01's cases (crates/cases/specs): its files are those in samples/,
+//! The proved table of document 01's cases (crates/demands/specs/Cases): its files are those in samples/,
 //! and its texts are conflict.rs's.
 
 use oracle::draft::Draft;
@@ -11,7 +11,7 @@ fn root() -> PathBuf {
 }
 
 fn spec(name: &str) -> String {
-    let path = root().join("crates/cases/specs").join(name);
+    let path = root().join("crates/demands/specs/Cases").join(name);
     fs::read_to_string(&path).unwrap_or_else(|e| panic!("{}: {e}", path.display()))
 }
 

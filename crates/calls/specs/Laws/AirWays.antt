@@ -22,7 +22,7 @@ use Rattle.air.specs.declared.Profile.the-variants.{Passed, Refused}
 use Rattle.air.specs.Profile.{profileOf}
 use Rattle.calls.specs.declared.Answer.{Answer}
 use Rattle.calls.specs.Answers.{refusalOf}
-use Rattle.calls.specs.Laws.Draws.{option-is}
+use Rattle.calls.specs.Laws.Says.{option-is}
 use Rattle.calls.specs.Says.{Says}
 use Rattle.calls.specs.Laws.Says.{says-option, says-refused}
 use Rattle.calls.specs.Air.{airBuilt, airRead, airOf, SaysBy, SaysAir}

@@ -20,7 +20,7 @@ use Rattle.labels.specs.Marks.{labelBits}
 use Rattle.groups.specs.Groups.{titleOf}
 use Rattle.groups.specs.Groups as Groups
 use Rattle.groups.specs.Leads.{leadsTo, leads-at}
-use Rattle.naming.specs.Naming.{nameOf}
+use Rattle.groups.specs.Naming.{nameOf}
 use Rattle.graph.specs.declared.Made.{Made}
 use Rattle.graph.specs.declared.Made.the-variants as M
 use Rattle.graph.specs.Graphs.{drawn, graphOf}
@@ -38,7 +38,7 @@ use Rattle.planning.specs.Assembly.{Labelled, marks-are, lead-group}
 use Rattle.lines.specs.Lines.{topOf}
 use Rattle.explanation.specs.declared.walk.WalkAnswer.{WalkAnswer}
 use Rattle.explanation.specs.Walk.{Ready}
-use Rattle.explanation.specs.Walk.{Answered}
+use Rattle.explanation.specs.Walk.{Answered, answered-one}
 use Rattle.explanation.specs.Explain.{isEdition, explainEdition, explainTables, refusal}
 use Rattle.explanation.specs.Contract.{Drawn}
 use Rattle.explanation.specs.Laws.Contract.{drawn-file, file-unique}
@@ -93,6 +93,19 @@ told-via t b c e f p q r s = rw (p, q, r, s)
 pub walked : (T : Tables) (q k : List ℕ) (t : Bool) (out left : List ℕ) (a : WalkAnswer) (r : Answer) → r ≡ toldAs a → Answered T q k t out left a
     → Walked T q k t out left r
 walked T q k t out left a r u w = record { told = a; is = u; answered = w }
+
+-- two results that the walk may give are equal
+pub walked-one : (T : Tables) (q k : List ℕ) (t : Bool) (out a b : List ℕ) (r x : Answer) → Walked T q k t out a r → Walked T q k t out b x
+    → (r ≡ x) × (a ≡ b)
+walked-one T q k t out a b r x c d =
+    let e = answered-one T q k t out a b (c .told) (d .told) (c .answered) (d .answered) in
+    (c .is ∙ ap toldAs (e .0) ∙ sym (d .is), e .1)
+
+-- a known option
+pub option-is : (opt : ℕ) → opt ≤ 1 → optionOf (eqb opt 1) ≡ opt
+option-is zero h = refl
+option-is (suc zero) h = refl
+option-is (suc (suc n)) h = let f : ⊥ = omega arith in absurd f
 
 option-top : (t : Bool) → topOf (optionOf t) ≡ t
 option-top true = refl

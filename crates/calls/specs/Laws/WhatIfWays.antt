@@ -37,7 +37,7 @@ use Rattle.drawing.specs.Same.{optionOf}
 use Rattle.explanation.specs.Explain.{refusal}
 use Rattle.calls.specs.declared.Answer.{Answer}
 use Rattle.calls.specs.Answers.{refusalOf}
-use Rattle.calls.specs.Laws.Draws.{option-is}
+use Rattle.calls.specs.Laws.Says.{option-is}
 use Rattle.calls.specs.Nodes.{noWords, answerOf}
 use Rattle.calls.specs.Laws.Nodes.{answer-counted}
 use Rattle.calls.specs.Says.{Shows, resultBy}

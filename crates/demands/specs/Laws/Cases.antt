@@ -13,12 +13,12 @@ use Rattle.graph.specs.Files.{outcomeOf}
 use Rattle.explanation.specs.Explain.{refusal, isEdition, explainEdition}
 use Rattle.calls.specs.declared.Answer.{Answer}
 use Rattle.calls.specs.Answers.{refusalOf, checkOf}
-use Rattle.calls.specs.Draws.{drawBytes, drawFile}
-use Rattle.calls.specs.Edges.{edgesAnswer}
+use Rattle.charts.specs.Draws.{drawBytes, drawFile}
+use Rattle.charts.specs.Edges.{edgesAnswer}
 use Rattle.calls.specs.Nodes.{nodesAnswer}
 use Rattle.calls.specs.Laws.Nodes.{nodes-check}
 use Rattle.calls.specs.Says.{Says}
-use Rattle.calls.specs.Wall.{exportFile}
+use Rattle.charts.specs.Wall.{exportFile}
 use Rattle.demands.specs.Laws.Told.{refused-answer, option-twelve, early-room}
 
 -- "length no multiple of 32"

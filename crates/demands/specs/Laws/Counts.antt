@@ -13,7 +13,7 @@ use Rattle.records.specs.Tables.{Tables}
 use Rattle.store.specs.Graph.{Graph, nodeAt, isSolvable}
 use Rattle.groups.specs.Groups.{titleOf, matesBy, mergedBy, mates, leadOf, merged, groups, singles}
 use Rattle.groups.specs.Counts.{solvables, alike, in-mates}
-use Rattle.naming.specs.Naming.{nameOf}
+use Rattle.groups.specs.Naming.{nameOf}
 use Rattle.labels.specs.Runs.{Run}
 use Rattle.machine.specs.Machine.{Plan}
 use Rattle.machine.specs.Bound.{most}

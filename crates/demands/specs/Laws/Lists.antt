@@ -27,12 +27,12 @@ use Rattle.lists.specs.Nodes.{Nodes, entered, denied, nodesOf, listedBy}
 use Rattle.salvage.specs.Salvage as Salvage
 use Rattle.salvage.specs.Lent as Lent
 use Rattle.writing.specs.Write as Write
-use Rattle.wall.specs.Read as Wall
-use Rattle.wall.specs.Lent.{tgfBy, tgfCounts, tgfNodes, tgfEdges}
-use Rattle.calls.specs.Draws.{resultAnswer, drawBytes, drawFile}
-use Rattle.calls.specs.Edges.{edgesBy, leavesBy, edgesAnswer, edgesLeft}
+use Rattle.tgf.specs.Read as Wall
+use Rattle.tgf.specs.Lent.{tgfBy, tgfCounts, tgfNodes, tgfEdges}
+use Rattle.charts.specs.Draws.{resultAnswer, drawBytes, drawFile}
+use Rattle.charts.specs.Edges.{edgesBy, leavesBy, edgesAnswer, edgesLeft}
 use Rattle.calls.specs.Nodes.{nodesBy, nodesAnswer, nodesLeft, listOver}
-use Rattle.calls.specs.Wall.{exportFile}
+use Rattle.charts.specs.Wall.{exportFile}
 use Rattle.demands.specs.Rules.{Early, FirstOf, UnitsOr}
 use Rattle.demands.specs.Laws.Calls.{by-reading, by-outcome, bad-early, refused-early}
 

@@ -22,7 +22,7 @@ use Rattle.texts.specs.Wrote.{over}
 use Rattle.explanation.specs.Explain.{refusal}
 use Rattle.calls.specs.declared.Answer.{Answer}
 use Rattle.calls.specs.Answers.{refusalOf}
-use Rattle.calls.specs.Draws.{resultAnswer}
+use Rattle.charts.specs.Draws.{resultAnswer}
 use Rattle.calls.specs.Says.{Says, Shows, resultBy}
 use Rattle.calls.specs.Air.{airOf, SaysBy, SaysAir}
 use Rattle.calls.specs.WhatIf.{explainOutcome, askRead, explainWhatIf, SaysWhatIf}

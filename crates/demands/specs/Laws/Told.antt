@@ -21,7 +21,7 @@ use Rattle.explanation.specs.Contract.{Drawn}
 use Rattle.explanation.specs.Laws.Contract.{file-answers, file-drawn}
 use Rattle.calls.specs.declared.Answer.{Answer}
 use Rattle.calls.specs.Answers.{refusalOf, checkOf}
-use Rattle.calls.specs.Draws.{resultAnswer}
+use Rattle.charts.specs.Draws.{resultAnswer}
 use Rattle.calls.specs.Says.{Says, Shows, resultBy}
 use Rattle.demands.specs.Rules.{Early, Passed, WholeUnits, NoRoom, Looping, OthersStay}
 use Rattle.demands.specs.Laws.Calls.{by-reading, by-outcome, by-call, drawn-passed}

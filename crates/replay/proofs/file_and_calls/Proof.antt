@@ -1,5 +1,5 @@
 use borrow.Author.Needs.{needs}
-use Rattle.replay.specs.Head.{prefix-length}
+use Rattle.again.specs.Head.{prefix-length}
 use Rattle.replay.proofs.file_and_calls.Statement.{statement}
 use Rattle.replay.proofs.file_and_calls.Tie as tie
 

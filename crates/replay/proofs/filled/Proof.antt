@@ -1,5 +1,5 @@
 use borrow.Author.Needs.{needs}
-use Rattle.replay.specs.Head.{prefix-length}
+use Rattle.again.specs.Head.{prefix-length}
 use Rattle.replay.proofs.filled.Statement.{statement}
 use Rattle.replay.proofs.filled.Tie as tie
 

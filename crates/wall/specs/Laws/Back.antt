@@ -14,9 +14,9 @@ use Rattle.graph.specs.Graphs.{drawn, graphOf}
 use Rattle.shape.specs.Graphed.{Graphed, graphed}
 use Rattle.machine.specs.Units.{TextUnit, Result, textOf, written, fitting, fit}
 use Rattle.drawing.specs.Graphviz.{unitOf, fitUnits}
-use Rattle.wall.specs.Lines as L
-use Rattle.wall.specs.Read.{good, readText}
-use Rattle.wall.specs.Laws.Both.{reads}
+use Rattle.tgf.specs.Lines as L
+use Rattle.tgf.specs.Read.{good, readText}
+use Rattle.tgf.specs.Laws.Both.{reads}
 use Rattle.wall.specs.Export.{labelsOf, edgesOf, nodeUnits, edgeUnits, restUnits, exportUnits, exportShown}
 use Rattle.wall.specs.Laws.Weights.{drawn-said}
 use Rattle.wall.specs.Laws.Texts.{text-good}

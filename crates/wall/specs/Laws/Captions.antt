@@ -7,7 +7,7 @@ use Rattle.store.specs.declared.ConflictCause.the-variants as K
 use Rattle.store.specs.declared.ConflictEdge.{ConflictEdge}
 use Rattle.store.specs.declared.ConflictEdge.the-variants as W
 use Rattle.display.specs.Stroke.{nodeText, solvableText, excludedText, label}
-use Rattle.display.specs.Captions.{nodeCaption, solvableCaption, excludedCaption, edgeCaption}
+use Rattle.wall.specs.Captions.{nodeCaption, solvableCaption, excludedCaption, edgeCaption}
 
 pub node-caption : (T : Tables) (x : ConflictNode) → nodeCaption T x ≡ nodeText T x
 unfolding nodeCaption solvableCaption excludedCaption nodeText solvableText excludedText

@@ -30,8 +30,8 @@ use Rattle.store.specs.declared.Edge as Stored
 use Rattle.store.specs.Graph.{Graph}
 use Rattle.shape.specs.Shaped.{Known, Runs}
 use Rattle.shape.specs.Graphed.{Graphed}
-use Rattle.display.specs.Captions.{solvableCaption, excludedCaption, nodeCaption, edgeCaption}
-use Rattle.wall.specs.Lines.{Label, WallEdge, inLabel, LabelGood, EdgeGood, TextGood}
+use Rattle.wall.specs.Captions.{solvableCaption, excludedCaption, nodeCaption, edgeCaption}
+use Rattle.tgf.specs.Lines.{Label, WallEdge, inLabel, LabelGood, EdgeGood, TextGood}
 use Rattle.wall.specs.Export.{wallEdge, labelsOf, edgesOf}
 use Rattle.wall.specs.Laws.Weights.{Said, Says}
 

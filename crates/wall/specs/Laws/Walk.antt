@@ -18,8 +18,8 @@ use Rattle.drawing.specs.Pen.{Fine, Adds, PenLeft, left-start, left-next, left-
 use Rattle.drawing.specs.Fits.{shown-answer, shown-room}
 use Rattle.drawing.specs.Graphviz.{answerIn}
 use Rattle.texts.specs.Wrote.{over}
-use Rattle.display.specs.Captions.{nodeCaption}
-use Rattle.wall.specs.Lines.{Label, WallEdge, nodeLine, nodeLines, edgeLine, hashLine}
+use Rattle.wall.specs.Captions.{nodeCaption}
+use Rattle.tgf.specs.Lines.{Label, WallEdge, nodeLine, nodeLines, edgeLine, hashLine}
 use Rattle.wall.specs.Export.{nodeText, edgeText, wallEdge, labelsOf, edgesOf, nodeUnits, edgeUnits, restUnits, exportUnits, exportShown}
 
 -- one line more, where what is left are the lines from n on

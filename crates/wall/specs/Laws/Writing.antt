@@ -16,8 +16,8 @@ use Rattle.store.specs.Table.{nodeIn, edgeIn}
 use Rattle.texts.specs.Wrote.{Wrote}
 use Rattle.drawing.specs.declared.PenAnswer.{PenAnswer}
 use Rattle.drawing.specs.Pen.{Fine, Adds, adds-one, adds-full}
-use Rattle.display.specs.Captions.{nodeCaption, edgeCaption}
-use Rattle.wall.specs.Lines.{decimal, digit, nodeLine, edgeLine, hashLine}
+use Rattle.wall.specs.Captions.{nodeCaption, edgeCaption}
+use Rattle.tgf.specs.Lines.{decimal, digit, nodeLine, edgeLine, hashLine}
 use Rattle.wall.specs.Export.{nodeText, edgeText, wallEdge}
 use Rattle.wall.specs.ExportSteps.{nodeSize, edgeSize}
 

@@ -1,5 +1,5 @@
 use borrow.Author.Needs.{needs}
-use Rattle.replay.specs.Again.{agrees-beyond, agrees-within}
+use Rattle.replay.specs.Compared.{agrees-beyond, agrees-within}
 use Rattle.replay.proofs.compares.agrees.Statement.{statement}
 use Rattle.replay.proofs.compares.agrees.Tie as tie
 

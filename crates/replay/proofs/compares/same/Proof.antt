@@ -1,4 +1,4 @@
-use Rattle.replay.specs.Again.{not-number, not-place, not-bytes, not-units, not-depth, not-sum, all-same}
+use Rattle.replay.specs.Compared.{not-number, not-place, not-bytes, not-units, not-depth, not-sum, all-same}
 use Rattle.replay.proofs.compares.same.Statement.{statement}
 use Rattle.replay.proofs.compares.same.Tie as tie
 

@@ -1,0 +1,27 @@
+use borrow.Author.Needs.{needs}
+use mathlib.Core.Path.{_≡_}
+use Prim.Native.Nat.{_-_, _<_}
+use lib.ListN.{length, drop}
+use Rattle.again.specs.Sum.{sumFrom, sumOf, sum-next, sum-end}
+use Rattle.again.proofs.sums.sum_wide.Statement.{statement}
+use Rattle.again.proofs.sums.sum_wide.Tie as tie
+
+abbrev Inv-loop : tie.InvT-loop
+Inv-loop list h₀ i₀ h i = (sumFrom h (drop i list) ≡ sumOf list) × (h < 18014398509481951)
+
+abbrev μ-loop : tie.MeasureT-loop
+μ-loop list h₀ i₀ h i = length list - i
+
+pub sum-wide-spec : {M : Type 1} → statement M
+sum-wide-spec =
+    tie.close
+    (tie.spec Inv-loop μ-loop
+    (λ c. search needs)
+    (λ c. search needs)
+    (λ c. search needs)
+    (λ c κs. search needs)
+    (λ c κs. search needs)
+    (λ c. search needs)
+    (λ c. search needs)
+    (λ c. (search (needs, sum-next), search needs))
+    (λ c. search (needs, sum-end)))

@@ -1,0 +1,13 @@
+use Rattle.charts.specs.Laws.Draws.{draws-answer}
+use borrow.Author.Needs.{needs}
+use Rattle.charts.proofs.walls.export_whole.Statement.{statement}
+use Rattle.charts.proofs.walls.export_whole.Tie as tie
+
+pub export-whole-spec : {M : Type 1} → statement M
+export-whole-spec =
+    tie.close
+    (tie.spec
+    (λ c κs. (search needs, search needs))
+    (λ c κs. search needs)
+    (λ c. search needs)
+    (λ c. (search draws-answer, search needs)))

@@ -1,4 +1,0 @@
-pub mod Noted
-pub mod Cored
-pub mod Other
-pub mod Laws

@@ -1,0 +1,11 @@
+use borrow.Author.Needs.{needs}
+use Rattle.texts.specs.Laws.Wrote.{behind}
+use Rattle.display.proofs.strokes.put_source.Statement.{statement}
+use Rattle.display.proofs.strokes.put_source.Tie as tie
+
+pub put-source-spec : {M : Type 1} → statement M
+put-source-spec =
+    tie.close
+    (tie.spec
+    (λ c κs. search needs) (λ c. search needs) (λ c. search needs) (λ c. search needs) (λ c κs. search needs)
+    (λ c. search needs) (λ c. search needs) (λ c. (search needs, search (needs, behind))))

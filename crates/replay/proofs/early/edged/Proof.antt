@@ -1,7 +1,0 @@
-use borrow.Author.Needs.{needs}
-use Rattle.replay.specs.Seen.{edged-in}
-use Rattle.replay.proofs.early.edged.Statement.{statement}
-use Rattle.replay.proofs.early.edged.Tie as tie
-
-pub edged-spec : {M : Type 1} → statement M
-edged-spec = tie.close (tie.spec (λ c κs. search needs) (λ c κs. search needs) (λ c κs. search needs) (λ c. search needs) (λ c. search edged-in))

@@ -1,8 +1,0 @@
-use borrow.Author.Needs.{needs}
-use Rattle.replay.specs.Sum.{mix}
-use Rattle.replay.proofs.sums.mixed.Statement.{statement}
-use Rattle.replay.proofs.sums.mixed.Tie as tie
-
-pub mixed-spec : {M : Type 1} → statement M
-unfolding mix
-mixed-spec = tie.close (tie.spec (λ c. search needs) (λ c. search needs) (λ c. search needs) (λ c. (search needs, search needs)))

@@ -1,0 +1,4 @@
+pub mod TallyWays
+pub mod Tally
+pub mod SeasonWays
+pub mod Season
