@@ -105,7 +105,7 @@ fn set_lines(
     requires count_bound { (g.count ≤ 4160) × (marks_in g ≡ false ∷ parents (marks_in g)) }
     ensures lined { Lined (sets_said (tables_of file.now) g.top (parents (marks_in g)) (sets_from k.now first end)) out.old
         out.new result.bytes result.units result.full }
-    ensures* fact { do ⌜ (result.bytes ≤ (← (⟦out.len()⟧).entry)) × (result.units ≤ result.bytes) ⌝ }
+    ensures fact { (result.bytes ≤ length out.old) × (result.units ≤ result.bytes) }
 {
     let mut e = end;
     let mut at: usize = 0;
@@ -145,7 +145,7 @@ fn sets_of(
     requires count_bound { g.count < 4160 }
     ensures lined { Lined (sets_said (tables_of file.now) g.top (marks_in g) (sets_in p.now k.now n)) out.old
         out.new result.bytes result.units result.full }
-    ensures* fact { do ⌜ (result.bytes ≤ (← (⟦out.len()⟧).entry)) × (result.units ≤ result.bytes) ⌝ }
+    ensures fact { (result.bytes ≤ length out.old) × (result.units ≤ result.bytes) }
 {
     let first = plan::sets_first(p, n);
     let end = plan::sets_end(p, n);
@@ -183,7 +183,7 @@ pub fn package_lines(
     requires n_value { text_length p.now n ≡ length (package_in (tables_of file.now) p.now n) }
     ensures lined { Lined (package_all (tables_of file.now) p.now k.now top (marks_at levels.now count) n)
         out.old out.new result.bytes result.units result.full }
-    ensures* fact { do ⌜ (result.bytes ≤ (← (⟦out.len()⟧).entry)) × (result.units ≤ result.bytes) ⌝ }
+    ensures fact { (result.bytes ≤ length out.old) × (result.units ≤ result.bytes) }
 {
     let b = package_line(file, ix, p, out, levels, count, top, n);
     if b < 1 {
