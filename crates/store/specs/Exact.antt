@@ -64,7 +64,7 @@ module _ (g h : List ℕ) (s t : Size) (S : Stored g s) (T : Stored h t) (q : gr
           split (ltb i s.nodes)
           (λ u. let b : i < s.nodes = ltb-true i s.nodes u in
           node_word_lem g s S i b ∙ ap (λ (x : Graph). word_of (node_at x i) + 262144 * first_at x i) q ∙ sym (node_word_lem h t T i (omega (arith, nodes_one))))
-          (λ u. let b : s.nodes ≤ i = ltb-false i s.nodes u in S.no_Node i b l ∙ sym (T.no_Node i (omega (arith, nodes_one)) l))
+          (λ u. let b : s.nodes ≤ i = ltb-false i s.nodes u in S.no_node i b l ∙ sym (T.no_node i (omega (arith, nodes_one)) l))
 
       low : ℕ → ℕ
       low n = n % 262144

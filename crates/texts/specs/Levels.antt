@@ -72,14 +72,20 @@ pub last_none : (x : Indenter) → x.count ≡ 0 → marks_in x ≡ last_set (ma
 unfolding marks_in marks_at
 last_none x e = rw e
 
+marks_more : (ws : List ℕ) (n : ℕ) → marks_at ws (suc n) ≡ bit ws n ∷ marks_at ws n
+unfolding marks_at
+marks_more ws n = refl
+
+last_at_suc : (ws : List ℕ) (n p w : ℕ) → p ≡ n → w ≡ marked (get_or ws (p / 64) 0) (p % 64) true → length ws ≡ 65
+    → suc n ≤ 4160 → marks_at (set ws (p / 64) w) (suc n) ≡ last_set (marks_at ws (suc n))
+last_at_suc ws n p w q e l h =
+    let k : n / 64 < length ws = omega arith in
+    rw (e, q, marks_more ws n) (marks_stored ws n true k)
+
 last_at_lem : (ws : List ℕ) (n w : ℕ) → w ≡ marked (get_or ws ((n - 1) / 64) 0) ((n - 1) % 64) true → length ws ≡ 65
     → (n ≡ 0 → ⊥) → n ≤ 4160 → marks_at (set ws ((n - 1) / 64) w) n ≡ last_set (marks_at ws n)
-unfolding marks_at
 last_at_lem ws zero w e l z h = absurd (z refl)
-last_at_lem ws (suc n) w e l z h =
-    let q : suc n - 1 ≡ n = omega arith in
-    let k : n / 64 < length ws = omega arith in
-    rw (e, q) (marks_stored ws n true k)
+last_at_lem ws (suc n) w e l z h = last_at_suc ws n (suc n - 1) w (omega arith) e l h
 
 pub last_some : (x : Indenter) (w : ℕ) → w ≡ marked (get_or x.levels ((x.count - 1) / 64) 0) ((x.count - 1) % 64) true
     → length x.levels ≡ 65 → (x.count ≡ 0 → ⊥) → x.count ≤ 4160

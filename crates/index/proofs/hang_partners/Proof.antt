@@ -6,16 +6,16 @@ use Rattle.index.specs.Filling.{partners_next, partners_end}
 use Rattle.index.proofs.hang_partners.Statement.{statement}
 use Rattle.index.proofs.hang_partners.Tie as tie
 
-abbrev invariant-loop : tie.invariant-loop
-invariant-loop file ix₀ m j₀ ix j = (j ≤ m) × (partners_hung file j ix ≡ partners_hung file m ix₀)
+abbrev invariant-loop-j : tie.invariant-loop-j
+invariant-loop-j file ix₀ m j₀ ix j = (j ≤ m) × (partners_hung file j ix ≡ partners_hung file m ix₀)
 
-abbrev decreases-loop : tie.decreases-loop
-decreases-loop file ix₀ m j₀ ix j = j
+abbrev decreases-loop-j : tie.decreases-loop-j
+decreases-loop-j file ix₀ m j₀ ix j = j
 
 pub hang_partners_spec : {M : Type 1} → statement M
 hang_partners_spec =
     tie.close
-    (tie.spec invariant-loop decreases-loop
+    (tie.spec invariant-loop-j decreases-loop-j
     (λ c. (search rules, search rules))
     (λ c. search rules)
     (λ c κs. search rules)

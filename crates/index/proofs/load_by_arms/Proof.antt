@@ -10,5 +10,4 @@ load_by_arms_spec =
     (tie.spec
     (λ c. search (rules, quick_odd)) (λ c. search (rules, quick_odd)) (λ c. search rules) (λ c κs. (search rules, search (rules, going_none)))
     (λ c. search rules) (λ c. search rules) (λ c. search (rules, quick_not)) (λ c κs. search (rules, quick_few))
-    (λ c. quick_held _ _ _ _ c.before.before.before.r.given.0.0 c.before.before.before.before.before.before.run.ensures
-    c.before.before.before.r.given.1 (search rules) (search rules) c.hang-partners.ensures))
+    (λ c. quick_held _ _ _ _ c.in-Accepted.c c.run-r.ensures c.in-Accepted.is (search rules) (search rules) c.hang_partners.ensures))

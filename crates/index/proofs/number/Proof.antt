@@ -7,16 +7,16 @@ use Rattle.index.specs.Filling.{numbers_left, numbers_start, numbers_next, numbe
 use Rattle.index.proofs.number.Statement.{statement}
 use Rattle.index.proofs.number.Tie as tie
 
-abbrev invariant-loop : tie.invariant-loop
-invariant-loop file ix₀ n c₀ i₀ ix c i = (i ≤ n) × (c.candidates ≤ i) × (c.clauses ≤ i) × (numbers_left file i c ix ≡ numbered (records_of file) 0 no_places ix₀)
+abbrev invariant-loop-i : tie.invariant-loop-i
+invariant-loop-i file ix₀ n c₀ i₀ ix c i = (i ≤ n) × (c.candidates ≤ i) × (c.clauses ≤ i) × (numbers_left file i c ix ≡ numbered (records_of file) 0 no_places ix₀)
 
-abbrev decreases-loop : tie.decreases-loop
-decreases-loop file ix₀ n c₀ i₀ ix c i = n - i
+abbrev decreases-loop-i : tie.decreases-loop-i
+decreases-loop-i file ix₀ n c₀ i₀ ix c i = n - i
 
 pub number_spec : {M : Type 1} → statement M
 number_spec =
     tie.close
-    (tie.spec invariant-loop decreases-loop
+    (tie.spec invariant-loop-i decreases-loop-i
     (λ c. (search rules, search rules, search rules, search (rules, numbers_start)))
     (λ c κs. search rules)
     (λ c κs. search rules)

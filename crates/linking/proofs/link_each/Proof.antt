@@ -7,12 +7,12 @@ use Rattle.linking.specs.Fan.{fan_all, Fanning, fannings}
 use Rattle.linking.proofs.link_each.Statement.{statement}
 use Rattle.linking.proofs.link_each.Tie as tie
 
-abbrev invariant-loop : tie.invariant-loop
-invariant-loop file ix g₀ source q x y₀ t₀ g y t =
+abbrev invariant-loop-y : tie.invariant-loop-y
+invariant-loop-y file ix g₀ source q x y₀ t₀ g y t =
     Fanning (fan_all q source (candidates_from (tables_of file) x) (graph_in g₀ t₀)) q source (candidates_from (tables_of file) y) g t
 
-abbrev decreases-loop : tie.decreases-loop
-decreases-loop file ix g₀ source q x y₀ t₀ g y t = length (candidates_from (tables_of file) y)
+abbrev decreases-loop-y : tie.decreases-loop-y
+decreases-loop-y file ix g₀ source q x y₀ t₀ g y t = length (candidates_from (tables_of file) y)
 
 ruleset laws = (rules, fannings)
 
@@ -20,7 +20,7 @@ pub link_each_spec : {M : Type 1} → statement M
 link_each_spec =
     tie.close
     (tie.spec
-    invariant-loop decreases-loop
+    invariant-loop-y decreases-loop-y
     (λ c. search laws) (λ c. search rules) (λ c κs. search rules) (λ c κs. search rules) (λ c κs. search rules)
     (λ c. search laws) (λ c κs. search rules) (λ c. search (rules, candidates_less))
     (λ c. search laws) (λ c. search laws))

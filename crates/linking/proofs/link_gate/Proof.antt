@@ -9,11 +9,11 @@ use Rattle.linking.specs.Requiring.{gate_links, gates}
 use Rattle.linking.proofs.link_gate.Statement.{statement}
 use Rattle.linking.proofs.link_gate.Tie as tie
 
-abbrev invariant-loop : tie.invariant-loop
-invariant-loop file ix g₀ q x y₀ t₀ g y t = LinksLeft (link_all_in (gate_links (tables_of file) q x) (graph_in g₀ t₀)) (gate_links (tables_of file) q y) g t
+abbrev invariant-loop-y : tie.invariant-loop-y
+invariant-loop-y file ix g₀ q x y₀ t₀ g y t = LinksLeft (link_all_in (gate_links (tables_of file) q x) (graph_in g₀ t₀)) (gate_links (tables_of file) q y) g t
 
-abbrev decreases-loop : tie.decreases-loop
-decreases-loop file ix g₀ q x y₀ t₀ g y t = length (gates_from (tables_of file) y)
+abbrev decreases-loop-y : tie.decreases-loop-y
+decreases-loop-y file ix g₀ q x y₀ t₀ g y t = length (gates_from (tables_of file) y)
 
 ruleset laws = (rules, gates)
 
@@ -21,7 +21,7 @@ pub link_gate_spec : {M : Type 1} → statement M
 link_gate_spec =
     tie.close
     (tie.spec
-    invariant-loop decreases-loop
+    invariant-loop-y decreases-loop-y
     (λ c. search laws) (λ c. search rules) (λ c κs. search rules) (λ c κs. search rules) (λ c κs. search rules)
     (λ c. search rules) (λ c. search laws) (λ c. search rules) (λ c κs. search rules) (λ c. search (rules, gates_less))
     (λ c. search laws) (λ c. search laws))

@@ -5,18 +5,18 @@ use Rattle.links.specs.Build.{old_lay, source_of, linked_down, falls, source_key
 use Rattle.links.proofs.fill_old.Statement.{statement}
 use Rattle.links.proofs.fill_old.Tie as tie
 
-abbrev invariant-loop : tie.invariant-loop
-invariant-loop g ls₀ m j₀ ls j = (j ≤ m) × (ls ≡ linked_down old_lay (source_of g) ls₀ m (m - j))
+abbrev invariant-loop-j : tie.invariant-loop-j
+invariant-loop-j g ls₀ m j₀ ls j = (j ≤ m) × (ls ≡ linked_down old_lay (source_of g) ls₀ m (m - j))
 
-abbrev decreases-loop : tie.decreases-loop
-decreases-loop g ls₀ m j₀ ls j = j
+abbrev decreases-loop-j : tie.decreases-loop-j
+decreases-loop-j g ls₀ m j₀ ls j = j
 
 ruleset laws = (rules, falls, source_key)
 
 pub fill_old_spec : {M : Type 1} → statement M
 fill_old_spec =
     tie.close
-    (tie.spec invariant-loop decreases-loop
+    (tie.spec invariant-loop-j decreases-loop-j
     (λ c. (search rules, search laws))
     (λ c. search rules)
     (λ c κs. search rules)

@@ -5,18 +5,18 @@ use Rattle.links.specs.Build.{out_lay, source_of, linked_up, fills, source_key, 
 use Rattle.links.proofs.fill_out.Statement.{statement}
 use Rattle.links.proofs.fill_out.Tie as tie
 
-abbrev invariant-loop : tie.invariant-loop
-invariant-loop g ls₀ m i₀ ls i = (i ≤ m) × (ls ≡ linked_up out_lay (source_of g) ls₀ i)
+abbrev invariant-loop-i : tie.invariant-loop-i
+invariant-loop-i g ls₀ m i₀ ls i = (i ≤ m) × (ls ≡ linked_up out_lay (source_of g) ls₀ i)
 
-abbrev decreases-loop : tie.decreases-loop
-decreases-loop g ls₀ m i₀ ls i = m - i
+abbrev decreases-loop-i : tie.decreases-loop-i
+decreases-loop-i g ls₀ m i₀ ls i = m - i
 
 ruleset laws = (rules, fills, source_key)
 
 pub fill_out_spec : {M : Type 1} → statement M
 fill_out_spec =
     tie.close
-    (tie.spec invariant-loop decreases-loop
+    (tie.spec invariant-loop-i decreases-loop-i
     (λ c. (search rules, search laws))
     (λ c κs. search rules)
     (λ c κs. (search rules, search (rules, source_small)))

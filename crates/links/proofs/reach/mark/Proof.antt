@@ -4,16 +4,16 @@ use Rattle.links.specs.Queue.{Seen, seen_start, seen_all}
 use Rattle.links.proofs.reach.mark.Statement.{statement}
 use Rattle.links.proofs.reach.mark.Tie as tie
 
-abbrev invariant-loop : tie.invariant-loop
-invariant-loop g s ls w₀ a h₀ t₀ w h t = Seen g s a w h t
+abbrev invariant-loop-h : tie.invariant-loop-h
+invariant-loop-h g s ls w₀ a h₀ t₀ w h t = Seen g s a w h t
 
-abbrev decreases-loop : tie.decreases-loop
-decreases-loop g s ls w₀ a h₀ t₀ w h t = 128 - h
+abbrev decreases-loop-h : tie.decreases-loop-h
+decreases-loop-h g s ls w₀ a h₀ t₀ w h t = 128 - h
 
 pub mark_spec : {M : Type 1} → statement M
 mark_spec =
     tie.close
-    (tie.spec invariant-loop decreases-loop
+    (tie.spec invariant-loop-h decreases-loop-h
     (λ c. search rules)
     (λ c. search rules)
     (λ c. search rules)

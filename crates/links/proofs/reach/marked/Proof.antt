@@ -7,18 +7,18 @@ use Rattle.links.specs.Sweep.{has_mark, mark_next, mark_stop}
 use Rattle.links.proofs.reach.marked.Statement.{statement}
 use Rattle.links.proofs.reach.marked.Tie as tie
 
-abbrev invariant-loop : tie.invariant-loop
-invariant-loop w n i₀ i = (i ≤ n) × (all_below (has_mark w) i ≡ true)
+abbrev invariant-loop-i : tie.invariant-loop-i
+invariant-loop-i w n i₀ i = (i ≤ n) × (all_below (has_mark w) i ≡ true)
 
-abbrev decreases-loop : tie.decreases-loop
-decreases-loop w n i₀ i = n - i
+abbrev decreases-loop-i : tie.decreases-loop-i
+decreases-loop-i w n i₀ i = n - i
 
 ruleset laws = (rules, below_none, below_whole, mark_next, mark_stop)
 
 pub marked_spec : {M : Type 1} → statement M
 marked_spec =
     tie.close
-    (tie.spec invariant-loop decreases-loop
+    (tie.spec invariant-loop-i decreases-loop-i
     (λ c. (search rules, search laws))
     (λ c. search rules) (λ c. search rules)
     (λ c. search laws)

@@ -3,16 +3,16 @@ use Rattle.links.specs.Queue.{Spreading, spread_start, spread_next, spread_end, 
 use Rattle.links.proofs.reach.visit.Statement.{statement}
 use Rattle.links.proofs.reach.visit.Tie as tie
 
-abbrev invariant-loop : tie.invariant-loop
-invariant-loop g s ls w₀ a h t n e₀ k₀ w e k = Spreading g s a ls w h k n e
+abbrev invariant-loop-e : tie.invariant-loop-e
+invariant-loop-e g s ls w₀ a h t n e₀ k₀ w e k = Spreading g s a ls w h k n e
 
-abbrev decreases-loop : tie.decreases-loop
-decreases-loop g s ls w₀ a h t n e₀ k₀ w e k = e
+abbrev decreases-loop-e : tie.decreases-loop-e
+decreases-loop-e g s ls w₀ a h t n e₀ k₀ w e k = e
 
 pub visit_spec : {M : Type 1} → statement M
 visit_spec =
     tie.close
-    (tie.spec invariant-loop decreases-loop
+    (tie.spec invariant-loop-e decreases-loop-e
     (λ c. search rules)
     (λ c. search rules)
     (λ c κs. search rules)

@@ -5,16 +5,16 @@ use Rattle.records.specs.Text.{TextLeft, text_start, text_low, text_high, text_n
 use Rattle.records.proofs.text.all_text.Statement.{statement}
 use Rattle.records.proofs.text.all_text.Tie as tie
 
-abbrev invariant-loop : tie.invariant-loop
-invariant-loop s k₀ k = (k ≤ length s) × TextLeft s k
+abbrev invariant-loop-k : tie.invariant-loop-k
+invariant-loop-k s k₀ k = (k ≤ length s) × TextLeft s k
 
-abbrev decreases-loop : tie.decreases-loop
-decreases-loop s k₀ k = length s - k
+abbrev decreases-loop-k : tie.decreases-loop-k
+decreases-loop-k s k₀ k = length s - k
 
 pub all_text_spec : {M : Type 1} → statement M
 all_text_spec =
     tie.close
-    (tie.spec invariant-loop decreases-loop
+    (tie.spec invariant-loop-k decreases-loop-k
     (λ c. search (rules, text_start))
     (search rules)
     (λ c. search (rules, text_low))

@@ -7,10 +7,10 @@ use Rattle.texts.specs.Length.{last_count, lasts_start, lasts_more, lasts_end}
 use Rattle.texts.proofs.marks.lasts.Statement.{statement}
 use Rattle.texts.proofs.marks.lasts.Tie as tie
 
-abbrev Inv : tie.invariant-loop
+abbrev Inv : tie.invariant-loop-k
 Inv levels n words k₀ s₀ k s = (k ≤ words) × (s ≤ 64 * k) × (s ≡ last_count (marks_at levels (64 * k)))
 
-abbrev μ : tie.decreases-loop
+abbrev μ : tie.decreases-loop-k
 μ levels n words k₀ s₀ k s = words - k
 
 pub lasts_spec : {M : Type 1} → statement M

@@ -8,11 +8,11 @@ use Rattle.texts.specs.Shown.{shown_first, above_text, above_start, above_more, 
 use Rattle.texts.proofs.pieces.put_above.Statement.{statement}
 use Rattle.texts.proofs.pieces.put_above.Tie as tie
 
-abbrev Inv : tie.invariant-loop
+abbrev Inv : tie.invariant-loop-i
 Inv out₀ levels words widths top n i₀ at₀ out i at = (shown_first top ≤ i) × (i ≤ n) × (length out ≡ length out₀)
     × Near (above_text top levels i) out₀ out at
 
-abbrev μ : tie.decreases-loop
+abbrev μ : tie.decreases-loop-i
 μ out₀ levels words widths top n i₀ at₀ out i at = n - i
 
 pub put_above_spec : {M : Type 1} → statement M

@@ -7,10 +7,10 @@ use Rattle.texts.proofs.Eight.{Stored, eights}
 use Rattle.texts.proofs.pieces.put_eight.Statement.{statement}
 use Rattle.texts.proofs.pieces.put_eight.Tie as tie
 
-abbrev Inv : tie.invariant-loop
+abbrev Inv : tie.invariant-loop-i
 Inv out₀ w x₀ i₀ out x i = (i ≤ 8) × (length out ≡ length out₀) × Stored w x out₀ out i
 
-abbrev μ : tie.decreases-loop
+abbrev μ : tie.decreases-loop-i
 μ out₀ w x₀ i₀ out x i = 8 - i
 
 pub put_eight_spec : {M : Type 1} → statement M

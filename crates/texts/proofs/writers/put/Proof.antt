@@ -7,13 +7,13 @@ use Rattle.texts.proofs.Copy.{Copied, copies}
 use Rattle.texts.proofs.writers.put.Statement.{statement}
 use Rattle.texts.proofs.writers.put.Tie as tie
 
-abbrev Inv : tie.invariant-loop
+abbrev Inv : tie.invariant-loop-i
 Inv out₀ src i₀ out i = (i ≤ length src) × (length out ≡ length out₀) × Copied src out₀ out i
 
-abbrev μ : tie.decreases-loop
+abbrev μ : tie.decreases-loop-i
 μ out₀ src i₀ out i = length src - i
 
-again : tie.Need-loop-preserved Inv μ
+again : tie.Need-loop-i-preserved Inv μ
 again c = search (rules, copies)
 
 returns : tie.Need-returns Inv μ
