@@ -1,5 +1,7 @@
 // What a recorded call shows when it is made again: the answer, and the checksum of the whole room or list that it was lent. The calls that
 // need no graph stand here, the others in `remade`; host/oracle/src/record.rs makes the records and tells their form.
+#![tactic(auto)]
+
 pub mod changes;
 pub mod heads;
 pub mod joins;

@@ -1,4 +1,6 @@
 // The air profile (document 02, order 9): what it refuses of a file that is drawn, by the clauses and by the graph.
+#![tactic(auto)]
+
 ghost use Rattle.std.specs.Prelude.{◌≡◌};
 ghost use Rattle.records.specs.Read.{tables_of};
 ghost use Rattle.index.specs.Index.{Loaded};

@@ -1,5 +1,6 @@
 // The record file as a whole, with the check that says why a record is refused: it is read without writing, and the answer is the size
 // of each table or a refusal from 1 to 6. A good record goes by the arm of its kind (`fits`), which asks all at once.
+#![tactic(auto)]
 
 pub mod fits;
 

@@ -1,5 +1,7 @@
 // Total accessors: no index out of range, and no `requires` that every caller would have to carry. Past the end a read
 // gives 0 and a store does nothing, so that each contract is one equation.
+#![tactic(auto)]
+
 ghost use Rattle.std.specs.Prelude.{◌≡◌, ◌<◌, get_or, set};
 
 // The byte at `at`.

@@ -1,5 +1,7 @@
 // The check and the calls that explain: each owns its working arrays, takes any bytes, any room and any option, and has no `requires`.
 // What other calls share with them is in `answers` and `plans`. The crate `urzulempa` exports them, and the calls that other crates do.
+#![tactic(auto)]
+
 mod airs;
 pub mod answers;
 mod asks;

@@ -1,5 +1,7 @@
 // The calls that show the graph itself: its text (conflict.rs: `graphviz`), its edges as numbers (order 3), the text of the wall display
 // (order 14). Each owns its working arrays, takes any bytes, any room and any option, and has no `requires`. The crate `urzulempa` exports them.
+#![tactic(auto)]
+
 mod edges;
 mod graphs;
 mod walls;

@@ -1,5 +1,7 @@
 // The lowest node on a cycle, in time linear in nodes and edges where there is none: places in post-order fall along every
 // edge then. Only where they do not, the nodes are tried upward, each by a queue over what it leads to.
+#![tactic(auto)]
+
 ghost use Rattle.std.specs.Prelude.{◌≡◌, ◌+◌, ◌<◌, ◌≤◌};
 ghost use Rattle.store.specs.Table.{graph_in, edge_in, Stored};
 ghost use Rattle.links.specs.Build.{Chains};

@@ -1,4 +1,6 @@
 // The graph text (conflict.rs: `graphviz`), unit by unit, into the lent room.
+#![tactic(auto)]
+
 mod marks;
 mod units;
 mod walk;

@@ -1,5 +1,7 @@
 // What each clause of the core adds (conflict.rs: `Conflict::graph`): links, and for clauses 21, 23 and 24 also what is
 // remembered, the last solvable under a forbidden name and the triples made.
+#![tactic(auto)]
+
 mod triples;
 
 ghost use Rattle.std.specs.Prelude.{◌≡◌, ◌<◌, ◌≤◌};

@@ -1,5 +1,7 @@
 // The conflict graph of a loaded file (conflict.rs: `Conflict::graph`): its core's clauses in file order, then the removal of
 // `unresolved`, the chains and reachability; refusals 7, 8 and 9. Who goes along no chains gets the graph without them.
+#![tactic(auto)]
+
 ghost use Rattle.std.specs.Prelude.{◌≡◌, true, ◌<◌, ◌≤◌, length, replicate};
 ghost use Rattle.records.specs.Read.{tables_of};
 ghost use Rattle.index.specs.Index.{Loaded, Blank};

@@ -1,4 +1,6 @@
 // Merge groups of a conflict graph (conflict.rs: `simplify`): each node's first member, by names given as numbers.
+#![tactic(auto)]
+
 mod keys;
 mod leads;
 pub mod names;

@@ -1,6 +1,8 @@
 // The index over an accepted record file: where the record of each number stands, and chains by which later passes find what
 // they would else scan for. It is filled while the file is read, by the arms of the records' kinds (`take`); where an arm says no the
 // file is read again by the check, which says why, and the index is filled behind that (`load_by_check`).
+#![tactic(auto)]
+
 pub mod regions;
 
 ghost use Rattle.std.specs.Prelude.{◌≡◌, ◌+◌, ◌≤◌, ◌<◌, length, get_or, set};

@@ -1,5 +1,7 @@
 // Both labels of a conflict graph (conflict.rs: `get_installable_set`, `get_missing_set`): post-order from the root, and one
 // pass along it.
+#![tactic(auto)]
+
 pub mod order;
 pub mod passes;
 

@@ -1,4 +1,6 @@
 // The lines of an entry of `fmt_graph`: each is measured, and written whole or not at all.
+#![tactic(auto)]
+
 mod package;
 pub mod run;
 pub mod sets;

@@ -1,4 +1,6 @@
 // What a clause of the core links in the graph (conflict.rs: `Conflict::graph`), where the graph is all that it touches.
+#![tactic(auto)]
+
 ghost use Rattle.std.specs.Prelude.{◌≡◌, ◌∷◌, [], ◌<◌, ◌≤◌};
 ghost use Rattle.records.specs.Read.{tables_of};
 ghost use Rattle.index.specs.Index.{Loaded};

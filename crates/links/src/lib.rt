@@ -1,5 +1,7 @@
 // Chains of outgoing and incoming edges, built once over a settled graph, so that no later pass looks at all edges for the
 // sake of one node. Three chains in one table: outgoing and incoming newest first, as petgraph reads edges, and outgoing oldest first.
+#![tactic(auto)]
+
 pub mod reach;
 
 ghost use Rattle.std.specs.Prelude.{◌≡◌, ◌+◌, ◌<◌, ◌≤◌, length};

@@ -1,5 +1,7 @@
 // What `fmt_graph` shows of a labelled graph: as definitions (specs/Plan.antt), and packed into two lent tables
 // (specs/Fields.antt). All reads are total: past its part of a table a node or a run has the word 0.
+#![tactic(auto)]
+
 pub mod reading;
 
 ghost use Rattle.std.specs.Prelude.{◌≡◌, ◌<◌};

@@ -1,5 +1,7 @@
 // The builder of the explanation's plan: runs of each node cut, sorted and written, kinds of line, groups, then the length of each
 // package's display text, so that a line is measured before it is written.
+#![tactic(auto)]
+
 mod along;
 mod kinds;
 mod mates;

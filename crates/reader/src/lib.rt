@@ -1,5 +1,7 @@
 // The record reader: "a reader holds the file's bytes and its place in them" (document 01, "The record file"). Its place is
 // a record's number. Past the last record it gives what `no_rec` holds: kind 0, which no accepted record has, and no text.
+#![tactic(auto)]
+
 pub mod pieces;
 
 ghost use Rattle.std.specs.Prelude.{◌≡◌};

@@ -1,6 +1,7 @@
 // The record file (document 01, "The record file", "Refusal numbers"): the shapes of the records, and one record. `fields` reads it, and
 // the step over the tables before it is public: `check` answers it, a table or a refusal from 2 to 6, `pass` also notes its mark,
 // specs/Laws/CountStep.antt says what it is. The whole file is read in `arms`.
+#![tactic(auto)]
 
 pub mod check;
 pub mod fields;

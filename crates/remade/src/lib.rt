@@ -1,5 +1,7 @@
 // The recorded calls, made again: those that need a graph here, the others in `again`; host/oracle/src/record.rs makes the records and tells
 // their form.
+#![tactic(auto)]
+
 mod asked;
 mod early;
 mod later;

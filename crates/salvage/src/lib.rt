@@ -1,5 +1,7 @@
 // Salvage of a record file into a second buffer (document 02, order 7). First each record is judged by the public step of the reader
 // over the repaired records before it, and nothing that was lent is written; then the file is copied and the replaced records are blanked.
+#![tactic(auto)]
+
 mod judge;
 mod repair;
 

@@ -1,5 +1,7 @@
 // A season's report, lent as 27 words (document 02, order 8): two reports joined, and one file added. Two passes over the counts, the first
 // of which only reads.
+#![tactic(auto)]
+
 ghost use Rattle.std.specs.Prelude.{◌≡◌, true, length, replicate, ◌+◌};
 ghost use Rattle.basis.specs.Below.{all_below};
 ghost use Rattle.season.specs.Words.{deep_in, join_number, join_words, share_words};

@@ -1,5 +1,7 @@
 // The calls of a season's report (document 02, order 8): a file explained, counted and added, and two reports joined. Each takes any bytes,
 // any room and any option, and has no `requires`. The crate `urzulempa` exports them.
+#![tactic(auto)]
+
 mod files;
 pub mod tally;
 

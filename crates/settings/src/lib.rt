@@ -1,4 +1,6 @@
 // The settings file (document 02, order 12): reading it, and changing one setting by appending a record.
+#![tactic(auto)]
+
 ghost use Rattle.std.specs.Prelude.{◌≡◌, ◌+◌, ◌≤◌, ◌<◌, length};
 ghost use Rattle.settings.specs.Settings.{fits_content, lowest, knows, choice_of, entries_of, zeros, judged_record, setting_put, refused, defaults};
 ghost use Rattle.settings.specs.Settings.{settings_from, settings_of};

@@ -1,5 +1,7 @@
 // The conflict graph as it is stored: nodes and edges in the order added, packed into words of a lent table, and the removal
 // of `unresolved`. It knows nothing of records, and it alone knows the packing.
+#![tactic(auto)]
+
 pub mod behind;
 pub mod fan;
 

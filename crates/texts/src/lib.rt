@@ -1,4 +1,6 @@
 // The indenter by value, and line writers over the rest of the lent room.
+#![tactic(auto)]
+
 pub mod graphviz;
 pub mod marks;
 pub mod pieces;

@@ -1,5 +1,7 @@
 // Trivial Graph Format, the text of the wall display (document 02, order 14), read back. First the whole text is judged and counted,
 // and nothing that was lent is written; then the lists are filled.
+#![tactic(auto)]
+
 mod count;
 mod fill;
 mod lines;

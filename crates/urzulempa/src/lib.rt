@@ -1,5 +1,7 @@
 // The public calls (include/urzulempa.h), a line each over the crate that does it, but for the two lists of structs. Each takes any bytes,
 // any room and any option, and has no `requires`.
+#![tactic(auto)]
+
 mod nodes;
 mod whatifs;
 

@@ -1,5 +1,7 @@
 // What the crates above read of an accepted file, through its index. Every number gets an answer: past the end of a table it
 // is what an empty record holds.
+#![tactic(auto)]
+
 ghost use Rattle.std.specs.Prelude.{◌≡◌, ◌≤◌};
 ghost use Rattle.records.specs.Shapes.{records_of};
 ghost use Rattle.records.specs.Tables.{at};

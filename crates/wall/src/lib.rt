@@ -1,4 +1,6 @@
 // The text of the wall display (document 02, order 14): Trivial Graph Format, line by line into the lent room. Packages are not folded.
+#![tactic(auto)]
+
 mod caption_sizes;
 mod captions;
 mod export_lines;

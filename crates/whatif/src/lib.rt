@@ -1,4 +1,6 @@
 // "What if this one were excluded too." (document 02, order 10): the question, asked of a graph that is drawn.
+#![tactic(auto)]
+
 mod counts;
 mod exclusion;
 pub mod relabel;

@@ -1,5 +1,7 @@
 // Writing a record file from rows (document 02, order 1). First every row is judged, in the order of the file, by the public step of the
 // reader over the records before it, and goes into a file of the call's own; only then the lent room is written.
+#![tactic(auto)]
+
 mod eights;
 mod finish;
 mod pass;

@@ -9,4 +9,4 @@ draw_from_spec =
     (tie.spec
     (λ c κs. (search rules, search rules)) (λ c. search rules) (λ c. search whole_stop)
     (λ c κs. (search rules, (search rules, (search rules, (search adds_fine, search rules))))) (λ c. search rules)
-    (λ c. search (whole_rest, c.before.before.before.before.before.before.before.before.before.before.before.before.before.requires.1.1.1.0)))
+    (λ c. search (whole_rest, c.requires.1.1.1.0)))

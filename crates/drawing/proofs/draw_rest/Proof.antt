@@ -9,4 +9,4 @@ draw_rest_spec =
     (tie.spec
     (λ c κs. (search rules, (search rules, (search rules, (search rules, search rules))))) (λ c. search rules)
     (λ c. search rest_stop) (λ c κs. (search adds_fine, search rules)) (λ c. search rules)
-    (λ c. search (rest_closed, c.before.before.before.before.before.before.before.before.before.before.before.before.before.requires.1.1.1.0)))
+    (λ c. search (rest_closed, c.requires.1.1.1.0)))

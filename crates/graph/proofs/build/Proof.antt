@@ -10,8 +10,8 @@ build_spec =
     (λ c κs. search rules) (λ c κs. (search rules, (search (rules, start_holds), search (rules, clauses_most)))) (λ c. search rules) (λ c. search rules)
     (λ c κs. (search (rules, whole_growing), search (rules, whole_wide))) (λ c. search (rules, build_refused))
     (λ c. build_whole _ _ _ _ _ _ _ _ _ _
-    c.before.before.before.before.before.before.before.before.before.before.before.before.before.before.requires.1.0
-    c.before.before.before.before.before.before.before.before.before.before.before.start.ensures.0
-    c.before.before.before.before.before.before.before.before.before.before.before.before.before.before.requires.1.1.1.1
-    c.before.before.before.before.before.before.before.build-core.ensures _ c.before.before.before.before.before.r2.given.0.0 _ _ _
+    c.requires.1.0
+    c.start.ensures.0
+    c.requires.1.1.1.1
+    c.build-core.ensures _ c.r2.given.0.0 _ _ _
     (search rules) c.finish.ensures))

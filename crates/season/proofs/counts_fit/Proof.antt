@@ -9,16 +9,16 @@ use Rattle.season.specs.Laws.Words.{flag_step, flag_fails}
 use Rattle.season.proofs.counts_fit.Statement.{statement}
 use Rattle.season.proofs.counts_fit.Tie as tie
 
-abbrev invariant-loop : tie.invariant-loop
-invariant-loop report second i₀ i = (i ≤ 24) × (all_below (pair_fits report second) i ≡ true)
+abbrev invariant-loop-i : tie.invariant-loop-i
+invariant-loop-i report second i₀ i = (i ≤ 24) × (all_below (pair_fits report second) i ≡ true)
 
-abbrev decreases-loop : tie.decreases-loop
-decreases-loop report second i₀ i = 24 - i
+abbrev decreases-loop-i : tie.decreases-loop-i
+decreases-loop-i report second i₀ i = 24 - i
 
 pub counts_fit_spec : {M : Type 1} → statement M
 counts_fit_spec =
     tie.close
-    (tie.spec invariant-loop decreases-loop
+    (tie.spec invariant-loop-i decreases-loop-i
     (λ c. (search rules, search below_none))
     (λ c κs. search rules)
     (λ c. search flag_fails)

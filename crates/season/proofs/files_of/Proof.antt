@@ -7,20 +7,20 @@ use Rattle.season.specs.Laws.Words.{files_start, files_next, files_wide, files_e
 use Rattle.season.proofs.files_of.Statement.{statement}
 use Rattle.season.proofs.files_of.Tie as tie
 
-abbrev invariant-loop : tie.invariant-loop
-invariant-loop ws s₀ i₀ s i = (i ≤ 19) × (s ≤ 18446744073709551615) × (s ≡ files_in ws i)
+abbrev invariant-loop-i : tie.invariant-loop-i
+invariant-loop-i ws s₀ i₀ s i = (i ≤ 19) × (s ≤ 18446744073709551615) × (s ≡ files_in ws i)
 
-abbrev decreases-loop : tie.decreases-loop
-decreases-loop ws s₀ i₀ s i = 19 - i
+abbrev decreases-loop-i : tie.decreases-loop-i
+decreases-loop-i ws s₀ i₀ s i = 19 - i
 
 pub files_of_spec : {M : Type 1} → statement M
 files_of_spec =
     tie.close
-    (tie.spec invariant-loop decreases-loop
+    (tie.spec invariant-loop-i decreases-loop-i
     (λ c. (search rules, search rules, search files_start))
     (λ c κs. search rules)
     (λ c. search rules)
-    (λ c. let h : c.before.get64.result ≤ 18446744073709551615 = omega arith in search files_wide)
+    (λ c. let h : c.get64.result ≤ 18446744073709551615 = omega arith in search files_wide)
     (λ c. search rules)
     (λ c. search rules)
     (λ c. search rules)

@@ -10,8 +10,8 @@ later_spec =
     tie.close
     (tie.spec
     (λ c. search rules)
-    (λ c. let h : c.before.args.n ≤ 18446744073709551615 = omega arith in let g : c.before.args.depth ≤ 18446744073709551615 = omega arith in
+    (λ c. let h : c.args.n ≤ 18446744073709551615 = omega arith in let g : c.args.depth ≤ 18446744073709551615 = omega arith in
     search later_wide)
     (λ c. search rules)
-    (λ c. let h : c.before.args.n ≤ 18446744073709551615 = omega arith in let g : c.before.args.depth ≤ 18446744073709551615 = omega arith in
+    (λ c. let h : c.args.n ≤ 18446744073709551615 = omega arith in let g : c.args.depth ≤ 18446744073709551615 = omega arith in
     search later_fits))

@@ -5,17 +5,17 @@ use Rattle.settings.specs.Laws.Ways.{ZeroLeft, zero_start, zero_stop, zero_next,
 use Rattle.settings.proofs.all_zero.Statement.{statement}
 use Rattle.settings.proofs.all_zero.Tie as tie
 
-abbrev invariant-loop : tie.invariant-loop
-invariant-loop s k₀ k = (k ≤ length s) × ZeroLeft s k
+abbrev invariant-loop-k : tie.invariant-loop-k
+invariant-loop-k s k₀ k = (k ≤ length s) × ZeroLeft s k
 
-abbrev decreases-loop : tie.decreases-loop
-decreases-loop s k₀ k = length s - k
+abbrev decreases-loop-k : tie.decreases-loop-k
+decreases-loop-k s k₀ k = length s - k
 
 pub all_zero_spec : {M : Type 1} → statement M
 all_zero_spec =
     tie.close
     (tie.spec
-    invariant-loop decreases-loop
+    invariant-loop-k decreases-loop-k
     (λ c. search (rules, zero_start))
     (search rules)
     (λ c. search (rules, zero_stop))

@@ -6,5 +6,5 @@ use Rattle.display.proofs.package_sizes.version_length.Tie as tie
 pub version_length_spec : {M : Type 1} → statement M
 version_length_spec =
     tie.close
-    (tie.spec (λ c κs. search rules) (λ c κs. search rules) (λ c. version_length_is _ _ c.before.before.before.requires _ _ _
-    c.before.version_text_lem.ensures c.long.ensures))
+    (tie.spec (λ c κs. search rules) (λ c κs. search rules) (λ c. version_length_is _ _ c.requires _ _ _
+    c.version_text_lem.ensures c.long.ensures))

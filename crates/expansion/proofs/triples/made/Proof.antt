@@ -10,18 +10,18 @@ use Rattle.expansion.specs.Hashed.{triple_lay, hash_of, held}
 use Rattle.expansion.proofs.triples.made.Statement.{statement}
 use Rattle.expansion.proofs.triples.made.Tie as tie
 
-abbrev invariant-loop : tie.invariant-loop
-invariant-loop tr w n t h e₀ e = Down triple_lay (keyed hash_of tr) w n h e × (some_of (word_is tr t) (downs (keyed hash_of tr) e h) ≡ any (eqb t) (take n tr))
+abbrev invariant-loop-e : tie.invariant-loop-e
+invariant-loop-e tr w n t h e₀ e = Down triple_lay (keyed hash_of tr) w n h e × (some_of (word_is tr t) (downs (keyed hash_of tr) e h) ≡ any (eqb t) (take n tr))
 
-abbrev decreases-loop : tie.decreases-loop
-decreases-loop tr w n t h e₀ e = e
+abbrev decreases-loop-e : tie.decreases-loop-e
+decreases-loop-e tr w n t h e₀ e = e
 
 ruleset laws = (rules, somes_down)
 
 pub made_spec : {M : Type 1} → statement M
 made_spec =
     tie.close
-    (tie.spec invariant-loop decreases-loop
+    (tie.spec invariant-loop-e decreases-loop-e
     (λ c κs. search rules)
     (λ c κs. search rules)
     (λ c. (search laws, search (rules, has_start, held)))

@@ -10,7 +10,7 @@ kid_turn_spec =
     tie.close
     (tie.spec
     (λ c κs. search rules) (λ c κs. (search rules, search rules)) (λ c. search rules)
-    (λ c κs. omega (arith, c.before.before.before.before.before.before.before.before.requires))
+    (λ c κs. omega (arith, c.requires))
     (λ c. search kid_skip) (λ c. search rules) (λ c. search kid_repeat) (λ c. search rules)
     (λ c κs. (
       search rules,
@@ -29,4 +29,4 @@ kid_turn_spec =
       ),
     ))
     (λ c. search rules)
-    (λ c. search (kid_show, c.before.before.before.before.before.before.before.before.before.before.before.before.before.requires)))
+    (λ c. search (kid_show, c.requires)))

@@ -33,11 +33,11 @@ turn_spec =
     ))
     (λ c. search rules) (λ c. search rules)
     (λ c κs. (search rules, (search rules, (search rules, (search rules, search level_run))))) (λ c. search rules)
-    (λ c. c.before.before.run-turn.ensures _) (λ c κs. search rules)
+    (λ c. c.run-turn.ensures _) (λ c κs. search rules)
     (λ c. search (
       pop_on,
-      c.before.before.before.before.before.before.if1,
-      c.before.before.before.before.if2,
-      c.before.before.before.before.before.before.before.before.before.before.requires,
+      c.if1,
+      c.if2,
+      c.requires,
     ))
     (λ c. search pop_done))

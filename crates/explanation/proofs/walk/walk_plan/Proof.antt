@@ -45,19 +45,19 @@ walk_plan_spec =
       search rules,
       search (
         walking_on,
-        c.before.before.before.before.before.before.before.before.before.before.level.ensures.0,
-        c.before.before.before.before.before.turn.ensures,
+        c.level.ensures.0,
+        c.turn.ensures,
       ),
     ))
     (λ c. search rules) (λ c κs. search rules) (λ c. search rules) (λ c. search walk_ends)
     (λ c. search rules) (λ c κs. search rules)
     (λ c. search (
       rules,
-      c.before.before.before.before.before.before.before.before.before.before.before.before.before.before.loop.invariant.1.same,
+      c.loop.invariant.1.same,
     ))
     (λ c. search (
       walk_ends,
-      c.before.before.before.before.before.before.before.before.before.before.before.before.level.ensures.0,
-      c.before.before.before.before.before.before.before.turn.ensures,
+      c.level.ensures.0,
+      c.turn.ensures,
     ))
     (λ c. search rules) (λ c κs. search rules) (λ c. search rules) (λ c. search walk_ends))

@@ -3,16 +3,16 @@ use Rattle.groups.specs.Keys.{Way, tally, way_start, way_next, way_less, counter
 use Rattle.groups.proofs.keys.count_of.Statement.{statement}
 use Rattle.groups.proofs.keys.count_of.Tie as tie
 
-abbrev invariant-loop : tie.invariant-loop
-invariant-loop g ls d n k e₀ c₀ e c = Way g ls d n e × ((c + e ≤ e₀) × (tally g d n k e c ≡ tally g d n k e₀ c₀))
+abbrev invariant-loop-e : tie.invariant-loop-e
+invariant-loop-e g ls d n k e₀ c₀ e c = Way g ls d n e × ((c + e ≤ e₀) × (tally g d n k e c ≡ tally g d n k e₀ c₀))
 
-abbrev decreases-loop : tie.decreases-loop
-decreases-loop g ls d n k e₀ c₀ e c = e
+abbrev decreases-loop-e : tie.decreases-loop-e
+decreases-loop-e g ls d n k e₀ c₀ e c = e
 
 pub count_of_spec : {M : Type 1} → statement M
 count_of_spec =
     tie.close
-    (tie.spec invariant-loop decreases-loop
+    (tie.spec invariant-loop-e decreases-loop-e
     (λ c κs. search rules)
     (λ c. (search way_start, (search rules, search rules)))
     (λ c. search rules)

@@ -3,16 +3,16 @@ use Rattle.groups.specs.Keys.{Way, even_left, way_next, way_less, even_stop, eve
 use Rattle.groups.proofs.keys.even_from.Statement.{statement}
 use Rattle.groups.proofs.keys.even_from.Tie as tie
 
-abbrev invariant-loop : tie.invariant-loop
-invariant-loop g s ls d m n a e₀ e = Way g ls d m e × (even_left g s d m n e ≡ even_left g s d m n e₀)
+abbrev invariant-loop-e : tie.invariant-loop-e
+invariant-loop-e g s ls d m n a e₀ e = Way g ls d m e × (even_left g s d m n e ≡ even_left g s d m n e₀)
 
-abbrev decreases-loop : tie.decreases-loop
-decreases-loop g s ls d m n a e₀ e = e
+abbrev decreases-loop-e : tie.decreases-loop-e
+decreases-loop-e g s ls d m n a e₀ e = e
 
 pub even_from_spec : {M : Type 1} → statement M
 even_from_spec =
     tie.close
-    (tie.spec invariant-loop decreases-loop
+    (tie.spec invariant-loop-e decreases-loop-e
     (λ c. (search rules, search rules))
     (λ c. search rules)
     (λ c κs. search rules)

@@ -5,16 +5,16 @@ use Rattle.groups.specs.Noted.{text_in}
 use Rattle.groups.proofs.naming.first_named.Statement.{statement}
 use Rattle.groups.proofs.naming.first_named.Tie as tie
 
-abbrev invariant-loop : tie.invariant-loop
-invariant-loop file ix names keys n m₀ m = (m ≤ n) × (first_from (text_in (tables_of file) names) n m ≡ first_like (text_in (tables_of file) names) n)
+abbrev invariant-loop-m : tie.invariant-loop-m
+invariant-loop-m file ix names keys n m₀ m = (m ≤ n) × (first_from (text_in (tables_of file) names) n m ≡ first_like (text_in (tables_of file) names) n)
 
-abbrev decreases-loop : tie.decreases-loop
-decreases-loop file ix names keys n m₀ m = n - m
+abbrev decreases-loop-m : tie.decreases-loop-m
+decreases-loop-m file ix names keys n m₀ m = n - m
 
 pub first_named_spec : {M : Type 1} → statement M
 first_named_spec =
     tie.close
-    (tie.spec invariant-loop decreases-loop
+    (tie.spec invariant-loop-m decreases-loop-m
     (λ c. (search rules, search first_start))
     (λ c κs. (search rules, (search rules, search rules)))
     (λ c. (search first_hit, search rules))

@@ -4,16 +4,16 @@ use Rattle.labels.specs.Passes.{Coming, ex_left, coming_start, coming_next, comi
 use Rattle.labels.proofs.passes.excluded_into.Statement.{statement}
 use Rattle.labels.proofs.passes.excluded_into.Tie as tie
 
-abbrev invariant-loop : tie.invariant-loop
-invariant-loop g ls n e₀ e = Coming g ls n e × (ex_left g n e ≡ ex_left g n e₀)
+abbrev invariant-loop-e : tie.invariant-loop-e
+invariant-loop-e g ls n e₀ e = Coming g ls n e × (ex_left g n e ≡ ex_left g n e₀)
 
-abbrev decreases-loop : tie.decreases-loop
-decreases-loop g ls n e₀ e = e
+abbrev decreases-loop-e : tie.decreases-loop-e
+decreases-loop-e g ls n e₀ e = e
 
 pub excluded_into_spec : {M : Type 1} → statement M
 excluded_into_spec =
     tie.close
-    (tie.spec invariant-loop decreases-loop
+    (tie.spec invariant-loop-e decreases-loop-e
     (λ c κs. search rules)
     (λ c. (search coming_start, search rules))
     (λ c. search rules)
