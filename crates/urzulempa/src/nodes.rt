@@ -1,5 +1,5 @@
 // The node list that a host lends (document 01, "Graph rules", last paragraph). The work is done into packed words, one a node, and
-// `entries::fill` hands them out. A slice of structs is proved by hand: no branch here, so that the walk of the code is straight.
+// `entries::fill` hands them out.
 ghost use Rattle.std.specs.Prelude.{◌≡◌, length};
 ghost use Rattle.calls.specs.Nodes.{nodes_answer, nodes_left};
 

@@ -1,5 +1,4 @@
 // The node list of the graph asked for (order 10), as in nodes.rt: the work is done into packed words, and `entries::fill` hands them out.
-// A slice of structs is proved by hand: no branch here, so that the walk of the code is straight.
 ghost use Rattle.std.specs.Prelude.{◌≡◌, length};
 ghost use Rattle.calls.specs.WhatIf.{what_if_answer, what_if_left};
 
