@@ -3,16 +3,16 @@ use Rattle.cycles.specs.Laws.Walks.{Closing, close_start, close_less, close_edge
 use Rattle.cycles.proofs.comes_back.Statement.{statement}
 use Rattle.cycles.proofs.comes_back.Tie as tie
 
-abbrev invariant-loop : tie.invariant-loop
-invariant-loop g s ls w n e₀ e = Closing g s ls w n e
+abbrev invariant-loop-e : tie.invariant-loop-e
+invariant-loop-e g s ls w n e₀ e = Closing g s ls w n e
 
-abbrev decreases-loop : tie.decreases-loop
-decreases-loop g s ls w n e₀ e = e
+abbrev decreases-loop-e : tie.decreases-loop-e
+decreases-loop-e g s ls w n e₀ e = e
 
 pub comes_back_spec : {M : Type 1} → statement M
 comes_back_spec =
     tie.close
-    (tie.spec invariant-loop decreases-loop
+    (tie.spec invariant-loop-e decreases-loop-e
     (λ c κs. search rules)
     (λ c. search (rules, close_start))
     (λ c. search rules)

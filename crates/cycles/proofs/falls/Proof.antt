@@ -6,16 +6,16 @@ use Rattle.cycles.specs.Laws.Walks.{Fallen, fallen_start, fallen_next, fallen_en
 use Rattle.cycles.proofs.falls.Statement.{statement}
 use Rattle.cycles.proofs.falls.Tie as tie
 
-abbrev invariant-loop : tie.invariant-loop
-invariant-loop g s pos i₀ i = (i ≤ s.edges) × (Fallen g pos i)
+abbrev invariant-loop-i : tie.invariant-loop-i
+invariant-loop-i g s pos i₀ i = (i ≤ s.edges) × (Fallen g pos i)
 
-abbrev decreases-loop : tie.decreases-loop
-decreases-loop g s pos i₀ i = s.edges - i
+abbrev decreases-loop-i : tie.decreases-loop-i
+decreases-loop-i g s pos i₀ i = s.edges - i
 
 pub falls_spec : {M : Type 1} → statement M
 falls_spec =
     tie.close
-    (tie.spec invariant-loop decreases-loop
+    (tie.spec invariant-loop-i decreases-loop-i
     (λ c. (search rules, search fallen_start))
     (λ c κs. search rules)
     (λ c κs. search rules)

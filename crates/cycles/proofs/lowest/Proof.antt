@@ -7,16 +7,16 @@ use Rattle.cycles.specs.Laws.Walks.{FreeTo, free_start, free_next, free_hit, fre
 use Rattle.cycles.proofs.lowest.Statement.{statement}
 use Rattle.cycles.proofs.lowest.Tie as tie
 
-abbrev invariant-loop : tie.invariant-loop
-invariant-loop g s ls n₀ n = (n ≤ s.nodes) × (FreeTo (targets (graph_in g s)) n)
+abbrev invariant-loop-n : tie.invariant-loop-n
+invariant-loop-n g s ls n₀ n = (n ≤ s.nodes) × (FreeTo (targets (graph_in g s)) n)
 
-abbrev decreases-loop : tie.decreases-loop
-decreases-loop g s ls n₀ n = s.nodes - n
+abbrev decreases-loop-n : tie.decreases-loop-n
+decreases-loop-n g s ls n₀ n = s.nodes - n
 
 pub lowest_spec : {M : Type 1} → statement M
 lowest_spec =
     tie.close
-    (tie.spec invariant-loop decreases-loop
+    (tie.spec invariant-loop-n decreases-loop-n
     (λ c. (search rules, search free_start))
     (λ c κs. search rules)
     (λ c. search rules)

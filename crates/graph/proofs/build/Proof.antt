@@ -11,7 +11,7 @@ build_spec =
     (λ c κs. (search (rules, whole_growing), search (rules, whole_wide))) (λ c. search (rules, build_refused))
     (λ c. build_whole _ _ _ _ _ _ _ _ _ _
     c.requires.1.0
-    c.start.ensures.0
+    c.start-s.ensures.0
     c.requires.1.1.1.1
-    c.build-core.ensures _ c.r2.given.0.0 _ _ _
+    c.build_core-r.ensures _ c.in-Whole.m _ _ _
     (search rules) c.finish.ensures))

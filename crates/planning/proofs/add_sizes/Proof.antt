@@ -15,9 +15,9 @@ add_sizes_spec =
     tie.close
     (tie.spec invariant-loop decreases-loop (λ c. (search adding_none, search rules)) (λ c. search rules) (λ c κs. search rules) (λ c κs. search rules) (λ c κs. search rules)
     (λ c κs. (search adding_fits, search rules)) (λ c. search rules) (λ c. search rules) (λ c. search rules) (λ c. search rules) (λ c. search rules) (λ c. (
-      adding_step _ _ _ _ _ c.loop.invariant.0
-          c.loop.invariant.1
-          c.loop-test.true _ _ _ _ c.get64.ensures
-          c.get16.ensures c.wide16.ensures.0 c.add-size.ensures,
+      adding_step _ _ _ _ _ c.loop-n.invariant.0
+          c.loop-n.invariant.1
+          c.loop-n-test.true _ _ _ _ c.get64-t.ensures
+          c.get16.ensures c.wide16-v.ensures.0 c.add_size-w.ensures,
       search rules,
     )) (λ c. search adding_end))

@@ -12,11 +12,11 @@ deepest_spec =
     (λ c κs. search rules) (λ c κs. search rules) (λ c κs. search rules)
     (λ c κs. search rules) (λ c κs. search rules) (λ c κs. search rules)
     (λ c. search deep_none)
-    (λ c. let h : c.get643.result ≤ 18446744073709551615 = omega arith in
-    let g : c.get644.result ≤ 18446744073709551615 = omega arith in search deep_first)
+    (λ c. let h : c.get64-d.result ≤ 18446744073709551615 = omega arith in
+    let g : c.get64-f.result ≤ 18446744073709551615 = omega arith in search deep_first)
     (λ c κs. search rules)
     (λ c. search deep_second)
     (λ c κs. search rules)
     (λ c. search deep_more)
-    (λ c. let h : c.get643.result ≤ 18446744073709551615 = omega arith in
-    let g : c.get644.result ≤ 18446744073709551615 = omega arith in search deep_less))
+    (λ c. let h : c.get64-d.result ≤ 18446744073709551615 = omega arith in
+    let g : c.get64-f.result ≤ 18446744073709551615 = omega arith in search deep_less))

@@ -20,7 +20,7 @@ files_of_spec =
     (λ c. (search rules, search rules, search files_start))
     (λ c κs. search rules)
     (λ c. search rules)
-    (λ c. let h : c.get64.result ≤ 18446744073709551615 = omega arith in search files_wide)
+    (λ c. let h : c.get64-a.result ≤ 18446744073709551615 = omega arith in search files_wide)
     (λ c. search rules)
     (λ c. search rules)
     (λ c. search rules)

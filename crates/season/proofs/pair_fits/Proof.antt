@@ -10,4 +10,4 @@ pair_fits_spec =
     tie.close
     (tie.spec
     (λ c κs. search rules) (λ c κs. search rules) (λ c. search rules)
-    (λ c. let h : c.get64.result ≤ 18446744073709551615 = omega arith in search pair_is))
+    (λ c. let h : c.get64-a.result ≤ 18446744073709551615 = omega arith in search pair_is))

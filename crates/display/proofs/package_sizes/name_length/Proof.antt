@@ -6,5 +6,5 @@ use Rattle.display.proofs.package_sizes.name_length.Tie as tie
 pub name_length_spec : {M : Type 1} → statement M
 name_length_spec =
     tie.close
-    (tie.spec (λ c κs. search rules) (λ c κs. search rules) (λ c. name_length_is _ _ c.requires _ _ _ c.name_text_lem.ensures
+    (tie.spec (λ c κs. search rules) (λ c κs. search rules) (λ c. name_length_is _ _ c.requires _ _ _ c.name_text-t.ensures
     c.long.ensures))

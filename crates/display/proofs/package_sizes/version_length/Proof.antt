@@ -7,4 +7,4 @@ pub version_length_spec : {M : Type 1} → statement M
 version_length_spec =
     tie.close
     (tie.spec (λ c κs. search rules) (λ c κs. search rules) (λ c. version_length_is _ _ c.requires _ _ _
-    c.version_text_lem.ensures c.long.ensures))
+    c.version_text-t.ensures c.long.ensures))

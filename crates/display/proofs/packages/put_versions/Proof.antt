@@ -9,12 +9,12 @@ use Rattle.plan.specs.Texts.{versions_in}
 use Rattle.display.proofs.packages.put_versions.Statement.{statement}
 use Rattle.display.proofs.packages.put_versions.Tie as tie
 
-abbrev Inv : tie.invariant-loop
+abbrev Inv : tie.invariant-loop-y
 Inv file ix p out₀ x y₀ at₀ out y at =
     (y < 256) × ((at ≤ length out) × ((length out ≡ length out₀) × Along (versions_in (tables_of file) p (mates_from p x))
     (versions_in (tables_of file) p (mates_from p y)) out₀ out at))
 
-abbrev μ : tie.decreases-loop
+abbrev μ : tie.decreases-loop-y
 μ file ix p out₀ x y₀ at₀ out y at = mates_left p y
 
 pub put_versions_spec : {M : Type 1} → statement M

@@ -7,10 +7,10 @@ use Rattle.display.specs.Laws.Quoted.{quoted_to, quoting_start, quoting_room, qu
 use Rattle.display.proofs.quotes.put_quoted.Statement.{statement}
 use Rattle.display.proofs.quotes.put_quoted.Tie as tie
 
-abbrev Inv : tie.invariant-loop
+abbrev Inv : tie.invariant-loop-i
 Inv out₀ text i₀ at₀ out i at = (i ≤ length text) × ((at ≤ length out) × ((length out ≡ length out₀) × Wrote (quoted_to text i) out₀ out at))
 
-abbrev μ : tie.decreases-loop
+abbrev μ : tie.decreases-loop-i
 μ out₀ text i₀ at₀ out i at = length text - i
 
 pub put_quoted_spec : {M : Type 1} → statement M

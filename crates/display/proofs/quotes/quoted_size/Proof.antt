@@ -6,10 +6,10 @@ use Rattle.display.specs.Laws.Quoted.{quoted_to, sizing_start, sizing_next, sizi
 use Rattle.display.proofs.quotes.quoted_size.Statement.{statement}
 use Rattle.display.proofs.quotes.quoted_size.Tie as tie
 
-abbrev Inv : tie.invariant-loop
+abbrev Inv : tie.invariant-loop-i
 Inv text i₀ n₀ i n = (i ≤ length text) × ((n ≤ 2 * i) × (n ≡ length (quoted_to text i)))
 
-abbrev μ : tie.decreases-loop
+abbrev μ : tie.decreases-loop-i
 μ text i₀ n₀ i n = length text - i
 
 pub quoted_size_spec : {M : Type 1} → statement M

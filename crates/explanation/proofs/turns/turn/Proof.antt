@@ -33,7 +33,7 @@ turn_spec =
     ))
     (λ c. search rules) (λ c. search rules)
     (λ c κs. (search rules, (search rules, (search rules, (search rules, search level_run))))) (λ c. search rules)
-    (λ c. c.run-turn.ensures _) (λ c κs. search rules)
+    (λ c. c.run_turn.ensures _) (λ c κs. search rules)
     (λ c. search (
       pop_on,
       c.if1,

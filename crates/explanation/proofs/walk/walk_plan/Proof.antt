@@ -46,7 +46,7 @@ walk_plan_spec =
       search (
         walking_on,
         c.level.ensures.0,
-        c.turn.ensures,
+        c.turn-m.ensures,
       ),
     ))
     (λ c. search rules) (λ c κs. search rules) (λ c. search rules) (λ c. search walk_ends)
@@ -58,6 +58,6 @@ walk_plan_spec =
     (λ c. search (
       walk_ends,
       c.level.ensures.0,
-      c.turn.ensures,
+      c.turn-m.ensures,
     ))
     (λ c. search rules) (λ c κs. search rules) (λ c. search rules) (λ c. search walk_ends))

@@ -16,8 +16,8 @@ group_all_spec =
     (λ c. search rules) (λ c. search rules) (λ c κs. search rules) (λ c κs. search rules) (λ c κs. search rules) (λ c κs. search rules) (λ c κs.
     (search group_lead, search group_last)) (λ c. search rules) (λ c. search rules) (λ c. search (rules, group_index))
     (λ c. search rules) (λ c. search rules) (λ c. search (rules, group_lead)) (λ c. search rules)
-    (λ c. group_step _ _ _ _ _ _ c.loop.invariant
-    c.loop-test.true _ _
-    c.get16.ensures c.wide16.ensures.0
-    _ _ _ c.get162.ensures c.wide162.ensures.0 c.group_word.ensures.0)
+    (λ c. group_step _ _ _ _ _ _ c.loop-n.invariant
+    c.loop-n-test.true _ _
+    c.get16.ensures c.wide16-l.ensures.0
+    _ _ _ c.get16-2.ensures c.wide16-x.ensures.0 c.group_word-w.ensures.0)
     (λ c. search group_end))
