@@ -1,11 +1,17 @@
 // The log of a shift: for each record file that the arguments name, what the explanation with option 0 answers, in words, and its text.
 // Of a record that is refused it says which one it is.
-ghost use Rattle.std.specs.Prelude.{◌≡◌, ◌≤◌, min, length};
+#![tactic(auto)]
+
+ghost use Rattle.std.specs.Prelude.{◌≡◌, ◌≤◌, min, length, IfOk, IfSome};
 ghost use Rattle.records.specs.Text.{all_text};
 ghost use Rattle.shift_log.specs.Log.{Numbered, counted, unread_more};
 
 use calls::Answer;
 use reader::{kind_of, text_of};
+use std::env::FillError;
+use std::io::{Read, Write};
+use std::rt::{Env, Files};
+use std::{fs, io, str};
 use urzulempa::urzulempa_explain;
 
 // How many files were explained to the end, were refused, and could not be read.
@@ -16,17 +22,32 @@ struct Shift {
     unread: u64,
 }
 
-fn say(text: &[u8]) {
-    io::write_all(1, text);
+fn say<W: Write>(out: &mut W, text: &[u8]) -> io::Result<()> {
+    out.write_all(text)
 }
 
-fn say_number(n: u64) {
-    io::print_decimal(1, n);
+fn say_number<W: Write>(out: &mut W, n: u64) -> io::Result<()> {
+    write!(out, "{n}")
 }
 
-fn say_with(text: &[u8], n: u64) {
-    say(text);
-    say_number(n);
+fn say_with<W: Write>(out: &mut W, text: &[u8], n: u64) -> io::Result<()> {
+    say(out, text)?;
+    say_number(out, n)
+}
+
+// Where the first bar of a list stands from `at` on, or the list's end.
+fn find_bar(list: &[u8], at: usize) -> usize
+    requires { at ≤ length list.now }
+    ensures { (at ≤ result) × (result ≤ length list.now) }
+{
+    let mut e = at;
+    while e < list.len() {
+        if list[e] == b'|' {
+            return e;
+        }
+        e += 1;
+    }
+    e
 }
 
 // Where the text behind the one at `at` begins. The texts of a list stand behind one another, each ends with a bar.
@@ -34,7 +55,7 @@ fn behind(list: &[u8], at: usize) -> usize
     requires { at ≤ length list.now }
     ensures { result ≤ length list.now }
 {
-    let e = bytes::scan::find(list, at, list.len(), b'|');
+    let e = find_bar(list, at);
     if e < list.len() {
         return e + 1;
     }
@@ -54,38 +75,37 @@ fn nth(list: &[u8], n: u64) -> usize
     at
 }
 
-fn say_nth(list: &[u8], n: u64) {
+fn say_nth<W: Write>(out: &mut W, list: &[u8], n: u64) -> io::Result<()> {
     let at = nth(list, n);
-    let e = bytes::scan::find(list, at, list.len(), b'|');
-    say(&list[at..e]);
+    let e = find_bar(list, at);
+    say(out, &list[at..e])
 }
 
 // A clause, by its kind.
-fn say_clause(kind: u64) {
+fn say_clause<W: Write>(out: &mut W, kind: u64) -> io::Result<()> {
     if kind < 16 {
-        say_with(b"kind ", kind);
-        return;
+        return say_with(out, b"kind ", kind);
     }
     if kind > 25 {
-        say_with(b"kind ", kind);
-        return;
+        return say_with(out, b"kind ", kind);
     }
     say_nth(
+        out,
         b"InstallRoot|Excluded|Learnt|Requires|Lock|ForbidMultipleInstances|Constrains|ConstrainsParent|ConstrainsExcluded|AnyOf|",
         kind - 16,
-    );
+    )
 }
 
 // A kind of record.
-fn say_kind(kind: u64) {
+fn say_kind<W: Write>(out: &mut W, kind: u64) -> io::Result<()> {
     if kind < 9 {
-        say_nth(
+        return say_nth(
+            out,
             b"kind 0|name|solvable|version set|requirement|candidate|reason|variable|assigned-by|",
             kind,
         );
-        return;
     }
-    say_clause(kind);
+    say_clause(out, kind)
 }
 
 // Each byte can be shown: "each from 32 to 126".
@@ -107,53 +127,52 @@ fn printable(text: &[u8]) -> bool
 }
 
 // A text in quotes, if there is one and it can be shown.
-fn say_quoted(text: &[u8]) {
+fn say_quoted<W: Write>(out: &mut W, text: &[u8]) -> io::Result<()> {
     if text.len() == 0 {
-        return;
+        return Ok(());
     }
     if !printable(text) {
-        return;
+        return Ok(());
     }
-    say(b" \"");
-    say(text);
-    say(b"\"");
+    say(out, b" \"")?;
+    say(out, text)?;
+    say(out, b"\"")
 }
 
 // Which record it is: its kind, and its text.
-fn say_which(file: &[u8], i: usize) {
-    say(b" (");
-    say_kind(kind_of(file, i) as u64);
-    say_quoted(text_of(file, i));
-    say(b")");
+fn say_which<W: Write>(out: &mut W, file: &[u8], i: usize) -> io::Result<()> {
+    say(out, b" (")?;
+    say_kind(out, kind_of(file, i) as u64)?;
+    say_quoted(out, text_of(file, i))?;
+    say(out, b")")
 }
 
 // What a refusal's place counts.
-fn say_place(file: &[u8], number: u64, place: u64) {
+fn say_place<W: Write>(out: &mut W, file: &[u8], number: u64, place: u64) -> io::Result<()> {
     if number < 2 {
-        return;
+        return Ok(());
     }
     if number < 7 {
-        say_with(b" at record ", place);
-        say_which(file, place as usize);
-        return;
+        say_with(out, b" at record ", place)?;
+        return say_which(out, file, place as usize);
     }
     if number < 9 {
-        say_with(b" at clause ", place);
-        return;
+        return say_with(out, b" at clause ", place);
     }
     if number == 9 {
-        say_with(b" at node ", place);
-        return;
+        return say_with(out, b" at node ", place);
     }
     if number == 11 {
-        say_with(b" at solvable ", place);
+        return say_with(out, b" at solvable ", place);
     }
+    Ok(())
 }
 
 // Why a file has no whole explanation.
-fn say_reason(number: u64) {
+fn say_reason<W: Write>(out: &mut W, number: u64) -> io::Result<()> {
     let n = if number < 13 { number } else { 0 };
     say_nth(
+        out,
         b"no such refusal|\
         no file of 32-byte records, or too long|\
         a kind of record that does not exist|\
@@ -168,29 +187,28 @@ fn say_reason(number: u64) {
         its package comes to be opened below itself, the lines before that are whole|\
         the option is neither 0 nor 1|",
         n,
-    );
+    )
 }
 
-fn say_refusal(file: &[u8], number: u64, place: u64) {
-    say_with(b"refused with ", number);
-    say_place(file, number, place);
-    say(b": ");
-    say_reason(number);
+fn say_refusal<W: Write>(out: &mut W, file: &[u8], number: u64, place: u64) -> io::Result<()> {
+    say_with(out, b"refused with ", number)?;
+    say_place(out, file, number, place)?;
+    say(out, b": ")?;
+    say_reason(out, number)
 }
 
-fn say_result(file: &[u8], a: Answer) {
+fn say_result<W: Write>(out: &mut W, file: &[u8], a: Answer) -> io::Result<()> {
     if a.number == 0 {
-        say(b"done");
-        return;
+        return say(out, b"done");
     }
-    say_refusal(file, a.number, a.place);
+    say_refusal(out, file, a.number, a.place)
 }
 
-fn say_counts(a: Answer) {
-    say_with(b"; ", a.units);
-    say_with(b" lines, ", a.bytes);
-    say_with(b" bytes, depth ", a.depth);
-    say(b"\n");
+fn say_counts<W: Write>(out: &mut W, a: Answer) -> io::Result<()> {
+    say_with(out, b"; ", a.units)?;
+    say_with(out, b" lines, ", a.bytes)?;
+    say_with(out, b" bytes, depth ", a.depth)?;
+    say(out, b"\n")
 }
 
 // The bytes of a room that a text of that many takes.
@@ -204,22 +222,22 @@ fn within(bytes: u64, room: usize) -> usize
     }
 }
 
-fn say_text(room: &[u8], bytes: u64) {
+fn say_text<W: Write>(out: &mut W, room: &[u8], bytes: u64) -> io::Result<()> {
     let n = within(bytes, room.len());
-    say(&room[..n]);
-    say(b"\n");
+    say(out, &room[..n])?;
+    say(out, b"\n")
 }
 
 // Explains the file, and answers with the number.
-fn tell(file: &[u8]) -> u64
-    ensures { Numbered file.now result }
+fn tell<W: Write>(out: &mut W, file: &[u8]) -> io::Result<u64>
+    ensures { IfOk result (λ number. Numbered file.now number) }
 {
     let mut room = [0u8; 65536];
     let a = urzulempa_explain(file, 0, &mut room);
-    say_result(file, a);
-    say_counts(a);
-    say_text(&room, a.bytes);
-    a.number
+    say_result(out, file, a)?;
+    say_counts(out, a)?;
+    say_text(out, &room, a.bytes)?;
+    Ok(a.number)
 }
 
 fn one_more(s: Shift, number: u64) -> Shift
@@ -227,14 +245,14 @@ fn one_more(s: Shift, number: u64) -> Shift
 {
     if number == 0 {
         return Shift {
-            done: std::num::wrapping_add_u64(s.done, 1),
+            done: s.done.wrapping_add(1),
             refused: s.refused,
             unread: s.unread,
         };
     }
     Shift {
         done: s.done,
-        refused: std::num::wrapping_add_u64(s.refused, 1),
+        refused: s.refused.wrapping_add(1),
         unread: s.unread,
     }
 }
@@ -245,73 +263,100 @@ fn not_read(s: Shift) -> Shift
     Shift {
         done: s.done,
         refused: s.refused,
-        unread: std::num::wrapping_add_u64(s.unread, 1),
+        unread: s.unread.wrapping_add(1),
     }
+}
+
+// Reads until buf is full, the file ends or a read fails; answers how many bytes of buf it filled.
+fn read_full<F: Read>(file: &mut F, buf: &mut [u8]) -> usize
+    ensures { result ≤ length buf.new }
+{
+    let mut done: usize = 0;
+    while done < buf.len() {
+        match file.read(&mut buf[done..]) {
+            Ok(0) => break,
+            Ok(n) => done += n,
+            Err(_) => break,
+        }
+    }
+    done
 }
 
 // A file above 65,536 bytes is refused with 1, of which 65,600 show as much as all would.
-fn read_and_tell(fd: i32) -> u64 {
+fn read_and_tell<W: Write, F: Read>(out: &mut W, opened: &mut F) -> io::Result<u64> {
     let mut file = [0u8; 65600];
-    let n = io::read_full(fd, &mut file);
-    tell(&file[..n])
+    let n = read_full(opened, &mut file);
+    tell(out, &file[..n])
 }
 
 // A folder opens as a file does, but not even no byte of it can be read.
-fn readable(fd: i32) -> bool {
+fn readable<F: Read>(file: &mut F) -> bool {
     let mut none = [0u8; 1];
-    let n = libc::read(fd, &mut none[..0]);
-    0 <= n
+    file.read(&mut none[..0]).is_ok()
 }
 
-fn cannot(s: Shift) -> Shift
-    ensures { result ≡ unread_more s }
+fn cannot<W: Write>(out: &mut W, s: Shift) -> io::Result<Shift>
+    ensures { IfOk result (λ t. t ≡ unread_more s) }
 {
-    say(b"cannot be read\n\n");
-    not_read(s)
+    say(out, b"cannot be read\n\n")?;
+    Ok(not_read(s))
 }
 
 // An opened file.
-fn log_file(fd: i32, s: Shift) -> Shift {
-    if !readable(fd) {
-        libc::close(fd);
-        return cannot(s);
+fn log_file<W: Write, F: Read>(out: &mut W, file: &mut F, s: Shift) -> io::Result<Shift> {
+    if !readable(file) {
+        return cannot(out, s);
     }
-    let number = read_and_tell(fd);
-    libc::close(fd);
-    one_more(s, number)
+    let number = read_and_tell(out, file)?;
+    Ok(one_more(s, number))
 }
 
-// The file that an argument names.
-fn log(i: usize, s: Shift) -> Shift {
-    let mut path = io::buffer();
-    let n = os::arg(i, &mut path);
-    say(&path[..n]);
-    say(b": ");
-    let fd = os::open_read(&path[..n]);
-    if fd < 0 {
-        return cannot(s);
-    }
-    log_file(fd, s)
+// The file of that name.
+fn log<W: Write, R: Files>(out: &mut W, rt: &R, name: &[u8], s: Shift) -> io::Result<Shift> {
+    say(out, name)?;
+    say(out, b": ")?;
+    let Ok(path) = str::from_utf8(name) else {
+        return cannot(out, s);
+    };
+    let Ok(mut file) = fs::open(rt, path) else {
+        return cannot(out, s);
+    };
+    log_file(out, &mut file, s)
 }
 
-fn log_all(count: usize) -> Shift {
+// Puts argument i at the start of `buf`, and answers its length, which is 0 for one that is longer than `buf`.
+fn argument<R: Env>(rt: &R, i: usize, buf: &mut [u8]) -> Option<usize>
+    ensures { IfSome result (λ n. n ≤ length buf.new) }
+{
+    match rt.arg(i, buf) {
+        Ok(n) => Some(n),
+        Err(FillError::TooLong) => Some(0),
+        Err(FillError::NotPresent) => None,
+    }
+}
+
+// The files that the arguments name.
+fn log_all<W: Write, R: Env + Files>(out: &mut W, rt: &R) -> io::Result<Shift> {
     let mut s = Shift {
         done: 0,
         refused: 0,
         unread: 0,
     };
-    let mut i: usize = 1;
-    while i < count {
-        s = log(i, s);
-        i = i + 1;
+    let mut name = [0u8; 4096];
+    for i in 1..usize::MAX {
+        let Some(n) = argument(rt, i, &mut name) else {
+            break;
+        };
+        s = log(out, rt, &name[..n], s)?;
     }
-    s
+    Ok(s)
 }
 
-fn main() {
-    let s = log_all(os::arg_count());
-    say_with(b"The shift: ", s.done);
-    say_with(b" explained, ", s.refused);
-    say_with(b" refused, ", s.unread);
-    say(b" not read.\n");
+fn main(rt: HostRuntime) -> io::Result<()> {
+    let mut out = io::writer(&rt);
+    let s = log_all(&mut out, &rt)?;
+    say_with(&mut out, b"The shift: ", s.done)?;
+    say_with(&mut out, b" explained, ", s.refused)?;
+    say_with(&mut out, b" refused, ", s.unread)?;
+    say(&mut out, b" not read.\n")
 }
