@@ -2,7 +2,7 @@
 // bytes, the whole lines that fit, each cut to the panel's width, and below them whether there is more.
 #![tactic(auto)]
 
-ghost use Rattle.std.specs.Prelude.{◌≡◌, ◌-◌, ◌≤◌, min, length, IfSome};
+ghost use Rattle.std.specs.Prelude.{◌≡◌, ◌≢◌, ℕ, ◌-◌, ◌<◌, ◌≤◌, min, length, slice_index, IfSome};
 ghost use Rattle.panel_feed.specs.Cut.{starts, over, after, cut_at};
 
 use calls::Answer;
@@ -89,7 +89,9 @@ fn say_line<W: Write>(out: &mut W, line: &[u8]) -> io::Result<()> {
 // Where the line at `at` ends, without its line end.
 fn line_end(text: &[u8], at: usize) -> usize
     requires { at ≤ length text.now }
-    ensures { (at ≤ result) × (result ≤ length text.now) }
+    ensures within { (at ≤ result) × (result ≤ length text.now) }
+    ensures before { (k : ℕ) → at ≤ k → k < result → slice_index text.now k ≢ 10 }
+    ensures found { result < length text.now → slice_index text.now result ≡ 10 }
 {
     let mut e = at;
     while e < text.len() {

@@ -2,7 +2,7 @@
 // Of a record that is refused it says which one it is.
 #![tactic(auto)]
 
-ghost use Rattle.std.specs.Prelude.{◌≡◌, ◌≤◌, min, length, IfOk, IfSome};
+ghost use Rattle.std.specs.Prelude.{◌≡◌, ◌≢◌, ℕ, ◌<◌, ◌≤◌, min, length, slice_index, IfOk, IfSome};
 ghost use Rattle.records.specs.Text.{all_text};
 ghost use Rattle.shift_log.specs.Log.{Numbered, counted, unread_more};
 
@@ -38,7 +38,9 @@ fn say_with<W: Write>(out: &mut W, text: &[u8], n: u64) -> io::Result<()> {
 // Where the first bar of a list stands from `at` on, or the list's end.
 fn find_bar(list: &[u8], at: usize) -> usize
     requires { at ≤ length list.now }
-    ensures { (at ≤ result) × (result ≤ length list.now) }
+    ensures within { (at ≤ result) × (result ≤ length list.now) }
+    ensures before { (k : ℕ) → at ≤ k → k < result → slice_index list.now k ≢ 124 }
+    ensures found { result < length list.now → slice_index list.now result ≡ 124 }
 {
     let mut e = at;
     while e < list.len() {

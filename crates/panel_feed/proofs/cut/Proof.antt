@@ -1,15 +1,12 @@
-use borrow.Author.Rules.{rules}
-use mathlib.Core.Path.{◌≡◌}
-use Prim.Native.Nat.{◌+◌, ◌-◌, ◌≤◌}
-use lib.ListN.{length, drop}
+use Rattle.std.proofs.Common.{◌≡◌, ◌+◌, ◌-◌, ◌≤◌, length, drop, rules}
 use Rattle.panel_feed.specs.Cut.{cut_at, cut_stop, cut_next, cut_end}
 use Rattle.panel_feed.proofs.cut.Statement.{statement}
 use Rattle.panel_feed.proofs.cut.Tie as tie
 
-abbrev invariant-loop : tie.invariant-loop
+abbrev invariant-loop : tie.invariant-loop-i
 invariant-loop line columns left₀ i₀ left i = (i + cut_at left (drop i line) ≡ cut_at columns line) × (i ≤ length line)
 
-abbrev decreases-loop : tie.decreases-loop
+abbrev decreases-loop : tie.decreases-loop-i
 decreases-loop line columns left₀ i₀ left i = length line - i
 
 pub cut_spec : {M : Type 1} → statement M

@@ -1,4 +1,4 @@
-use borrow.Author.Rules.{rules}
+use Rattle.std.proofs.Common.{rules}
 use Rattle.panel_feed.specs.Cut.{over_start, over_inner}
 use Rattle.panel_feed.proofs.is_over.Statement.{statement}
 use Rattle.panel_feed.proofs.is_over.Tie as tie

@@ -1,4 +1,4 @@
-use borrow.Author.Rules.{rules}
+use Rattle.std.proofs.Common.{rules}
 use Rattle.panel_feed.specs.Cut.{starts_low, starts_high}
 use Rattle.panel_feed.proofs.is_start.Statement.{statement}
 use Rattle.panel_feed.proofs.is_start.Tie as tie

@@ -1,4 +1,4 @@
-use borrow.Author.Rules.{rules}
+use Rattle.std.proofs.Common.{rules}
 use Rattle.panel_feed.specs.Cut.{after_inner, after_start}
 use Rattle.panel_feed.proofs.left_after.Statement.{statement}
 use Rattle.panel_feed.proofs.left_after.Tie as tie

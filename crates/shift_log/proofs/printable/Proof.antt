@@ -3,10 +3,10 @@ use Rattle.records.specs.Text.{TextLeft, text_start, text_low, text_high, text_n
 use Rattle.shift_log.proofs.printable.Statement.{statement}
 use Rattle.shift_log.proofs.printable.Tie as tie
 
-abbrev invariant-loop : tie.invariant-loop
+abbrev invariant-loop : tie.invariant-loop-k
 invariant-loop s k₀ k = (k ≤ length s) × TextLeft s k
 
-abbrev decreases-loop : tie.decreases-loop
+abbrev decreases-loop : tie.decreases-loop-k
 decreases-loop s k₀ k = length s - k
 
 pub printable_spec : {M : Type 1} → statement M
