@@ -4,16 +4,16 @@ use Rattle.planning.specs.Sizes.{Adding, Short, adding_none, adding_fits, adding
 use Rattle.planning.proofs.add_sizes.Statement.{statement}
 use Rattle.planning.proofs.add_sizes.Tie as tie
 
-abbrev invariant-loop : tie.invariant-loop
-invariant-loop p₀ sz count n₀ p n = Adding p₀ sz p count n × Short p₀ count
+abbrev invariant-loop-n : tie.invariant-loop-n
+invariant-loop-n p₀ sz count n₀ p n = Adding p₀ sz p count n × Short p₀ count
 
-abbrev decreases-loop : tie.decreases-loop
-decreases-loop p₀ sz count n₀ p n = count - n
+abbrev decreases-loop-n : tie.decreases-loop-n
+decreases-loop-n p₀ sz count n₀ p n = count - n
 
 pub add_sizes_spec : {M : Type 1} → statement M
 add_sizes_spec =
     tie.close
-    (tie.spec invariant-loop decreases-loop (λ c. (search adding_none, search rules)) (λ c. search rules) (λ c κs. search rules) (λ c κs. search rules) (λ c κs. search rules)
+    (tie.spec invariant-loop-n decreases-loop-n (λ c. (search adding_none, search rules)) (λ c. search rules) (λ c κs. search rules) (λ c κs. search rules) (λ c κs. search rules)
     (λ c κs. (search adding_fits, search rules)) (λ c. search rules) (λ c. search rules) (λ c. search rules) (λ c. search rules) (λ c. search rules) (λ c. (
       adding_step _ _ _ _ _ c.loop-n.invariant.0
           c.loop-n.invariant.1

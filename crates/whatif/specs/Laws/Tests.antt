@@ -125,7 +125,7 @@ module _ (g : List ℕ) (s : Size) (S : Stored g s) where
       split (ltb 1 s.nodes)
       (λ t. ap is_unresolved (node_in_lem g s S 1 (ltb-true 1 s.nodes t)))
       (λ t. let h : s.nodes ≤ 1 = ltb-false 1 s.nodes t in
-      let z : get_or g 1025 0 ≡ 0 = S.no_Node 1 h (omega arith) in
+      let z : get_or g 1025 0 ≡ 0 = S.no_node 1 h (omega arith) in
       let y : node_of (get_or g 1025 0) ≡ node_in g 1 = node_read g 1 (get_or g 1025 0) (node_of (get_or g 1025 0)) refl refl (omega arith) in
       let x : node_at (graph_in g s) 1 ≡ N.Root = get_or-eq_default (graph_in g s).nodes N.Root (omega (arith, nodes_count g s S)) in
       rw x (ap is_unresolved (sym y ∙ ap node_of z)))

@@ -10,13 +10,13 @@ use Rattle.lines.specs.Said.{sets_said}
 use Rattle.lines.proofs.sets.set_lines.Statement.{statement}
 use Rattle.lines.proofs.sets.set_lines.Tie as tie
 
-abbrev Inv : tie.invariant-loop
+abbrev Inv : tie.invariant-loop-e
 Inv file ix k out₀ g first end e₀ at₀ units₀ out e at units =
     (at ≤ length out) × ((length out ≡ length out₀) × ((units ≤ at)
     × Done (sets_said (tables_of file) g.top (parents (marks_in g)) (sets_from k first end))
     (sets_said (tables_of file) g.top (parents (marks_in g)) (sets_from k first e)) out₀ out at units))
 
-abbrev μ : tie.decreases-loop
+abbrev μ : tie.decreases-loop-e
 μ file ix k out₀ g first end e₀ at₀ units₀ out e at units = e
 
 pub set_lines_spec : {M : Type 1} → statement M

@@ -8,18 +8,18 @@ use Rattle.salvage.specs.Laws.Pass.{JudgeLeft, left_start, left_next, left_stop,
 use Rattle.salvage.proofs.judge.judge.Statement.{statement}
 use Rattle.salvage.proofs.judge.judge.Tie as tie
 
-abbrev invariant-loop : tie.invariant-loop
-invariant-loop file m₀ list₀ n w₀ i₀ m list w i =
+abbrev invariant-loop-i : tie.invariant-loop-i
+invariant-loop-i file m₀ list₀ n w₀ i₀ m list w i =
     (i ≤ n) × (w.replaced ≤ i) × (length m ≡ length m₀) × (length list ≡ length list₀)
     × JudgeLeft file i w m list (judge_from (records_of file) 0 no_work m₀ list₀)
 
-abbrev decreases-loop : tie.decreases-loop
-decreases-loop file m₀ list₀ n w₀ i₀ m list w i = n - i
+abbrev decreases-loop-i : tie.decreases-loop-i
+decreases-loop-i file m₀ list₀ n w₀ i₀ m list w i = n - i
 
 pub judge_spec : {M : Type 1} → statement M
 judge_spec =
     tie.close
-    (tie.spec invariant-loop decreases-loop
+    (tie.spec invariant-loop-i decreases-loop-i
     (λ c. (search rules, search rules, search rules, search rules, search left_start))
     (λ c κs. (search rules, search rules))
     (λ c. search rules)

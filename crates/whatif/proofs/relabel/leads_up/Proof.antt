@@ -5,16 +5,16 @@ use Rattle.whatif.specs.Laws.Again.{up_left, up_next, up_hit, up_end}
 use Rattle.whatif.proofs.relabel.leads_up.Statement.{statement}
 use Rattle.whatif.proofs.relabel.leads_up.Tie as tie
 
-abbrev invariant-loop : tie.invariant-loop
-invariant-loop g ls up n e₀ e = Going g ls n e × (up_left g up n e ≡ up_left g up n e₀)
+abbrev invariant-loop-e : tie.invariant-loop-e
+invariant-loop-e g ls up n e₀ e = Going g ls n e × (up_left g up n e ≡ up_left g up n e₀)
 
-abbrev decreases-loop : tie.decreases-loop
-decreases-loop g ls up n e₀ e = e
+abbrev decreases-loop-e : tie.decreases-loop-e
+decreases-loop-e g ls up n e₀ e = e
 
 pub leads_up_spec : {M : Type 1} → statement M
 leads_up_spec =
     tie.close
-    (tie.spec invariant-loop decreases-loop
+    (tie.spec invariant-loop-e decreases-loop-e
     (λ c κs. search rules)
     (λ c. (search going_start, search rules))
     (λ c. search rules)

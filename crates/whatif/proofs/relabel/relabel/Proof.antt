@@ -7,17 +7,17 @@ use Rattle.whatif.specs.Laws.Again.{turns_left, turns_next, turns_end, turns_up,
 use Rattle.whatif.proofs.relabel.relabel.Statement.{statement}
 use Rattle.whatif.proofs.relabel.relabel.Tie as tie
 
-abbrev invariant-loop : tie.invariant-loop
-invariant-loop g s ls marks₀ up₀ order count a i₀ marks up i =
+abbrev invariant-loop-i : tie.invariant-loop-i
+invariant-loop-i g s ls marks₀ up₀ order count a i₀ marks up i =
     (i ≤ count) × (turns_left (graph_in g s) a order count marks up i ≡ turns_left (graph_in g s) a order count marks₀ up₀ 0)
 
-abbrev decreases-loop : tie.decreases-loop
-decreases-loop g s ls marks₀ up₀ order count a i₀ marks up i = count - i
+abbrev decreases-loop-i : tie.decreases-loop-i
+decreases-loop-i g s ls marks₀ up₀ order count a i₀ marks up i = count - i
 
 pub relabel_spec : {M : Type 1} → statement M
 relabel_spec =
     tie.close
-    (tie.spec invariant-loop decreases-loop
+    (tie.spec invariant-loop-i decreases-loop-i
     (λ c. (search rules, search rules))
     (λ c. search rules)
     (λ c. search rules)
