@@ -18,7 +18,8 @@ use Rattle.labels.specs.Walks.{Inner, unseen_le, visit_new}
 use Rattle.labels.specs.Ordered.{Acyclic, Ordered, none, more}
 use Rattle.labels.specs.Labels.{targets, order_of, can_install, is_lacking, installable, missing, has_unresolved}
 use Rattle.labels.specs.Laws.Paths.{edge_target}
-use Rattle.labels.specs.Facts.{Sound, inner, blank, order_ordered, installable_settled, missing_settled, not_both}
+use Rattle.labels.specs.Facts.{Sound, inner, blank, order_ordered, not_both}
+use Rattle.labels.proofs.Local.{installable_settled, missing_settled}
 
 -- ---- the post-order has the root, and with a node all its targets
 

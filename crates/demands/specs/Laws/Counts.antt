@@ -23,7 +23,7 @@ use Rattle.plan.specs.Plan as Plan
 use Rattle.plan.specs.Mates.{upto_in, group_at}
 use Rattle.planning.specs.Assembly.{lead_group}
 use Rattle.machine.specs.Edition.{edited}
-use Rattle.machine.specs.Laws.Edition.{second_most}
+use Rattle.machine.proofs.Edition.{second_most}
 use Rattle.plan.specs.Laws.Leads.{shown_alone, shown_grouped}
 use Rattle.explanation.specs.Openings.{once_of}
 use Rattle.explanation.specs.Contract.{Drawn}

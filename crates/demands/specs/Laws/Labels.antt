@@ -23,7 +23,8 @@ use Rattle.shape.specs.Graphed.{Graphed, graphed}
 use Rattle.labels.specs.Ordered.{Acyclic}
 use Rattle.labels.specs.Runs.{Run, add_to, runs_of, some_run}
 use Rattle.labels.specs.Labels.{targets, conflicts, can_install, is_lacking, installable, missing, has_unresolved}
-use Rattle.labels.specs.Facts.{inner, not_both, install_local, lacking_local, missing_none}
+use Rattle.labels.specs.Facts.{inner, not_both, missing_none}
+use Rattle.labels.proofs.Local.{install_local, lacking_local}
 use Rattle.shape.specs.Settled.{sound, drawn_installable, drawn_missing}
 use Rattle.plan.specs.Mates.{map_upto}
 use Rattle.lists.specs.declared.entries.NodeEntry.{NodeEntry}

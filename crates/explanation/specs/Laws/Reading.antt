@@ -15,7 +15,7 @@ use Rattle.machine.specs.Count.{groups, unmerged}
 use Rattle.machine.specs.Units.{Result}
 use Rattle.machine.specs.Explained.{Explained}
 use Rattle.machine.specs.Edition.{reading, edited}
-use Rattle.machine.specs.Laws.Edition.{edited_most}
+use Rattle.machine.proofs.Edition.{edited_most}
 use Rattle.plan.specs.Plan.{Shown, shown_of, plan_of, start_of, popped, merged_shown, lead_shown}
 use Rattle.plan.specs.Display.{solvable_of}
 use Rattle.plan.specs.Fields.{plan_in, start_in, runs_in, kids_in, solvable_in}

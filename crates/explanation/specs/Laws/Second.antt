@@ -19,7 +19,7 @@ use Rattle.machine.specs.Units.{Result}
 use Rattle.machine.specs.Explained.{units_of, units_for}
 use Rattle.machine.specs.Edition.{edited, opened_by, opened_in}
 use Rattle.machine.specs.Laws.Silent.{never_eleven, whole_done}
-use Rattle.machine.specs.Laws.Edition.{second_silent, second_most}
+use Rattle.machine.proofs.Edition.{second_silent, second_most}
 use Rattle.plan.specs.Plan.{Shown, shown_of, plan_of, start_of, popped, line_kind, Kind, excluded, bare, conflicting, constraining, requiring, is_requiring}
 use Rattle.plan.specs.Display.{solvable_of}
 use Rattle.plan.specs.Laws.Leads.{shown_alone, shown_grouped, shown_told}

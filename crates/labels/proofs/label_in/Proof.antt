@@ -1,5 +1,5 @@
 use borrow.Author.Rules.{rules}
-use Rattle.labels.specs.Passes.{label_whole}
+use Rattle.labels.proofs.Ways.{label_whole}
 use Rattle.labels.proofs.label_in.Statement.{statement}
 use Rattle.labels.proofs.label_in.Tie as tie
 

@@ -1,16 +1,12 @@
 -- What is reported is shown once: the merged groups in edition 1, every package in edition 2. So there "all openings in the whole text together
--- are at most g + u".
-use Rattle.std.specs.Prelude.{◌≡◌, refl, Bool, true, cond, List, [], ◌∷◌, ◌++◌, ℕ, zero, suc, ◌+◌, ◌*◌, ◌≤◌, length}
-use Rattle.std.proofs.Common.{inl, inr, arith}
+-- are at most g + u": proofs/Once.antt.
+use Rattle.std.specs.Prelude.{refl, Bool, cond, List, [], ◌∷◌, ◌++◌, ℕ, zero, suc, ◌≤◌, length}
+use Rattle.std.proofs.Common.{inl, inr}
 use Rattle.basis.specs.Lists.{has, concat_map}
 use Rattle.basis.specs.Members.{In, All, Distinct, all_append, split, either, pigeon, has_out}
-use Rattle.machine.specs.Machine.{Plan, Op, requirement, candidate, Entry, entry, State, state, start, level, under, next, shows, Told, tell}
+use Rattle.machine.specs.Machine.{Plan, Op, requirement, candidate, Entry, entry, state, start, level, under, shows}
 use Rattle.machine.specs.Bound.{Counted}
 use Rattle.machine.specs.Keeps.{Own, all_level}
-use Rattle.machine.specs.Told.{first_lines}
-use Rattle.machine.specs.Count.{groups, unmerged, Grouped}
-use Rattle.machine.specs.Edition.{reading, edited, opened_in}
-use Rattle.machine.specs.Laws.Edition.{Alone, all_lead, edited_counts}
 
 module _ {R : Type 0} (P : Plan R) where
   -- the lead that a shown entry reports
@@ -81,29 +77,3 @@ module _ {R : Type 0} (P : Plan R) where
     pub reported_few : (k : ℕ) (rs : List R) → length (reported_in (shows P k (start rs))) ≤ length G
     reported_few k rs =
         pigeon (reported_in (shows P k (start rs))) G (reported_once k rs) (within k (start rs).stack [] (all_level Owned requirement [] [] rs (λ r ns i. tt)))
-
--- ---- edition 2
-
-module _ {R : Type 0} (P : Plan R) where
-  -- what is opened is shown, so reported
-  opened_reported : (es : List (Entry R)) → length (opened_in (edited 2 P) es) ≤ length (reported_in (edited 2 P) es)
-  opened_reported [] = omega arith
-  opened_reported (e ∷ es) = by e.op (opened_reported es)
-    where
-      by : (o : Op R) → length (opened_in (edited 2 P) es) ≤ length (reported_in (edited 2 P) es)
-          → length (opened_in (edited 2 P) (entry o e.marks e.branch ∷ es)) ≤ length (reported_in (edited 2 P) (entry o e.marks e.branch ∷ es))
-      by (requirement r) h = h
-      by (candidate n) h = split (P.opens n) (λ q. rw q (omega arith)) (λ q. rw q (omega arith))
-
-  module _ (N : List ℕ) (g : Grouped P N) (own : Alone P N) (kids : (r : R) (n : ℕ) → In n (P.kids r) → In n N) where
-    -- "all openings in the whole text together are at most g + u", after any number of turns
-    pub opened_few : (k : ℕ) (rs : List R) → length (opened_in (edited 2 P) (shows (edited 2 P) k (start rs))) ≤ length (groups P N) + length (unmerged P N)
-    opened_few k rs =
-        let a = opened_reported (shows (edited 2 P) k (start rs)) in
-        let b = reported_few (edited 2 P) (groups (edited 2 P) N) (unmerged (edited 2 P) N) (λ r n i. edited_counts P N g own true n (kids r n i)) k rs in
-        let c = all_lead P N own in
-        omega arith
-
-    -- the same of what the port tells
-    pub told_few : (k : ℕ) (rs : List R) → length (opened_in (edited 2 P) (tell (edited 2 P) k (start rs)).shown) ≤ length (groups P N) + length (unmerged P N)
-    told_few k rs = let f = first_lines (edited 2 P) k (start rs) in rw f.1.0 (opened_few f.0 rs)

@@ -12,8 +12,9 @@ use Rattle.machine.specs.Machine.{Plan, start, tell}
 use Rattle.machine.specs.Bound.{Counted, most}
 use Rattle.machine.specs.Count.{Grouped, groups, unmerged}
 use Rattle.machine.specs.Edition.{reading, edited, opened_in}
-use Rattle.machine.specs.Laws.Edition.{Alone, edited_counts, edited_most}
-use Rattle.machine.specs.Laws.Once.{told_few}
+use Rattle.machine.specs.Laws.Edition.{Alone}
+use Rattle.machine.proofs.Edition.{edited_counts, edited_most}
+use Rattle.machine.proofs.Once.{told_few}
 use Rattle.plan.specs.Plan.{shown_of, merged_shown, lead_shown, plan_of}
 use Rattle.plan.specs.Display.{members_of}
 use Rattle.plan.specs.Mates.{Node, in_upto, members_alike, merged_same, lead_first}

@@ -25,7 +25,8 @@ use Rattle.shape.specs.Shaped.{Runs, is_end, fits_target, runs_more, distinct_sn
 use Rattle.labels.specs.Runs.{runs_of, every_run, some_run}
 use Rattle.labels.specs.Ordered.{Leads, edge, onto, Acyclic}
 use Rattle.labels.specs.Labels.{targets, order_of, conflicts, excludes, can_install, is_lacking, installable, missing, has_unresolved}
-use Rattle.labels.specs.Facts.{reverse_in, order_ordered, install_local, lacking_local, missing_none}
+use Rattle.labels.specs.Facts.{reverse_in, order_ordered, missing_none}
+use Rattle.labels.proofs.Local.{install_local, lacking_local}
 use Rattle.whatif.specs.Laws.Well.{induct, begins, before}
 use Rattle.whatif.specs.Laws.Laid.{GraphLaid, edge_of, edge_target', runs_at_lem, target_below, laid_sound, in_order, laid_installable, laid_missing}
 use Rattle.store.specs.Numbers.{number_of}

@@ -13,7 +13,8 @@ use Rattle.store.specs.Graph.{Graph, out, into, node_at, is_unresolved}
 use Rattle.labels.specs.Runs.{Run, runs_of, every_run, some_run}
 use Rattle.labels.specs.Ordered.{Leads, edge, onto, Acyclic}
 use Rattle.labels.specs.Labels.{targets, order_of, conflicts, excludes, can_install, is_lacking, installable, missing, has_unresolved}
-use Rattle.labels.specs.Facts.{order_ordered, install_local, lacking_local, missing_none}
+use Rattle.labels.specs.Facts.{order_ordered, missing_none}
+use Rattle.labels.proofs.Local.{install_local, lacking_local}
 use Rattle.whatif.specs.Laws.Well.{induct}
 use Rattle.whatif.specs.Laws.Moving.{move_edge, map_reverse, any_map, filter_map, every_moved, some_moved}
 use Rattle.whatif.specs.Laws.Laid.{GraphLaid, edge_of, edge_target', runs_at_lem, target_below, laid_sound, in_order, laid_installable, laid_missing}

@@ -16,7 +16,8 @@ use Rattle.shape.specs.Graphed.{Graphed, graphed}
 use Rattle.shape.specs.Uses.{some_node, root_first}
 use Rattle.labels.specs.Ordered.{Acyclic}
 use Rattle.labels.specs.Labels.{targets, order_of, can_install, is_lacking, installable, missing, has_unresolved}
-use Rattle.labels.specs.Facts.{Sound, installable_settled, missing_settled}
+use Rattle.labels.specs.Facts.{Sound}
+use Rattle.labels.proofs.Local.{installable_settled, missing_settled}
 use Rattle.labels.specs.Laws.Paths.{edge_target, target_edge}
 use Rattle.shape.specs.Settled.{path_ordered, all_reached}
 

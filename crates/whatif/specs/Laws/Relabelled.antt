@@ -24,10 +24,11 @@ use Rattle.labels.specs.Runs.{runs_of, every_run, some_run}
 use Rattle.labels.specs.Ordered.{Leads, edge, onto, Acyclic, Ordered, none, more}
 use Rattle.labels.specs.Labels.{targets, order_of, conflicts, excludes, can_install, is_lacking, passing, installables, missings, installable, missing}
 use Rattle.labels.specs.Labels.{has_unresolved}
-use Rattle.labels.specs.Facts.{blank, order_ordered, install_local, lacking_local, missing_none, has_other}
+use Rattle.labels.specs.Facts.{blank, order_ordered, missing_none, has_other}
+use Rattle.labels.proofs.Local.{install_local, lacking_local}
 use Rattle.labels.specs.Marks.{bits_of, inst_at, miss_at, anew, label_bits, marks_at_lem}
 use Rattle.labels.specs.Bounds.{order_below}
-use Rattle.labels.specs.Scan.{some_none}
+use Rattle.labels.proofs.Scanned.{some_none}
 use Rattle.whatif.specs.Laws.Well.{begins, before}
 use Rattle.whatif.specs.Laws.Laid.{GraphLaid, runs_at_lem, edge_of, edge_target', laid_sound, in_order, laid_installable, laid_missing}
 use Rattle.whatif.specs.Asked.{asked}

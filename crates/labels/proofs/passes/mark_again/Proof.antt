@@ -1,5 +1,5 @@
 use borrow.Author.Rules.{rules}
-use Rattle.labels.specs.Passes.{again_via}
+use Rattle.labels.proofs.Ways.{again_via}
 use Rattle.labels.proofs.passes.mark_again.Statement.{statement}
 use Rattle.labels.proofs.passes.mark_again.Tie as tie
 

@@ -1,5 +1,5 @@
 use borrow.Author.Rules.{rules}
-use Rattle.labels.specs.Passes.{mark_via}
+use Rattle.labels.proofs.Ways.{mark_via}
 use Rattle.labels.proofs.passes.node_mark.Statement.{statement}
 use Rattle.labels.proofs.passes.node_mark.Tie as tie
 

@@ -1,0 +1,4 @@
+pub mod Scanned
+pub mod Local
+pub mod Marked
+pub mod Ways
