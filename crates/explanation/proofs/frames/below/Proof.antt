@@ -5,10 +5,10 @@ use Rattle.explanation.specs.Frames.{below_in, branch_in, below_merged, below_sa
 use Rattle.explanation.proofs.frames.below.Statement.{statement}
 use Rattle.explanation.proofs.frames.below.Tie as tie
 
-abbrev Inv : tie.invariant-loop
+abbrev Inv : tie.invariant-loop-j
 Inv p fr d n j₀ j = (j ≤ d) × (below_in p (branch_in fr j) n ≡ below_in p (branch_in fr d) n)
 
-abbrev μ : tie.decreases-loop
+abbrev μ : tie.decreases-loop-j
 μ p fr d n j₀ j = j
 
 ruleset laws = (rules, below_merged, below_same, below_other, below_end)

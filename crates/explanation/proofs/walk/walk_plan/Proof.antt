@@ -8,11 +8,11 @@ use Rattle.explanation.specs.Walk.{walk_ends}
 use Rattle.explanation.proofs.walk.walk_plan.Statement.{statement}
 use Rattle.explanation.proofs.walk.walk_plan.Tie as tie
 
-abbrev Inv : tie.invariant-loop
+abbrev Inv : tie.invariant-loop-t
 Inv file ix p k fr₀ seen₀ levels₀ out₀ top count₀ t₀ fr seen levels out count t = (length levels ≡ 65)
     × Walking (tables_of file) p k top fr seen t (indenter_at levels count top) out₀ out
 
-abbrev μ : tie.decreases-loop
+abbrev μ : tie.decreases-loop-t
 μ file ix p k fr₀ seen₀ levels₀ out₀ top count₀ t₀ fr seen levels out count t = to_go out t
 
 pub walk_plan_spec : {M : Type 1} → statement M
