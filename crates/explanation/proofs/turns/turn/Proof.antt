@@ -36,8 +36,8 @@ turn_spec =
     (λ c. c.run_turn.ensures _) (λ c κs. search rules)
     (λ c. search (
       pop_on,
-      c.if1,
-      c.if2,
+      c.if-t,
+      c.if-t-2,
       c.requires,
     ))
     (λ c. search pop_done))

@@ -45,7 +45,7 @@ walk_plan_spec =
       search rules,
       search (
         walking_on,
-        c.level.ensures.0,
+        c.level-count.ensures.0,
         c.turn-m.ensures,
       ),
     ))
@@ -53,11 +53,11 @@ walk_plan_spec =
     (λ c. search rules) (λ c κs. search rules)
     (λ c. search (
       rules,
-      c.loop.invariant.1.same,
+      c.loop-t.invariant.1.same,
     ))
     (λ c. search (
       walk_ends,
-      c.level.ensures.0,
+      c.level-count.ensures.0,
       c.turn-m.ensures,
     ))
     (λ c. search rules) (λ c κs. search rules) (λ c. search rules) (λ c. search walk_ends))
