@@ -1,5 +1,5 @@
 -- Demand 1 of the two other explaining calls, `urzulempa_explain_air` and `urzulempa_what_if_explain`: there is an answer for every input, and
--- every number but 0, 10 and 11 leaves the room as it came. That there is only one: says-air-one, says-what-if-one.
+-- every number but 0, 10 and 11 leaves the room as it came. That there is only one: says_air_one, says_what_if_one.
 use Rattle.std.specs.Prelude.{◌≡◌, refl, ◌⊎◌, true, List, ℕ, ◌≤◌, length, leb}
 use Rattle.std.proofs.Common.{sym, ap, ◌∙◌, subst, le-leb}
 use Rattle.std.proofs.Math.Option.{some}
