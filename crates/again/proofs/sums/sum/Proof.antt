@@ -6,16 +6,16 @@ use Rattle.again.specs.Sum.{sum_from, sum_of, sum_next, sum_end}
 use Rattle.again.proofs.sums.sum.Statement.{statement}
 use Rattle.again.proofs.sums.sum.Tie as tie
 
-abbrev invariant-loop : tie.invariant-loop
-invariant-loop room h₀ i₀ h i = (sum_from h (drop i room) ≡ sum_of room) × (h < 18014398509481951)
+abbrev invariant-loop-i : tie.invariant-loop-i
+invariant-loop-i room h₀ i₀ h i = (sum_from h (drop i room) ≡ sum_of room) × (h < 18014398509481951)
 
-abbrev decreases-loop : tie.decreases-loop
-decreases-loop room h₀ i₀ h i = length room - i
+abbrev decreases-loop-i : tie.decreases-loop-i
+decreases-loop-i room h₀ i₀ h i = length room - i
 
 pub sum_spec : {M : Type 1} → statement M
 sum_spec =
     tie.close
-    (tie.spec invariant-loop decreases-loop
+    (tie.spec invariant-loop-i decreases-loop-i
     (λ c. search rules)
     (λ c. search rules)
     (λ c κs. search rules)

@@ -6,16 +6,16 @@ use Rattle.again.specs.Sum.{sum_from, sum_of, sum_next, sum_end}
 use Rattle.again.proofs.sums.sum_wide.Statement.{statement}
 use Rattle.again.proofs.sums.sum_wide.Tie as tie
 
-abbrev invariant-loop : tie.invariant-loop
-invariant-loop list h₀ i₀ h i = (sum_from h (drop i list) ≡ sum_of list) × (h < 18014398509481951)
+abbrev invariant-loop-i : tie.invariant-loop-i
+invariant-loop-i list h₀ i₀ h i = (sum_from h (drop i list) ≡ sum_of list) × (h < 18014398509481951)
 
-abbrev decreases-loop : tie.decreases-loop
-decreases-loop list h₀ i₀ h i = length list - i
+abbrev decreases-loop-i : tie.decreases-loop-i
+decreases-loop-i list h₀ i₀ h i = length list - i
 
 pub sum_wide_spec : {M : Type 1} → statement M
 sum_wide_spec =
     tie.close
-    (tie.spec invariant-loop decreases-loop
+    (tie.spec invariant-loop-i decreases-loop-i
     (λ c. search rules)
     (λ c. search rules)
     (λ c. search rules)

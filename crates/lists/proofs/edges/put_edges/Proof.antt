@@ -5,18 +5,18 @@ use Rattle.lists.specs.Laws.Edges.{edges_to, puts, put_room, put_kept}
 use Rattle.lists.proofs.edges.put_edges.Statement.{statement}
 use Rattle.lists.proofs.edges.put_edges.Tie as tie
 
-abbrev invariant-loop : tie.invariant-loop
-invariant-loop g list₀ m i₀ list i = (i ≤ m) × (list ≡ edges_to g i list₀)
+abbrev invariant-loop-i : tie.invariant-loop-i
+invariant-loop-i g list₀ m i₀ list i = (i ≤ m) × (list ≡ edges_to g i list₀)
 
-abbrev decreases-loop : tie.decreases-loop
-decreases-loop g list₀ m i₀ list i = m - i
+abbrev decreases-loop-i : tie.decreases-loop-i
+decreases-loop-i g list₀ m i₀ list i = m - i
 
 ruleset laws = (rules, puts)
 
 pub put_edges_spec : {M : Type 1} → statement M
 put_edges_spec =
     tie.close
-    (tie.spec invariant-loop decreases-loop
+    (tie.spec invariant-loop-i decreases-loop-i
     (λ c. (search rules, search laws))
     (λ c κs. search rules)
     (λ c. search rules)

@@ -6,16 +6,16 @@ use Rattle.seasons.specs.Laws.TallyWays.{count_start, count_next, bump_few, coun
 use Rattle.seasons.proofs.tally.count_groups.Statement.{statement}
 use Rattle.seasons.proofs.tally.count_groups.Tie as tie
 
-abbrev invariant-loop : tie.invariant-loop
-invariant-loop p n c₀ i₀ c i = (i ≤ n) × (c ≤ i) × (c + passing (leads_in p) n i ≡ passing (leads_in p) n 0)
+abbrev invariant-loop-i : tie.invariant-loop-i
+invariant-loop-i p n c₀ i₀ c i = (i ≤ n) × (c ≤ i) × (c + passing (leads_in p) n i ≡ passing (leads_in p) n 0)
 
-abbrev decreases-loop : tie.decreases-loop
-decreases-loop p n c₀ i₀ c i = n - i
+abbrev decreases-loop-i : tie.decreases-loop-i
+decreases-loop-i p n c₀ i₀ c i = n - i
 
 pub count_groups_spec : {M : Type 1} → statement M
 count_groups_spec =
     tie.close
-    (tie.spec invariant-loop decreases-loop
+    (tie.spec invariant-loop-i decreases-loop-i
     (λ c. (search rules, search rules, search count_start))
     (λ c κs. search rules)
     (λ c κs. search rules)

@@ -7,16 +7,16 @@ use Rattle.seasons.specs.Laws.TallyWays.{count_start, count_next, bump_few, coun
 use Rattle.seasons.proofs.tally.count_missing.Statement.{statement}
 use Rattle.seasons.proofs.tally.count_missing.Tie as tie
 
-abbrev invariant-loop : tie.invariant-loop
-invariant-loop marks n c₀ i₀ c i = (i ≤ n) × (c ≤ i) × (c + passing (miss_at marks) n i ≡ passing (miss_at marks) n 0)
+abbrev invariant-loop-i : tie.invariant-loop-i
+invariant-loop-i marks n c₀ i₀ c i = (i ≤ n) × (c ≤ i) × (c + passing (miss_at marks) n i ≡ passing (miss_at marks) n 0)
 
-abbrev decreases-loop : tie.decreases-loop
-decreases-loop marks n c₀ i₀ c i = n - i
+abbrev decreases-loop-i : tie.decreases-loop-i
+decreases-loop-i marks n c₀ i₀ c i = n - i
 
 pub count_missing_spec : {M : Type 1} → statement M
 count_missing_spec =
     tie.close
-    (tie.spec invariant-loop decreases-loop
+    (tie.spec invariant-loop-i decreases-loop-i
     (λ c. (search rules, search rules, search count_start))
     (λ c κs. search rules)
     (λ c κs. search rules)
