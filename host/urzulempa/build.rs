@@ -1,7 +1,7 @@
-//! Links the library: that of dist/, or, with URZULEMPA_FROM_SOURCE=1, one made by `rt staticlib urzulempa` from the proved sources.
+//! Links the library: that of dist/, or, with URZULEMPA_FROM_SOURCE=1, one made by `rt lib` in crates/urzulempa_c from the proved sources.
 //!
 //! `./test` holds the two to be the same bytes. A dist/ that was made from other sources than those in crates/ is not linked. An archive
-//! made here is kept under host/target, named by a sum of the sources and the toolchain's version, since `rt ci` removes the root's target/.
+//! made here is kept under host/target, named by a sum of the sources and the toolchain's version, since `rt ci` removes it from the crate's out/.
 
 use std::env;
 use std::fs;
@@ -9,13 +9,14 @@ use std::path::{Path, PathBuf};
 use std::process::{exit, Command, Output};
 
 const ARCHIVE: &str = "liburzulempa.a";
+/// What of a crate is written; beside it lies out/, which is made.
+const PARTS: [&str; 3] = ["src", "specs", "proofs"];
 
 fn main() {
     let root = Path::new(env!("CARGO_MANIFEST_DIR")).join("../..");
     let root = fs::canonicalize(&root).unwrap_or(root);
     println!("cargo:rerun-if-env-changed=URZULEMPA_FROM_SOURCE");
     println!("cargo:rerun-if-changed=build.rs");
-    println!("cargo:rerun-if-changed={}", root.join("crates").display());
     on_its_machine();
     let asked = env::var("URZULEMPA_FROM_SOURCE").unwrap_or_default();
     let folder = if ["", "0"].contains(&asked.as_str()) { from_dist(&root) } else { from_source(&root) };
@@ -37,6 +38,7 @@ fn from_dist(root: &Path) -> PathBuf {
     let folder = root.join("dist/x86_64-linux");
     println!("cargo:rerun-if-changed={}", folder.display());
     let ways = "run tools/dist, which renews it, or set URZULEMPA_FROM_SOURCE=1; both need rt, the Rattle toolchain";
+    watch(root, &["src"]);
     let sums = fs::read_to_string(folder.join("SHA256SUMS")).unwrap_or_default();
     if !folder.join(ARCHIVE).is_file() {
         stop(&format!("{} has no {ARCHIVE}: {ways}", folder.display()));
@@ -52,10 +54,8 @@ fn from_dist(root: &Path) -> PathBuf {
 
 /// A folder with the library that the sources give, made unless one was kept.
 fn from_source(root: &Path) -> PathBuf {
-    println!("cargo:rerun-if-changed={}", root.join("crates.txt").display());
-    for name in ["PATH", "RATTLE_HOME"] {
-        println!("cargo:rerun-if-env-changed={name}");
-    }
+    println!("cargo:rerun-if-env-changed=PATH");
+    watch(root, &PARTS);
     // another toolchain comes with another rt
     let path = env::var_os("PATH").unwrap_or_default();
     if let Some(rt) = env::split_paths(&path).find_map(|folder| fs::canonicalize(folder.join("rt")).ok()) {
@@ -67,8 +67,9 @@ fn from_source(root: &Path) -> PathBuf {
     let crates = fs::read_to_string(root.join("crates.txt")).unwrap_or_default();
     let kept = root.join("host/target/library").join(sum_of(root, &["rt", "antt"], &(version + &crates)));
     if !kept.join(ARCHIVE).is_file() {
-        rt(root, &["staticlib", "urzulempa"]);
-        let made = root.join("target/staticlib").join(ARCHIVE);
+        let home = root.join("crates/urzulempa_c");
+        rt(&home, &["lib"]);
+        let made = home.join("out/liburzulempa_c.a");
         // a copy that was cut short has another name
         let part = kept.join(format!("{ARCHIVE}.part"));
         let copied = fs::create_dir_all(&kept).and_then(|()| fs::copy(&made, &part)).and_then(|_| fs::rename(&part, kept.join(ARCHIVE)));
@@ -80,9 +81,9 @@ fn from_source(root: &Path) -> PathBuf {
 }
 
 /// Runs the toolchain; where it fails, all that it said is passed on.
-fn rt(root: &Path, words: &[&str]) -> Output {
+fn rt(folder: &Path, words: &[&str]) -> Output {
     let said = words.join(" ");
-    let ran = Command::new("rt").args(words).current_dir(root).output().unwrap_or_else(|e| {
+    let ran = Command::new("rt").args(words).current_dir(folder).output().unwrap_or_else(|e| {
         let ways = "put rt, the Rattle toolchain, on PATH, or unset the variable to link dist/";
         stop(&format!("URZULEMPA_FROM_SOURCE is set, and `rt {said}` could not be run ({e}): {ways}"))
     });
@@ -93,10 +94,29 @@ fn rt(root: &Path, words: &[&str]) -> Output {
     ran
 }
 
-/// A sum of the names and bytes of the files below crates/ with these endings, and of a text: FNV-1a, as in tools/dist.
+/// Has cargo run this again where these parts of a crate change.
+fn watch(root: &Path, parts: &[&str]) {
+    let written = crates(root).into_iter().flat_map(|name| parts.iter().map(move |part| format!("{name}/{part}")));
+    // cargo takes what is not there as changed
+    for path in written.chain(["crates.txt".to_string()]).map(|name| root.join(name)).filter(|path| path.exists()) {
+        println!("cargo:rerun-if-changed={}", path.display());
+    }
+}
+
+/// The folders of the crates, by their names from the root.
+fn crates(root: &Path) -> Vec<String> {
+    let Ok(entries) = fs::read_dir(root.join("crates")) else { return Vec::new() };
+    entries.flatten().filter(|entry| entry.path().is_dir()).map(|entry| format!("crates/{}", entry.file_name().to_string_lossy())).collect()
+}
+
+/// A sum of the names and bytes of the crates' files with these endings, and of a text: FNV-1a, as in tools/dist.
 fn sum_of(root: &Path, endings: &[&str], text: &str) -> String {
     let mut names = Vec::new();
-    gather(root, "crates", endings, &mut names);
+    for name in crates(root) {
+        for part in PARTS {
+            gather(root, &format!("{name}/{part}"), endings, &mut names);
+        }
+    }
     names.sort();
     let mut sum: u64 = 0xcbf2_9ce4_8422_2325;
     let mut add = |bytes: &[u8]| bytes.iter().for_each(|&byte| sum = (sum ^ u64::from(byte)).wrapping_mul(0x0000_0100_0000_01b3));

@@ -8,8 +8,7 @@ use lists::entries::{NodeEntry, fill};
 use lists::nodes::node_words;
 
 // Refusals 1 to 9, 10 where the list is short, else one entry a node; entries past the last node stay.
-#[unsafe(no_mangle)]
-pub extern "C" fn urzulempa_nodes(file: &[u8], list: &mut [NodeEntry]) -> Answer
+pub fn urzulempa_nodes(file: &[u8], list: &mut [NodeEntry]) -> Answer
     ensures { (result ≡ nodes_answer file.now (length list.old))
         × (list.new ≡ nodes_left file.now list.old) }
 {

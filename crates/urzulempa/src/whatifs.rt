@@ -8,13 +8,7 @@ use lists::entries::{NodeEntry, fill};
 
 // What if this one were excluded too: the file's refusals 1 to 9, 4 for a solvable or reason that can't be asked about, 8 where the
 // exclusion has no room, 17 for a cycle, 10 where the list is short, else one entry a node; entries past the last node stay.
-#[unsafe(no_mangle)]
-pub extern "C" fn urzulempa_what_if(
-    file: &[u8],
-    solvable: u64,
-    reason: u64,
-    list: &mut [NodeEntry],
-) -> Answer
+pub fn urzulempa_what_if(file: &[u8], solvable: u64, reason: u64, list: &mut [NodeEntry]) -> Answer
     ensures { (result ≡ what_if_answer file.now solvable reason (length list.old))
         × (list.new ≡ what_if_left file.now solvable reason list.old) }
 {

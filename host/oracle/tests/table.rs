@@ -50,10 +50,10 @@ fn files() {
     for name in ["replay", "deck-panel", "merged-pair", "lone"] {
         let path = root().join("samples").join(format!("{name}.rec"));
         let file = fs::read(&path).unwrap_or_else(|e| panic!("{}: {e}", path.display()));
-        let lines = quoted(&spec, &format!("pub {name}-file : "));
+        let lines = quoted(&spec, &format!("pub {}_file : ", name.replace('-', "_")));
         assert_eq!(lines, printed(&file), "{name}");
     }
-    assert_eq!(quoted(&spec, "pub desk-file : "), printed(&desk()));
+    assert_eq!(quoted(&spec, "pub desk_file : "), printed(&desk()));
 }
 
 /// A file's text by the oracle is the list of lines of this name.
@@ -74,12 +74,12 @@ fn same_text(name: &str, file: &[u8], option: u64) {
 #[test]
 #[cfg_attr(not(has_conflict_rs), ignore = "needs conflict.rs")]
 fn texts() {
-    same_text("replayLines", &samples::replay(), 0);
-    same_text("indentedLines", &samples::replay(), 1);
-    same_text("deckLines", &samples::deck_and_panel(), 0);
-    same_text("pairLines", &samples::merged_pair(), 0);
-    same_text("loneLines", &samples::lone_package(), 0);
-    same_text("deskLines", &desk(), 0);
+    same_text("replay_lines", &samples::replay(), 0);
+    same_text("indented_lines", &samples::replay(), 1);
+    same_text("deck_lines", &samples::deck_and_panel(), 0);
+    same_text("pair_lines", &samples::merged_pair(), 0);
+    same_text("lone_lines", &samples::lone_package(), 0);
+    same_text("desk_lines", &desk(), 0);
 }
 
 /// The root requires so many versions of x, from 0 on, which merge.
@@ -97,8 +97,8 @@ fn wide(members: u16) -> Vec<u8> {
 #[test]
 #[cfg_attr(not(has_conflict_rs), ignore = "needs conflict.rs")]
 fn texts_of_groups() {
-    same_text("sixLines", &wide(6), 0);
-    same_text("sevenLines", &wide(7), 0);
-    same_text("eightLines", &wide(8), 0);
-    same_text("wideLines", &wide(126), 0);
+    same_text("six_lines", &wide(6), 0);
+    same_text("seven_lines", &wide(7), 0);
+    same_text("eight_lines", &wide(8), 0);
+    same_text("wide_lines", &wide(126), 0);
 }
