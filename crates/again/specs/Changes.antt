@@ -1,6 +1,6 @@
 -- What the recorded calls on settings show when they are made again.
-use Rattle.std.specs.Prelude.{◌≡◌, refl, cond, List, [], ℕ, zero, suc, ◌≤◌, ◌<◌, length, take, replicate, leb}
-use Rattle.std.proofs.Common.{sym, ap, ap₂, ◌∙◌, arith, le-leb}
+use Rattle.std.specs.Prelude.{◌≡◌, cond, List, [], ℕ, ◌≤◌, ◌<◌, length, take, replicate, leb}
+use Rattle.std.proofs.Common.{ap, ap₂, ◌∙◌, arith, le-leb}
 use Rattle.std.proofs.lemmas.Bool.{lt-leb}
 use Rattle.texts.specs.Wrote.{over, Wrote}
 use Rattle.settings.specs.declared.Settings.{Settings}
@@ -9,7 +9,7 @@ use Rattle.settings.specs.Change.{change_of, room_of}
 use Rattle.calls.specs.declared.Answer.{Answer}
 use Rattle.calls.specs.Settings.{change_answer}
 use Rattle.again.specs.declared.Seen.{Seen}
-use Rattle.again.specs.Sum.{sum_from, sum_of}
+use Rattle.again.specs.Sum.{sum_of}
 use Rattle.again.specs.Seen.{seen_of, no_call, blank, take_blank, prefix_blank}
 
 -- what a settings file says, in the fields of the others: indent as bytes, simplify as units, the edition as depth
@@ -31,7 +31,7 @@ changes_in file v s c n = cond (leb (length file) n) (changed_in (over file (bla
 -- ---- the ways through the code
 
 pub held_in_lem : (file : List ℕ) (v : ℕ) (x : Settings) (a : Answer) (r : Seen) → x ≡ settings_of v file → a ≡ held_as x → r ≡ seen_of a 0 → r ≡ held_in file v
-unfolding held_in sum_from
+unfolding held_in
 held_in_lem file v x a r e w q = rw (q, w, e)
 
 pub changed_in_lem : (out left : List ℕ) (used v s c : ℕ) (a : Answer) (m : ℕ) (r : Seen) → a ≡ change_answer (change_of out used v s c)

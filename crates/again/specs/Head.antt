@@ -1,5 +1,6 @@
 -- A head of the recorded list: twelve 64-bit numbers, lowest byte first.
 use Rattle.std.specs.Prelude.{◌≡◌, refl, ℕ, zero, suc, ◌+◌, ◌*◌, ◌≤◌, ◌<◌, List, [], ◌∷◌, ◌++◌, length, get_or, take, drop, set}
+use Rattle.std.specs.Int.{w64, from_le_bytes}
 use Rattle.std.proofs.Common.{sym, ap, ◌∙◌, add-one, arith, append_assoc, append-nil, length-append, drop_of_length-le, length-take-le, drop-cons}
 use Rattle.std.proofs.lemmas.List.{set_at}
 use Rattle.again.specs.declared.Seen.{Seen}
@@ -53,6 +54,18 @@ quad_is xs at a b p q = rw (p, q)
 pub word_is_lem : (xs : List ℕ) (at a b : ℕ) → a ≡ quad_at xs at → b ≡ quad_at xs (at + 4) → a + 4294967296 * b ≡ word_at xs at
 unfolding word_at
 word_is_lem xs at a b p q = rw (p, q)
+
+-- eight bytes, the lowest first
+pub word_of_bytes : (xs : List ℕ) (at a b c d e f g h : ℕ) → a ≡ get_or xs at 0 → b ≡ get_or xs (at + 1) 0 → c ≡ get_or xs (at + 2) 0
+    → d ≡ get_or xs (at + 3) 0 → e ≡ get_or xs (at + 4) 0 → f ≡ get_or xs (at + 5) 0 → g ≡ get_or xs (at + 6) 0 → h ≡ get_or xs (at + 7) 0
+    → from_le_bytes w64 (a ∷ b ∷ c ∷ d ∷ e ∷ f ∷ g ∷ h ∷ []) ≡ word_at xs at
+unfolding word_at quad_at
+word_of_bytes xs at a b c d e f g h i j k l m n o p =
+    let r : at + 2 + 1 ≡ at + 3 = omega arith in
+    let s : at + 4 + 1 ≡ at + 5 = omega arith in
+    let t : at + 4 + 2 ≡ at + 6 = omega arith in
+    let u : at + 6 + 1 ≡ at + 7 = omega arith in
+    rw (r, s, t, u) (omega (arith, i, j, k, l, m, n, o, p))
 
 pub recorded_is : (head : List ℕ) (n p b u d s : ℕ) → n ≡ word_at head 32 → p ≡ word_at head 40 → b ≡ word_at head 48 → u ≡ word_at head 56 → d ≡ word_at head 64
     → s ≡ word_at head 72

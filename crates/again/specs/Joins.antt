@@ -1,17 +1,15 @@
 -- What the recorded calls of document 02, order 8, show when they are made again: two reports joined.
-use Rattle.std.specs.Prelude.{◌≡◌, refl, cond, List, ℕ, zero, suc, ◌*◌, ◌-◌, ◌≤◌, ◌<◌, length, take, drop, replicate, leb}
-use Rattle.std.proofs.Common.{sym, ap, ap₂, ◌∙◌, arith, length-drop, take_all, le-leb}
-use Rattle.std.proofs.Math.Decide.{dec_le}
+use Rattle.std.specs.Prelude.{◌≡◌, cond, List, ℕ, ◌*◌, ◌≤◌, ◌<◌, length, take, replicate, leb}
+use Rattle.std.proofs.Common.{sym, ap, ap₂, ◌∙◌, arith, le-leb}
 use Rattle.std.proofs.lemmas.List.{length-replicate}
 use Rattle.std.proofs.lemmas.Bool.{lt-leb}
 use Rattle.season.specs.Words.{join_words}
 use Rattle.calls.specs.declared.Answer.{Answer}
-use Rattle.seasons.specs.Season.{join_answer, Adds}
-use Rattle.seasons.specs.Laws.Season.{adds_one}
+use Rattle.seasons.specs.Season.{join_answer}
 use Rattle.again.specs.declared.Seen.{Seen}
 use Rattle.again.specs.Head.{words_at}
-use Rattle.again.specs.Sum.{sum_of, words_from}
-use Rattle.again.specs.Seen.{seen_of, answer_in, no_call, blank, take_blank}
+use Rattle.again.specs.Sum.{words_from}
+use Rattle.again.specs.Seen.{seen_of, no_call, take_blank}
 
 -- the report vs put behind the report ws
 unfoldable pub joined_in : List ℕ → List ℕ → Seen

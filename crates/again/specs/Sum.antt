@@ -1,5 +1,6 @@
 -- The checksum of what a call left in a lent room or list, as `oracle record` computes it.
 use Rattle.std.specs.Prelude.{◌≡◌, refl, List, [], ◌∷◌, ◌++◌, map, ℕ, zero, suc, ◌+◌, ◌*◌, ◌/◌, ◌%◌, ◌<◌, ◌≤◌, length, get_or, drop, take}
+use Rattle.std.specs.List.{fold}
 use Rattle.std.proofs.Common.{sym, ap, add-one, arith, drop-cons, take-suc}
 use Rattle.lists.specs.Entry.{node_entry_in, entry_in}
 use Rattle.lists.specs.declared.entries.NodeEntry.{NodeEntry}
@@ -9,10 +10,8 @@ unfoldable pub mix : ℕ → ℕ → ℕ
 mix h x = (1021 * h + x + 1) % 18014398509481951
 
 -- the digits xs behind those that gave h
-unfoldable pub sum_from : ℕ → List ℕ → ℕ
-unfolding mix
-sum_from h [] = h
-sum_from h (x ∷ xs) = sum_from (mix h x) xs
+abbrev pub sum_from : ℕ → List ℕ → ℕ
+sum_from h xs = fold mix h xs
 
 -- the bytes of a room, or the numbers of a list
 abbrev pub sum_of : List ℕ → ℕ
@@ -24,20 +23,16 @@ unfolding mix
 mix_word h w = mix (mix h (w % 4294967296)) (w / 4294967296)
 
 -- the words ws behind the digits that gave h
-unfoldable pub words_from : ℕ → List ℕ → ℕ
-unfolding mix_word
-words_from h [] = h
-words_from h (w ∷ ws) = words_from (mix_word h w) ws
+abbrev pub words_from : ℕ → List ℕ → ℕ
+words_from h ws = fold mix_word h ws
 
 -- an entry's six fields
 unfoldable pub mix_entry : ℕ → NodeEntry → ℕ
 unfolding mix
 mix_entry h e = mix (mix (mix (mix (mix (mix h e.kind) e.number) e.group) e.installable) e.missing) e.clause
 
-unfoldable pub entries_from : ℕ → List NodeEntry → ℕ
-unfolding mix_entry
-entries_from h [] = h
-entries_from h (e ∷ es) = entries_from (mix_entry h e) es
+abbrev pub entries_from : ℕ → List NodeEntry → ℕ
+entries_from h es = fold mix_entry h es
 
 -- the entries of a list
 abbrev pub sum_entries : List NodeEntry → ℕ
@@ -50,7 +45,6 @@ unfolding mix
 mix_is h x r e = e
 
 pub sum_next : (xs : List ℕ) (h i z r x : ℕ) → sum_from h (drop i xs) ≡ z → i < length xs → r ≡ mix h x → x ≡ get_or xs i 0 → sum_from r (drop (i + 1) xs) ≡ z
-unfolding sum_from
 sum_next xs h i z r x e l q p =
     let d : drop i xs ≡ get_or xs i 0 ∷ drop (suc i) xs = drop-cons xs i 0 l in
     rw (add-one, q, p) (rw d at e)
@@ -62,7 +56,6 @@ nothing_left (x ∷ xs) zero l = let f : ⊥ = omega arith in absurd f
 nothing_left (x ∷ xs) (suc i) l = nothing_left xs i (omega arith)
 
 pub sum_end : (xs : List ℕ) (h i z : ℕ) → sum_from h (drop i xs) ≡ z → length xs ≤ i → h ≡ z
-unfolding sum_from
 sum_end xs h i z e l = rw (nothing_left xs i l) at e
 
 pub word_mixed : (h a w r : ℕ) → r ≡ mix a (w / 4294967296) → a ≡ mix h (w % 4294967296) → r ≡ mix_word h w
@@ -71,13 +64,11 @@ word_mixed h a w r p q = rw (p, q)
 
 pub words_next : (ws : List ℕ) (h i z r w : ℕ) → words_from h (drop i ws) ≡ z → i < length ws → r ≡ mix_word h w → w ≡ get_or ws i 0
     → words_from r (drop (i + 1) ws) ≡ z
-unfolding words_from
 words_next ws h i z r w e l q p =
     let d : drop i ws ≡ get_or ws i 0 ∷ drop (suc i) ws = drop-cons ws i 0 l in
     rw (add-one, q, p) (rw d at e)
 
 pub words_end : (ws : List ℕ) (h i z : ℕ) → words_from h (drop i ws) ≡ z → length ws ≤ i → h ≡ z
-unfolding words_from
 words_end ws h i z e l = rw (nothing_left ws i l) at e
 
 mix_small : (h x : ℕ) → mix h x < 18014398509481951
@@ -85,7 +76,6 @@ unfolding mix
 mix_small h x = omega arith
 
 small_from : (xs : List ℕ) (h : ℕ) → h < 18014398509481951 → sum_from h xs < 18014398509481951
-unfolding sum_from
 small_from [] h l = l
 small_from (x ∷ xs) h l = small_from xs (mix h x) (mix_small h x)
 
@@ -94,7 +84,6 @@ pub sum_small : (xs : List ℕ) (h : ℕ) → h ≡ sum_of xs → h < 1801439850
 sum_small xs h e = rw e (small_from xs 0 (omega arith))
 
 snoc_entries : (es : List NodeEntry) (e : NodeEntry) (h : ℕ) → entries_from h (es ++ (e ∷ [])) ≡ mix_entry (entries_from h es) e
-unfolding entries_from
 snoc_entries [] e h = refl
 snoc_entries (x ∷ xs) e h = snoc_entries xs e (mix_entry h x)
 
@@ -107,7 +96,7 @@ unfoldable pub entries_at : List ℕ → ℕ → List NodeEntry
 entries_at ws i = map node_entry_in (take i ws)
 
 pub entries_none : (ws : List ℕ) → 0 ≡ sum_entries (entries_at ws 0)
-unfolding entries_from entries_at
+unfolding entries_at
 entries_none ws = refl
 
 pub entries_next : (ws : List ℕ) (h i n r : ℕ) (e : NodeEntry) → h ≡ sum_entries (entries_at ws i) → length ws ≡ 128 → i < n → n ≤ 128

@@ -10,6 +10,7 @@ use calls::Answer;
 use settings::Settings;
 use urzulempa::{urzulempa_settings_read, urzulempa_settings_set};
 
+// Kept: no plainer: both types are of other crates, so that no `From` can stand here.
 fn held(s: Settings) -> Answer
     ensures { result ≡ held_as s }
 {

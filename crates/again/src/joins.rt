@@ -1,22 +1,12 @@
 // Two recorded reports of order 8, joined again. They stand behind one another in the recorded file, in words of eight bytes, lowest first.
-ghost use Rattle.std.specs.Prelude.{◌≡◌, ◌*◌, ◌<◌, ◌≤◌, length};
-ghost use Rattle.again.specs.Head.{words_at, one_filled};
+ghost use Rattle.std.specs.Prelude.{◌≡◌, ◌*◌, ◌≤◌, length};
+ghost use Rattle.again.specs.Head.{words_at};
 ghost use Rattle.again.specs.Joins.{joined_in, joins_in};
 
 use crate::heads::word;
-use crate::sums::sum_words;
+use crate::sums::sum;
 use crate::{Seen, joined, no_call};
-use basis::put64;
 use urzulempa::urzulempa_join;
-
-// The word i of those whose bytes begin at `from`.
-fn fill_one(bytes: &[u8], from: usize, words: &mut [u64], i: usize)
-    requires { (from ≤ 512) × (i < 64) }
-    ensures { words.new ≡ one_filled bytes.now from i words.old }
-{
-    let w = word(bytes, from + 8 * i);
-    put64(words, i, w);
-}
 
 // Fills the words with those whose bytes begin at `from`.
 pub fn fill(bytes: &[u8], from: usize, words: &mut [u64])
@@ -24,10 +14,8 @@ pub fn fill(bytes: &[u8], from: usize, words: &mut [u64])
     requires words_len_bound { length words.old ≤ 64 }
     ensures { words.new ≡ words_at bytes.now from (length words.old) }
 {
-    let mut i: usize = 0;
-    while i < words.len() {
-        fill_one(bytes, from, words, i);
-        i = i + 1;
+    for (i, w) in words.iter_mut().enumerate() {
+        *w = word(bytes, from + 8 * i);
     }
 }
 
@@ -35,7 +23,7 @@ fn join(report: &mut [u64], second: &[u64]) -> Seen
     ensures { result ≡ joined_in report.old second.now }
 {
     let a = urzulempa_join(report, second);
-    joined(a, sum_words(0, report))
+    joined(a, sum(report))
 }
 
 // The second report's words follow the first's.
@@ -65,10 +53,7 @@ fn join_words(bytes: &[u8], m: usize, n: usize) -> Seen
 pub fn joins(bytes: &[u8], first: u64, second: u64) -> Seen
     ensures { result ≡ joins_in bytes.now first second }
 {
-    if first > 64 {
-        return no_call();
-    }
-    if second > 64 {
+    if first > 64 || second > 64 {
         return no_call();
     }
     join_words(bytes, first as usize, second as usize)

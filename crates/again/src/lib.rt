@@ -14,7 +14,8 @@ ghost use Rattle.again.specs.Seen.{seen_of, no_call};
 
 use calls::Answer;
 
-#[derive(Clone, Copy)]
+// Kept: what may not change: a recorded answer's six numbers, as the recorded lists have them.
+#[derive(Clone, Copy, PartialEq, Eq)]
 pub struct Seen {
     pub number: u64,
     pub place: u64,
@@ -37,6 +38,7 @@ pub fn joined(a: Answer, sum: u64) -> Seen
     }
 }
 
+// Kept: what may not change: `Replayed` answers an unknown call with this number, and `replay` compares and shows it.
 pub fn no_call() -> Seen
     ensures { result ≡ no_call }
 {

@@ -1,6 +1,7 @@
 // The checksum of a lent room, or of a lent list (specs/Sum.antt).
-ghost use Rattle.std.specs.Prelude.{◌≡◌, ◌<◌, ◌≤◌, length};
-ghost use Rattle.again.specs.Sum.{mix, mix_entry, mix_word, sum_of, words_from, sum_entries, entries_at};
+ghost use Rattle.std.specs.Prelude.{◌≡◌, ℕ, ◌<◌, ◌≤◌, length};
+ghost use Rattle.std.specs.List.{fold};
+ghost use Rattle.again.specs.Sum.{mix, mix_entry, mix_word, sum_entries, entries_at};
 
 use lists::entries::{NodeEntry, entry_at};
 
@@ -12,95 +13,79 @@ fn mixed(h: u64, x: u64) -> u64
     (1021 * h + x + 1) % 18014398509481951
 }
 
-pub fn wide(x: u8) -> u64
-    ensures { (result ≡ x) × (result < 256) }
-{
-    x as u64
+// What lists hold that have a checksum: a digit, or a few.
+pub trait Digits: Copy {
+    ghost step: { ℕ → Self → ℕ };
+
+    // The checksum with these behind the digits that gave h.
+    fn behind(self, h: u64) -> u64
+        requires { h < 18014398509481951 }
+        ensures { (result ≡ step h self) × (result < 18014398509481951) };
 }
 
-// The checksum of a room.
-pub fn sum(room: &[u8]) -> u64
-    ensures { result ≡ sum_of room.now }
-{
-    let mut h: u64 = 0;
-    let mut i: usize = 0;
-    while i < room.len() {
-        h = mixed(h, wide(room[i]));
-        i = i + 1;
+impl Digits for u8 {
+    ghost step = { mix };
+
+    fn behind(self, h: u64) -> u64 {
+        mixed(h, u64::from(self))
     }
-    h
 }
 
-fn wide_number(x: u16) -> u64
-    ensures { (result ≡ x) × (result < 65536) }
-{
-    x as u64
-}
+impl Digits for u16 {
+    ghost step = { mix };
 
-// The checksum of a list of numbers.
-pub fn sum_numbers(list: &[u16]) -> u64
-    ensures { result ≡ sum_of list.now }
-{
-    let mut h: u64 = 0;
-    let mut i: usize = 0;
-    while i < list.len() {
-        h = mixed(h, wide_number(list[i]));
-        i = i + 1;
+    fn behind(self, h: u64) -> u64 {
+        mixed(h, u64::from(self))
     }
-    h
 }
 
-fn wide_word(x: u32) -> u64
-    ensures { (result ≡ x) × (result < 4294967296) }
-{
-    x as u64
-}
+impl Digits for u32 {
+    ghost step = { mix };
 
-// The checksum of a list of numbers of 32 bits.
-pub fn sum_wide(list: &[u32]) -> u64
-    ensures { result ≡ sum_of list.now }
-{
-    let mut h: u64 = 0;
-    let mut i: usize = 0;
-    while i < list.len() {
-        h = mixed(h, wide_word(list[i]));
-        i = i + 1;
+    fn behind(self, h: u64) -> u64 {
+        mixed(h, u64::from(self))
     }
-    h
 }
 
-fn mixed_word(h: u64, w: u64) -> u64
-    requires { h < 18014398509481951 }
-    ensures { (result ≡ mix_word h w) × (result < 18014398509481951) }
-{
-    let a = mixed(h, w % 4294967296);
-    mixed(a, w / 4294967296)
+impl Digits for u64 {
+    ghost step = { mix_word };
+
+    fn behind(self, h: u64) -> u64 {
+        let a = mixed(h, self % 4294967296);
+        mixed(a, self / 4294967296)
+    }
 }
 
-// The checksum that goes on from `start` over a list of words.
-pub fn sum_words(start: u64, list: &[u64]) -> u64
+impl Digits for NodeEntry {
+    ghost step = { mix_entry };
+
+    fn behind(self, h: u64) -> u64 {
+        let a = self.kind.behind(h);
+        let b = self.number.behind(a);
+        let c = self.group.behind(b);
+        let d = self.installable.behind(c);
+        let f = self.missing.behind(d);
+        self.clause.behind(f)
+    }
+}
+
+// The checksum that goes on from `start` over a list.
+pub fn sum_after<T: Digits>(start: u64, list: &[T]) -> u64
     requires { start < 18014398509481951 }
-    ensures { result ≡ words_from start list.now }
+    ensures { result ≡ fold T.step start list.now }
 {
-    let mut h: u64 = start;
-    let mut i: usize = 0;
-    while i < list.len() {
-        h = mixed_word(h, list[i]);
-        i = i + 1;
+    let mut h = start;
+    for x in list {
+        h = x.behind(h);
     }
     h
 }
 
-fn mixed_entry(h: u64, e: NodeEntry) -> u64
-    requires { h < 18014398509481951 }
-    ensures { (result ≡ mix_entry h e) × (result < 18014398509481951) }
+// The checksum of a room, or of a list.
+pub fn sum<T: Digits>(list: &[T]) -> u64
+    ensures { result ≡ fold T.step 0 list.now }
 {
-    let a = mixed(h, e.kind as u64);
-    let b = mixed(a, e.number as u64);
-    let c = mixed(b, e.group as u64);
-    let d = mixed(c, e.installable as u64);
-    let f = mixed(d, e.missing as u64);
-    mixed(f, e.clause as u64)
+    sum_after(0, list)
 }
 
 // The checksum of the first n entries, which stand packed in words.
@@ -108,11 +93,9 @@ pub fn sum_entries(words: &[u64; 128], n: usize) -> u64
     requires { (n ≤ 128) × (length words.now ≡ 128) }
     ensures { result ≡ sum_entries (entries_at words.now n) }
 {
-    let mut h: u64 = 0;
-    let mut i: usize = 0;
-    while i < n {
-        h = mixed_entry(h, entry_at(words, i));
-        i = i + 1;
+    let mut h = 0;
+    for i in 0..n {
+        h = entry_at(words, i).behind(h);
     }
     h
 }

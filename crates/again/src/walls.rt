@@ -2,12 +2,13 @@
 ghost use Rattle.std.specs.Prelude.{◌≡◌, ◌≤◌};
 ghost use Rattle.again.specs.Walls.{counts_as, blank_wide, spots_in, ends_in};
 
-use crate::sums::sum_wide;
+use crate::sums::sum;
 use crate::{Seen, joined};
 use calls::Answer;
 use tgf::Counts;
 use urzulempa::urzulempa_tgf_read;
 
+// Kept: no plainer: both types are of other crates, so that no `From` can stand here.
 fn counts(c: Counts) -> Answer
     ensures { result ≡ counts_as c }
 {
@@ -24,7 +25,7 @@ fn spots(text: &[u8], nodes: &mut [u32], edges: &mut [u32]) -> Seen
     ensures { result ≡ spots_in text.now nodes.old edges.old }
 {
     let c = urzulempa_tgf_read(text, nodes, edges);
-    joined(counts(c), sum_wide(nodes))
+    joined(counts(c), sum(nodes))
 }
 
 pub fn read_nodes(text: &[u8], n: usize) -> Seen
@@ -36,11 +37,12 @@ pub fn read_nodes(text: &[u8], n: usize) -> Seen
     spots(text, &mut nodes[..n], &mut edges)
 }
 
+// Kept: no plainer: this differs from `spots` in what is summed, and a closure for that is as long as either.
 fn ends(text: &[u8], nodes: &mut [u32], edges: &mut [u32]) -> Seen
     ensures { result ≡ ends_in text.now nodes.old edges.old }
 {
     let c = urzulempa_tgf_read(text, nodes, edges);
-    joined(counts(c), sum_wide(edges))
+    joined(counts(c), sum(edges))
 }
 
 pub fn read_edges(text: &[u8], n: usize) -> Seen

@@ -8,7 +8,7 @@ use Rattle.records.specs.declared.Clause.TheVariants as C
 use Rattle.records.specs.Tables.{Tables}
 use Rattle.records.specs.Views.{clause_of, clause_in, core_at}
 use Rattle.store.specs.Graph.{Graph}
-use Rattle.cycles.specs.Cycles.{on_cycle, cycle_of}
+use Rattle.cycles.specs.Cycles.{cycle_of}
 use Rattle.air.specs.declared.Profile.{Profile}
 use Rattle.air.specs.declared.Profile.TheVariants.{Passed, Refused}
 

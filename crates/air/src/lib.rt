@@ -1,12 +1,12 @@
 // The air profile (document 02, order 9): what it refuses of a file that is drawn, by the clauses and by the graph.
 #![tactic(auto)]
 
-ghost use Rattle.std.specs.Prelude.{◌≡◌};
+ghost use Rattle.std.proofs.Math.Option.{none, some};
+ghost use Rattle.std.specs.Prelude.{◌≡◌, MatchOption};
 ghost use Rattle.records.specs.Read.{tables_of};
 ghost use Rattle.index.specs.Index.{Loaded};
 ghost use Rattle.store.specs.Table.{graph_in};
 ghost use Rattle.links.specs.Build.{Chains};
-ghost use Rattle.links.specs.Queue.{lowest_of};
 ghost use Rattle.air.specs.Profile.{is_lock, lock_at, first_lock, graph_profile, profile_of};
 
 use index::Slots;
@@ -14,34 +14,17 @@ use records::Clause;
 use store::{ChainWords, GraphWords, Size};
 
 // Passed, or one of 15 to 17 with its place.
+// Kept: what may not change: `air_of` and the theorems over it (calls/specs) hold every refusal of a file, 1 to 17, in this type.
 #[derive(Clone, Copy)]
 pub enum Profile {
     Passed,
     Refused(u64, u64),
 }
 
-// A number as an answer holds it.
-fn number(i: usize) -> u64
-    ensures { result ≡ i }
-{
-    i as u64
-}
-
 fn is_lock(c: Clause) -> bool
     ensures { result ≡ is_lock c }
 {
-    match c {
-        Clause::InstallRoot => false,
-        Clause::Excluded(_, _) => false,
-        Clause::Learnt => false,
-        Clause::Requires(_, _) => false,
-        Clause::Lock(_, _) => true,
-        Clause::ForbidMultipleInstances(_, _) => false,
-        Clause::Constrains(_, _, _) => false,
-        Clause::ConstrainsParent(_, _, _) => false,
-        Clause::ConstrainsExcluded(_, _, _) => false,
-        Clause::AnyOf(_, _) => false,
-    }
+    matches!(c, Clause::Lock(_, _))
 }
 
 // Clause i is a Lock and in the core.
@@ -50,27 +33,22 @@ fn lock_at(file: &[u8], ix: &Slots, i: usize) -> bool
     ensures { result ≡ lock_at (tables_of file.now) i }
 {
     if views::in_core(file, ix, i) {
-        let c = views::clause(file, ix, i);
-        return is_lock(c);
+        return is_lock(views::clause(file, ix, i));
     }
     false
 }
 
-// One more than the number of the first Lock in the core, or 0. A file has at most 1,024 clauses, and none past its last is in the
-// core.
-fn first_lock(file: &[u8], ix: &Slots) -> usize
+// The first Lock in the core. A file has at most 1,024 clauses, and none past its last is in the core.
+fn first_lock(file: &[u8], ix: &Slots) -> Option<usize>
     requires { Loaded file.now ix.now }
-    ensures { result ≡ lowest_of (first_lock (tables_of file.now)) }
+    ensures { MatchOption result (first_lock (tables_of file.now) ≡ none) (λ i. first_lock (tables_of file.now) ≡ some i) }
 {
-    let mut i: usize = 0;
-    while i < 1024 {
-        let t = lock_at(file, ix, i);
-        if t {
-            return i + 1;
+    for i in 0..1024 {
+        if lock_at(file, ix, i) {
+            return Some(i);
         }
-        i += 1;
     }
-    0
+    None
 }
 
 // 16, then 17.
@@ -81,12 +59,10 @@ fn graph_profile(g: &GraphWords, s: Size, ls: &ChainWords) -> Profile
     if 64 < s.nodes {
         return Profile::Refused(16, 0);
     }
-    let c = cycles::lowest_on_cycle(g, s, ls);
-    if 0 < c {
-        let p = number(c - 1);
-        return Profile::Refused(17, p);
+    match cycles::lowest_on_cycle(g, s, ls) {
+        Some(n) => Profile::Refused(17, n as u64),
+        None => Profile::Passed,
     }
-    Profile::Passed
 }
 
 // 15, then 16 and 17.
@@ -95,10 +71,8 @@ pub fn within(file: &[u8], ix: &Slots, g: &GraphWords, s: Size, ls: &ChainWords)
     requires chains { Chains g.now s ls.now }
     ensures { result ≡ profile_of (tables_of file.now) (graph_in g.now s) }
 {
-    let l = first_lock(file, ix);
-    if 0 < l {
-        let p = number(l - 1);
-        return Profile::Refused(15, p);
+    if let Some(i) = first_lock(file, ix) {
+        return Profile::Refused(15, i as u64);
     }
     graph_profile(g, s, ls)
 }

@@ -1,35 +1,17 @@
 // A good record by the arm of its kind: all that is asked of it at once, on plain numbers. Where an arm says no, `check` says why.
+#![tactic(auto, using(basis::specs::Laws::Guard::guards))]
+
 ghost use Rattle.std.specs.Prelude.{◌≡◌, ◌<◌};
 ghost use Rattle.records.specs.Shapes.{records_of};
 ghost use Rattle.records.specs.Tables.{at};
 ghost use Rattle.arms.specs.Fits.{texted_fits, named_fits, candidate_fits, stands_fits, variable_fits, origin_fits, refers_fits, alone_fits, parties_fit};
-ghost use Rattle.arms.specs.Fits.{pair_fits, bounded_fits, assigned_fits, said_by, Sure};
+ghost use Rattle.arms.specs.Fits.{pair_fits, bounded_fits, assigned_fits, Sure};
 
-use basis::wide16;
 use records::check::mark_origin;
 use records::fields::{a_at, b_at, c_at, kind_at};
 use records::origins::{allowed, is_free, named_good, named_zero};
 use records::text::{flagged, text_good, unmarked};
-use records::{Allowed, CountStep, Counts, Table};
-
-// Fields a, b and c as indices.
-fn wide_a(file: &[u8], i: usize) -> usize
-    ensures { (result ≡ (at (records_of file.now) i).a) × (result < 65536) }
-{
-    wide16(a_at(file, i))
-}
-
-fn wide_b(file: &[u8], i: usize) -> usize
-    ensures { (result ≡ (at (records_of file.now) i).b) × (result < 65536) }
-{
-    wide16(b_at(file, i))
-}
-
-fn wide_c(file: &[u8], i: usize) -> usize
-    ensures { (result ≡ (at (records_of file.now) i).c) × (result < 65536) }
-{
-    wide16(c_at(file, i))
-}
+use records::{Allowed, Counts, Table};
 
 // Number n of a table that holds l, with a text.
 fn texted(file: &[u8], i: usize, n: usize, l: usize) -> bool
@@ -38,7 +20,7 @@ fn texted(file: &[u8], i: usize, n: usize, l: usize) -> bool
     if l <= n {
         return false;
     }
-    if wide_a(file, i) != n {
+    if usize::from(a_at(file, i)) != n {
         return false;
     }
     if b_at(file, i) != 0 {
@@ -57,10 +39,10 @@ fn named(file: &[u8], i: usize, n: usize, l: usize, k: usize) -> bool
     if l <= n {
         return false;
     }
-    if wide_a(file, i) != n {
+    if usize::from(a_at(file, i)) != n {
         return false;
     }
-    if k <= wide_b(file, i) {
+    if k <= usize::from(b_at(file, i)) {
         return false;
     }
     if c_at(file, i) != 0 {
@@ -76,10 +58,10 @@ fn candidate(file: &[u8], i: usize, n: usize, k: usize, l: usize) -> bool
     if 1024 <= n {
         return false;
     }
-    if k <= wide_a(file, i) {
+    if k <= usize::from(a_at(file, i)) {
         return false;
     }
-    if l <= wide_b(file, i) {
+    if l <= usize::from(b_at(file, i)) {
         return false;
     }
     if c_at(file, i) != 0 {
@@ -110,7 +92,7 @@ fn variable(file: &[u8], i: usize, c: Counts, n: usize) -> bool
     if 1024 <= n {
         return false;
     }
-    if wide_a(file, i) != n {
+    if usize::from(a_at(file, i)) != n {
         return false;
     }
     if !stands(file, i, c) {
@@ -123,7 +105,7 @@ fn variable(file: &[u8], i: usize, c: Counts, n: usize) -> bool
 fn origin_fits(m: &[u16], v: usize, o: Allowed, x: u16) -> bool
     ensures { result ≡ origin_fits m.now v o x }
 {
-    if v <= wide16(x) {
+    if v <= usize::from(x) {
         return false;
     }
     let k = mark_origin(m, x);
@@ -137,7 +119,7 @@ fn refers(file: &[u8], i: usize, m: &[u16], n: usize, v: usize, k: usize, o: All
     if 1024 <= n {
         return false;
     }
-    if k <= wide_b(file, i) {
+    if k <= usize::from(b_at(file, i)) {
         return false;
     }
     if c_at(file, i) != 0 {
@@ -213,7 +195,7 @@ fn bounded(
     if 1024 <= n {
         return false;
     }
-    if k <= wide_c(file, i) {
+    if k <= usize::from(c_at(file, i)) {
         return false;
     }
     parties(file, i, m, v, o, p)
@@ -230,7 +212,7 @@ fn assigned(file: &[u8], i: usize, c: Counts, m: &[u16], n: usize, k: usize) -> 
     if !is_free(c, m, a) {
         return false;
     }
-    if k <= wide_b(file, i) {
+    if k <= usize::from(b_at(file, i)) {
         return false;
     }
     if c_at(file, i) != 0 {
@@ -239,148 +221,106 @@ fn assigned(file: &[u8], i: usize, c: Counts, m: &[u16], n: usize, k: usize) -> 
     unmarked(file, i)
 }
 
-// What an arm said; 0 for nothing.
-fn said(f: bool, t: Table) -> CountStep
-    ensures { result ≡ said_by f t }
-{
-    if f {
-        return CountStep::Next(t);
-    }
-    CountStep::No(0)
-}
-
-// Record i by the arm of its kind: the table that it goes into; 0 where the arm says no.
-pub fn quick(file: &[u8], i: usize, c: Counts, m: &[u16]) -> CountStep
+// Record i by the arm of its kind: the table that it goes into; nothing where the arm says no.
+pub fn quick(file: &[u8], i: usize, c: Counts, m: &[u16]) -> Option<Table>
     ensures { Sure c m.now (at (records_of file.now) i) result }
 {
-    let kind = kind_at(file, i);
-    match kind {
-        1 => {
-            let n = c.names;
-            let f = texted(file, i, n, 128);
-            said(f, Table::Names)
-        }
-        2 => {
-            let n = c.solvables;
-            let k = c.names;
-            let f = named(file, i, n, 256, k);
-            said(f, Table::Solvables)
-        }
-        3 => {
-            let n = c.sets;
-            let k = c.names;
-            let f = named(file, i, n, 256, k);
-            said(f, Table::VersionSets)
-        }
-        4 => {
-            let n = c.requirements;
-            let f = texted(file, i, n, 256);
-            said(f, Table::Requirements)
-        }
-        5 => {
-            let n = c.candidates;
-            let k = c.requirements;
-            let l = c.solvables;
-            let f = candidate(file, i, n, k, l);
-            said(f, Table::Candidates)
-        }
-        6 => {
-            let n = c.reasons;
-            let f = texted(file, i, n, 64);
-            said(f, Table::Reasons)
-        }
-        7 => {
-            let n = c.variables;
-            let f = variable(file, i, c, n);
-            said(f, Table::Variables)
-        }
-        8 => {
-            let n = c.assigned;
-            let k = c.clauses;
-            let f = assigned(file, i, c, m, n, k);
-            said(f, Table::Assigned)
-        }
-        16 => {
-            let n = c.clauses;
-            let f = alone(file, i, n);
-            said(f, Table::Clauses)
-        }
-        17 => {
-            let n = c.clauses;
-            let v = c.variables;
-            let k = c.reasons;
-            let f = refers(file, i, m, n, v, k, Allowed::Solvable);
-            said(f, Table::Clauses)
-        }
-        18 => {
-            let n = c.clauses;
-            let f = alone(file, i, n);
-            said(f, Table::Clauses)
-        }
-        19 => {
-            let n = c.clauses;
-            let v = c.variables;
-            let k = c.requirements;
-            let f = refers(file, i, m, n, v, k, Allowed::Requirer);
-            said(f, Table::Clauses)
-        }
-        20 => {
-            let n = c.clauses;
-            let v = c.variables;
-            let f = pair(file, i, m, n, v, Allowed::Solvable, Allowed::Solvable);
-            said(f, Table::Clauses)
-        }
-        21 => {
-            let n = c.clauses;
-            let v = c.variables;
-            let f = pair(file, i, m, n, v, Allowed::Solvable, Allowed::ForbidMultiple);
-            said(f, Table::Clauses)
-        }
-        22 => {
-            let n = c.clauses;
-            let v = c.variables;
-            let k = c.sets;
-            let f = bounded(
-                file,
-                i,
-                m,
-                n,
-                v,
-                k,
-                Allowed::SolvableOrRoot,
-                Allowed::Solvable,
-            );
-            said(f, Table::Clauses)
-        }
-        23 => {
-            let n = c.clauses;
-            let v = c.variables;
-            let k = c.sets;
-            let f = bounded(
-                file,
-                i,
-                m,
-                n,
-                v,
-                k,
-                Allowed::SolvableOrRoot,
-                Allowed::Auxiliary,
-            );
-            said(f, Table::Clauses)
-        }
-        24 => {
-            let n = c.clauses;
-            let v = c.variables;
-            let k = c.sets;
-            let f = bounded(file, i, m, n, v, k, Allowed::Solvable, Allowed::Auxiliary);
-            said(f, Table::Clauses)
-        }
-        25 => {
-            let n = c.clauses;
-            let v = c.variables;
-            let f = pair(file, i, m, n, v, Allowed::Any, Allowed::Any);
-            said(f, Table::Clauses)
-        }
-        _ => CountStep::No(0),
+    match kind_at(file, i) {
+        1 => texted(file, i, c.names, 128).then_some(Table::Names),
+        2 => named(file, i, c.solvables, 256, c.names).then_some(Table::Solvables),
+        3 => named(file, i, c.sets, 256, c.names).then_some(Table::VersionSets),
+        4 => texted(file, i, c.requirements, 256).then_some(Table::Requirements),
+        5 => candidate(file, i, c.candidates, c.requirements, c.solvables).then_some(
+            Table::Candidates,
+        ),
+        6 => texted(file, i, c.reasons, 64).then_some(Table::Reasons),
+        7 => variable(file, i, c, c.variables).then_some(Table::Variables),
+        8 => assigned(file, i, c, m, c.assigned, c.clauses).then_some(Table::Assigned),
+        16 => alone(file, i, c.clauses).then_some(Table::Clauses),
+        17 => refers(
+            file,
+            i,
+            m,
+            c.clauses,
+            c.variables,
+            c.reasons,
+            Allowed::Solvable,
+        )
+        .then_some(Table::Clauses),
+        18 => alone(file, i, c.clauses).then_some(Table::Clauses),
+        19 => refers(
+            file,
+            i,
+            m,
+            c.clauses,
+            c.variables,
+            c.requirements,
+            Allowed::Requirer,
+        )
+        .then_some(Table::Clauses),
+        20 => pair(
+            file,
+            i,
+            m,
+            c.clauses,
+            c.variables,
+            Allowed::Solvable,
+            Allowed::Solvable,
+        )
+        .then_some(Table::Clauses),
+        21 => pair(
+            file,
+            i,
+            m,
+            c.clauses,
+            c.variables,
+            Allowed::Solvable,
+            Allowed::ForbidMultiple,
+        )
+        .then_some(Table::Clauses),
+        22 => bounded(
+            file,
+            i,
+            m,
+            c.clauses,
+            c.variables,
+            c.sets,
+            Allowed::SolvableOrRoot,
+            Allowed::Solvable,
+        )
+        .then_some(Table::Clauses),
+        23 => bounded(
+            file,
+            i,
+            m,
+            c.clauses,
+            c.variables,
+            c.sets,
+            Allowed::SolvableOrRoot,
+            Allowed::Auxiliary,
+        )
+        .then_some(Table::Clauses),
+        24 => bounded(
+            file,
+            i,
+            m,
+            c.clauses,
+            c.variables,
+            c.sets,
+            Allowed::Solvable,
+            Allowed::Auxiliary,
+        )
+        .then_some(Table::Clauses),
+        25 => pair(
+            file,
+            i,
+            m,
+            c.clauses,
+            c.variables,
+            Allowed::Any,
+            Allowed::Any,
+        )
+        .then_some(Table::Clauses),
+        _ => None,
     }
 }

@@ -9,42 +9,29 @@ ghost use Rattle.records.specs.Read.{read_of, answer_of};
 ghost use Rattle.records.specs.Pass.{left_pass};
 
 use records::pass::turn;
-use records::{Counts, ReadAnswer};
+use records::{Counts, Refused};
 
-// The records from i on, with the counts and marks of those before.
-fn rest(file: &[u8], m: &mut [u16], i: usize, c: Counts) -> ReadAnswer
-    ensures { result ≡ left_pass file.now i c m.old }
+// All records, with the counts and marks that they begin with.
+fn rest(file: &[u8], m: &mut [u16], c: Counts) -> Result<Counts, Refused>
+    ensures { result ≡ left_pass file.now 0 c m.old }
 {
-    let n = file.len() / 32;
     let mut d = c;
-    let mut j = i;
-    while j < n {
-        let s = turn(file, j, d, m);
-        let ReadAnswer::Accepted(e) = s else {
-            return s;
-        };
-        d = e;
-        j += 1;
+    for i in 0..file.len() / 32 {
+        d = turn(file, i, d, m)?;
     }
-    ReadAnswer::Accepted(d)
+    Ok(d)
 }
 
 // Reads a file of records: how many each table has, or the first refusal (1 to 6) with its place.
-pub fn read(file: &[u8]) -> ReadAnswer
+pub fn read(file: &[u8]) -> Result<Counts, Refused>
     ensures { result ≡ answer_of (read_of file.now) }
 {
     let len = file.len();
-    if 65536 < len {
-        return ReadAnswer::Refused {
+    if 65536 < len || len % 32 != 0 {
+        return Err(Refused {
             number: 1,
             place: 0,
-        };
-    }
-    if len % 32 != 0 {
-        return ReadAnswer::Refused {
-            number: 1,
-            place: 0,
-        };
+        });
     }
     let mut marks = [0u16; 1024];
     let c = Counts {
@@ -58,5 +45,5 @@ pub fn read(file: &[u8]) -> ReadAnswer
         assigned: 0,
         clauses: 0,
     };
-    rest(file, &mut marks, 0, c)
+    rest(file, &mut marks, c)
 }

@@ -2,54 +2,57 @@
 // gives 0 and a store does nothing, so that each contract is one equation.
 #![tactic(auto)]
 
-ghost use Rattle.std.specs.Prelude.{◌≡◌, ◌<◌, get_or, set};
+ghost use Rattle.std.specs.Prelude.{◌≡◌, get_or, set};
 
-// The byte at `at`.
-pub fn byte(s: &[u8], at: usize) -> u8
-    ensures { result ≡ get_or s.now at 0 }
-{
-    if at < s.len() { s[at] } else { 0 }
+// A number of a table, with what a read past the table's end gives.
+pub trait Number: Copy {
+    ghost blank: { Self };
+
+    fn blank() -> Self
+        ensures { result ≡ blank };
 }
 
-// A byte as an index.
-pub fn wide(x: u8) -> usize
-    ensures { (result ≡ x) × (result < 256) }
-{
-    x as usize
-}
+impl Number for u8 {
+    ghost blank = { 0 };
 
-// A 16-bit number as an index.
-pub fn wide16(x: u16) -> usize
-    ensures { (result ≡ x) × (result < 65536) }
-{
-    x as usize
-}
-
-// The 16-bit number at `at`.
-pub fn get16(t: &[u16], at: usize) -> u16
-    ensures { result ≡ get_or t.now at 0 }
-{
-    if at < t.len() { t[at] } else { 0 }
-}
-
-// Stores a 16-bit number.
-pub fn put16(t: &mut [u16], at: usize, v: u16)
-    ensures { t.new ≡ set t.old at v }
-{
-    if at < t.len() {
-        t[at] = v;
+    fn blank() -> u8 {
+        0
     }
 }
 
-// The 64-bit word at `at`.
-pub fn get64(t: &[u64], at: usize) -> u64
-    ensures { result ≡ get_or t.now at 0 }
-{
-    if at < t.len() { t[at] } else { 0 }
+impl Number for u16 {
+    ghost blank = { 0 };
+
+    fn blank() -> u16 {
+        0
+    }
 }
 
-// Stores a 64-bit word.
-pub fn put64(t: &mut [u64], at: usize, v: u64)
+impl Number for u32 {
+    ghost blank = { 0 };
+
+    fn blank() -> u32 {
+        0
+    }
+}
+
+impl Number for u64 {
+    ghost blank = { 0 };
+
+    fn blank() -> u64 {
+        0
+    }
+}
+
+// The number at `at`.
+pub fn get<T: Number>(s: &[T], at: usize) -> T
+    ensures { result ≡ get_or s.now at T.blank }
+{
+    if at < s.len() { s[at] } else { T::blank() }
+}
+
+// Stores a number.
+pub fn put<T: Number>(t: &mut [T], at: usize, v: T)
     ensures { t.new ≡ set t.old at v }
 {
     if at < t.len() {

@@ -1,7 +1,7 @@
-// The explanation inside the air profile (order 9), over lent working arrays.
-ghost use Rattle.std.specs.Prelude.{◌≡◌, length, replicate};
+// The explanation inside the air profile (order 9).
+ghost use Rattle.std.specs.Prelude.{◌≡◌};
 ghost use Rattle.records.specs.Read.{tables_of};
-ghost use Rattle.index.specs.Index.{Loaded, Blank};
+ghost use Rattle.index.specs.Index.{Loaded};
 ghost use Rattle.store.specs.Table.{graph_in};
 ghost use Rattle.links.specs.Build.{Chains};
 ghost use Rattle.graph.specs.Graphs.{graph_of, drawn};
@@ -12,7 +12,6 @@ use crate::Answer;
 use crate::answers::refusal;
 use crate::explains::explain_whole;
 use air::Profile;
-use graph::Made;
 use index::Slots;
 use store::{ChainWords, GraphWords, Scratch, Size};
 
@@ -39,24 +38,15 @@ fn air_whole(
     }
 }
 
-pub fn air_in(
-    file: &[u8],
-    top: bool,
-    ix: &mut Slots,
-    g: &mut GraphWords,
-    tr: &mut Scratch,
-    ls: &mut ChainWords,
-    room: &mut [u8],
-) -> Answer
-    requires blank { Blank ix.old }
-    requires g_value { g.old ≡ replicate 1152 0 }
-    requires tr_len { length tr.old ≡ 1280 }
-    requires ls_value { ls.old ≡ replicate 3456 0 }
+pub fn air_of(file: &[u8], top: bool, room: &mut [u8]) -> Answer
     ensures { SaysAir file.now (option_of top) room.old room.new result }
 {
-    let m = graph::of_file(file, ix, g, tr, ls);
-    match m {
-        Made::Refused(k, p) => refusal(k, p),
-        Made::Whole(s) => air_whole(file, ix, g, s, ls, tr, top, room),
+    let mut ix = [0u16; 10432];
+    let mut g = [0u64; 1152];
+    let mut tr = [0u64; 1280];
+    let mut ls = [0u16; 3456];
+    match graph::of_file(file, &mut ix, &mut g, &mut tr, &mut ls) {
+        Err(e) => refusal(e.number, e.place),
+        Ok(s) => air_whole(file, &ix, &g, s, &ls, &mut tr, top, room),
     }
 }

@@ -1,7 +1,7 @@
-// The explanation of the graph asked for (order 10), over lent working arrays.
-ghost use Rattle.std.specs.Prelude.{◌≡◌, length, replicate};
+// The explanation of the graph asked for (order 10).
+ghost use Rattle.std.specs.Prelude.{◌≡◌};
 ghost use Rattle.records.specs.Read.{tables_of};
-ghost use Rattle.index.specs.Index.{Loaded, Blank};
+ghost use Rattle.index.specs.Index.{Loaded};
 ghost use Rattle.store.specs.Table.{graph_in};
 ghost use Rattle.links.specs.Build.{Chains};
 ghost use Rattle.labels.specs.Marks.{label_bits};
@@ -14,7 +14,6 @@ ghost use Rattle.calls.specs.WhatIf.{SaysWhatIf};
 use crate::Answer;
 use crate::answers::refusal;
 use crate::explains::explain_marked;
-use graph::Made;
 use index::Slots;
 use store::{ChainWords, GraphWords, PerNode, Scratch, Size};
 
@@ -63,31 +62,22 @@ fn ask_whole(
     let mut marks = [0u16; 128];
     let m = whatif::ask(file, ix, g, s, ls, &mut marks, solvable, reason);
     match m {
-        Made::Refused(k, p) => refusal(k, p),
-        Made::Whole(t) => show_asked(file, ix, g, t, ls, &marks, tr, solvable, reason, top, room),
+        Err(e) => refusal(e.number, e.place),
+        Ok(t) => show_asked(file, ix, g, t, ls, &marks, tr, solvable, reason, top, room),
     }
 }
 
-pub fn ask_in(
-    file: &[u8],
-    solvable: u64,
-    reason: u64,
-    top: bool,
-    ix: &mut Slots,
-    g: &mut GraphWords,
-    tr: &mut Scratch,
-    ls: &mut ChainWords,
-    room: &mut [u8],
-) -> Answer
-    requires blank { Blank ix.old }
-    requires g_value { g.old ≡ replicate 1152 0 }
-    requires tr_len { length tr.old ≡ 1280 }
-    requires ls_value { ls.old ≡ replicate 3456 0 }
+pub fn ask_of(file: &[u8], solvable: u64, reason: u64, top: bool, room: &mut [u8]) -> Answer
     ensures { SaysWhatIf file.now solvable reason (option_of top) room.old room.new result }
 {
-    let m = graph::of_file(file, ix, g, tr, ls);
-    match m {
-        Made::Refused(k, p) => refusal(k, p),
-        Made::Whole(s) => ask_whole(file, ix, g, s, ls, tr, solvable, reason, top, room),
+    let mut ix = [0u16; 10432];
+    let mut g = [0u64; 1152];
+    let mut tr = [0u64; 1280];
+    let mut ls = [0u16; 3456];
+    match graph::of_file(file, &mut ix, &mut g, &mut tr, &mut ls) {
+        Err(e) => refusal(e.number, e.place),
+        Ok(s) => ask_whole(
+            file, &ix, &mut g, s, &mut ls, &mut tr, solvable, reason, top, room,
+        ),
     }
 }

@@ -1,31 +1,20 @@
-// From bytes to the graph, over lent working arrays: refusals 1 to 9.
-ghost use Rattle.std.specs.Prelude.{◌≡◌, length, replicate};
-ghost use Rattle.index.specs.Index.{Blank};
+// From bytes to the graph: refusals 1 to 9.
+ghost use Rattle.std.specs.Prelude.{◌≡◌};
 ghost use Rattle.calls.specs.Answers.{check_of};
 
 use crate::Answer;
 use crate::answers::refusal;
-use graph::Made;
-use index::Slots;
-use store::{ChainWords, GraphWords, Scratch};
 
 // A graph that is drawn is done.
-pub fn check_in(
-    file: &[u8],
-    ix: &mut Slots,
-    g: &mut GraphWords,
-    tr: &mut Scratch,
-    ls: &mut ChainWords,
-) -> Answer
-    requires blank { Blank ix.old }
-    requires g_value { g.old ≡ replicate 1152 0 }
-    requires tr_len { length tr.old ≡ 1280 }
-    requires ls_value { ls.old ≡ replicate 3456 0 }
+pub fn check_of(file: &[u8]) -> Answer
     ensures { result ≡ check_of file.now }
 {
-    let m = graph::check_file(file, ix, g, tr, ls);
-    match m {
-        Made::Refused(k, p) => refusal(k, p),
-        Made::Whole(_) => refusal(0, 0),
+    let mut ix = [0u16; 10432];
+    let mut g = [0u64; 1152];
+    let mut tr = [0u64; 1280];
+    let mut ls = [0u16; 3456];
+    match graph::check_file(file, &mut ix, &mut g, &mut tr, &mut ls) {
+        Err(e) => refusal(e.number, e.place),
+        Ok(_) => refusal(0, 0),
     }
 }

@@ -1,7 +1,7 @@
-// The explanation of a file, over lent working arrays.
-ghost use Rattle.std.specs.Prelude.{◌≡◌, [], length, replicate};
+// The explanation of a file.
+ghost use Rattle.std.specs.Prelude.{◌≡◌};
 ghost use Rattle.records.specs.Read.{tables_of};
-ghost use Rattle.index.specs.Index.{Loaded, Blank};
+ghost use Rattle.index.specs.Index.{Loaded};
 ghost use Rattle.store.specs.Table.{graph_in};
 ghost use Rattle.links.specs.Build.{Chains};
 ghost use Rattle.labels.specs.Marks.{label_bits};
@@ -15,7 +15,6 @@ ghost use Rattle.calls.specs.Says.{Says, Shows, PlannedAs, edition_of};
 use crate::Answer;
 use crate::answers::refusal;
 use crate::plans::{plan_of, walk_plan};
-use graph::Made;
 use index::Slots;
 use store::{ChainWords, GraphWords, PerNode, Scratch, Size};
 
@@ -89,25 +88,15 @@ pub fn explain_whole(
     explain_marked(file, ix, g, s, ls, &marks, p, top, every, room)
 }
 
-pub fn explain_in(
-    file: &[u8],
-    top: bool,
-    every: bool,
-    ix: &mut Slots,
-    g: &mut GraphWords,
-    tr: &mut Scratch,
-    ls: &mut ChainWords,
-    room: &mut [u8],
-) -> Answer
-    requires blank { Blank ix.old }
-    requires g_value { g.old ≡ replicate 1152 0 }
-    requires tr_len { length tr.old ≡ 1280 }
-    requires ls_value { ls.old ≡ replicate 3456 0 }
+pub fn explain_of(file: &[u8], top: bool, every: bool, room: &mut [u8]) -> Answer
     ensures { Says (edition_of every) file.now (option_of top) room.old room.new result }
 {
-    let m = graph::of_file(file, ix, g, tr, ls);
-    match m {
-        Made::Refused(k, p) => refusal(k, p),
-        Made::Whole(s) => explain_whole(file, ix, g, s, ls, tr, top, every, room),
+    let mut ix = [0u16; 10432];
+    let mut g = [0u64; 1152];
+    let mut tr = [0u64; 1280];
+    let mut ls = [0u16; 3456];
+    match graph::of_file(file, &mut ix, &mut g, &mut tr, &mut ls) {
+        Err(e) => refusal(e.number, e.place),
+        Ok(s) => explain_whole(file, &ix, &g, s, &ls, &mut tr, top, every, room),
     }
 }

@@ -10,6 +10,7 @@ mod explains;
 pub mod plans;
 
 // "An answer holds number, place, bytes, units, depth" (document 01, "Refusal numbers").
+// Kept: the C interface: a host reads these five words.
 #[repr(C)]
 #[derive(Clone, Copy)]
 pub struct Answer {
@@ -30,11 +31,7 @@ ghost use Rattle.calls.specs.WhatIf.{SaysWhatIf};
 pub fn check(file: &[u8]) -> Answer
     ensures { result ≡ check_of file.now }
 {
-    let mut ix = [0u16; 10432];
-    let mut g = [0u64; 1152];
-    let mut tr = [0u64; 1280];
-    let mut ls = [0u16; 3456];
-    checks::check_in(file, &mut ix, &mut g, &mut tr, &mut ls)
+    checks::check_of(file)
 }
 
 // The explanation by the reading rules of an edition (order 11): 1 is the Rust's, in 2 every package is reported when first shown.
@@ -51,20 +48,7 @@ pub fn explain(file: &[u8], edition: u64, option: u64, room: &mut [u8]) -> Answe
     if 1 < option {
         return answers::refusal(12, 0);
     }
-    let mut ix = [0u16; 10432];
-    let mut g = [0u64; 1152];
-    let mut tr = [0u64; 1280];
-    let mut ls = [0u16; 3456];
-    explains::explain_in(
-        file,
-        option == 1,
-        edition == 2,
-        &mut ix,
-        &mut g,
-        &mut tr,
-        &mut ls,
-        room,
-    )
+    explains::explain_of(file, option == 1, edition == 2, room)
 }
 
 // The explanation by edition 1 of a file that the air profile takes (order 9): 15 for a Lock in the core, 16 for more than 64 nodes,
@@ -75,11 +59,7 @@ pub fn explain_air(file: &[u8], option: u64, room: &mut [u8]) -> Answer
     if 1 < option {
         return answers::refusal(12, 0);
     }
-    let mut ix = [0u16; 10432];
-    let mut g = [0u64; 1152];
-    let mut tr = [0u64; 1280];
-    let mut ls = [0u16; 3456];
-    airs::air_in(file, option == 1, &mut ix, &mut g, &mut tr, &mut ls, room)
+    airs::air_of(file, option == 1, room)
 }
 
 // The explanation by edition 1 of the graph with one more exclusion (order 10): 4 for a solvable or reason that can't be asked about, 8 where
@@ -96,19 +76,5 @@ pub fn explain_what_if(
     if 1 < option {
         return answers::refusal(12, 0);
     }
-    let mut ix = [0u16; 10432];
-    let mut g = [0u64; 1152];
-    let mut tr = [0u64; 1280];
-    let mut ls = [0u16; 3456];
-    asks::ask_in(
-        file,
-        solvable,
-        reason,
-        option == 1,
-        &mut ix,
-        &mut g,
-        &mut tr,
-        &mut ls,
-        room,
-    )
+    asks::ask_of(file, solvable, reason, option == 1, room)
 }

@@ -13,7 +13,6 @@ ghost use Rattle.calls.specs.Plans.{PlanFrom};
 ghost use Rattle.calls.specs.Says.{Walked};
 
 use crate::Answer;
-use crate::answers::told;
 use index::Slots;
 use store::{ChainWords, GraphWords, PerNode, Scratch, Size};
 
@@ -56,6 +55,5 @@ pub fn walk_plan(
     requires ready { Ready (tables_of file.now) p.now k.now }
     ensures { Walked (tables_of file.now) p.now k.now top room.old room.new result }
 {
-    let t = explanation::walk::explain_plan(file, ix, p, k, room, top);
-    told(t)
+    Answer::from(explanation::walk::explain_plan(file, ix, p, k, room, top))
 }

@@ -1,14 +1,11 @@
-// The edges of a file as plain numbers, over lent working arrays.
-ghost use Rattle.std.specs.Prelude.{◌≡◌, ◌≤◌, length, replicate};
-ghost use Rattle.index.specs.Index.{Blank};
+// The edges of a file as plain numbers.
+ghost use Rattle.std.specs.Prelude.{◌≡◌, ◌≤◌, length};
 ghost use Rattle.store.specs.Table.{graph_in, Stored};
 ghost use Rattle.charts.specs.Edges.{listed_answer, edges_asked, edges_into, edges_answer, edges_left};
 
 use calls::Answer;
 use calls::answers::refusal;
-use graph::Made;
-use index::Slots;
-use store::{ChainWords, GraphWords, Scratch, Size};
+use store::{GraphWords, Size};
 
 fn listed(n: usize) -> Answer
     requires { n ≤ 1024 }
@@ -38,24 +35,16 @@ fn edges_whole(g: &GraphWords, s: Size, list: &mut [u16]) -> Answer
     listed(m)
 }
 
-pub fn edges_in(
-    file: &[u8],
-    ix: &mut Slots,
-    g: &mut GraphWords,
-    tr: &mut Scratch,
-    ls: &mut ChainWords,
-    list: &mut [u16],
-) -> Answer
-    requires blank { Blank ix.old }
-    requires g_value { g.old ≡ replicate 1152 0 }
-    requires tr_len { length tr.old ≡ 1280 }
-    requires ls_value { ls.old ≡ replicate 3456 0 }
+pub fn edges_of(file: &[u8], list: &mut [u16]) -> Answer
     ensures value { result ≡ edges_answer file.now (length list.old) }
     ensures list_after { list.new ≡ edges_left file.now list.old }
 {
-    let m = graph::check_file(file, ix, g, tr, ls);
-    match m {
-        Made::Refused(k, p) => refusal(k, p),
-        Made::Whole(s) => edges_whole(g, s, list),
+    let mut ix = [0u16; 10432];
+    let mut g = [0u64; 1152];
+    let mut tr = [0u64; 1280];
+    let mut ls = [0u16; 3456];
+    match graph::check_file(file, &mut ix, &mut g, &mut tr, &mut ls) {
+        Err(e) => refusal(e.number, e.place),
+        Ok(s) => edges_whole(&g, s, list),
     }
 }

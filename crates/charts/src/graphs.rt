@@ -1,34 +1,19 @@
-// The graph text of a file, over lent working arrays.
-ghost use Rattle.std.specs.Prelude.{◌≡◌, length, replicate};
+// The graph text of a file.
+ghost use Rattle.std.specs.Prelude.{◌≡◌, length};
 ghost use Rattle.texts.specs.Wrote.{over};
 ghost use Rattle.records.specs.Read.{tables_of};
-ghost use Rattle.index.specs.Index.{Loaded, Blank};
+ghost use Rattle.index.specs.Index.{Loaded};
 ghost use Rattle.store.specs.Table.{graph_in};
 ghost use Rattle.links.specs.Build.{Chains};
 ghost use Rattle.drawing.specs.Draw.{drawn_of};
 ghost use Rattle.drawing.specs.Graphviz.{draw_shown};
 ghost use Rattle.drawing.specs.Same.{Given, option_of};
-ghost use Rattle.charts.specs.Draws.{result_answer, drawing_as, draw_bytes};
+ghost use Rattle.charts.specs.Draws.{result_answer, draw_bytes};
 
 use calls::Answer;
-use calls::answers::{refusal, wide};
-use drawing::PenAnswer;
-use graph::Made;
+use calls::answers::refusal;
 use index::Slots;
-use store::{ChainWords, GraphWords, PerNode, Scratch, Size};
-
-// What was drawn, as an answer.
-pub fn answer(d: PenAnswer) -> Answer
-    ensures { result ≡ drawing_as d }
-{
-    Answer {
-        number: wide(d.number),
-        place: wide(d.place),
-        bytes: wide(d.bytes),
-        units: wide(d.units),
-        depth: wide(d.depth),
-    }
-}
+use store::{ChainWords, GraphWords, PerNode, Size};
 
 // The groups' first members, where they are asked for.
 fn lead_if(
@@ -70,29 +55,20 @@ fn draw_whole(
 {
     let mut leads = [0u16; 128];
     lead_if(file, ix, g, s, ls, simplify, &mut leads);
-    let d = drawing::draw(file, ix, g, s, ls, &leads, simplify, room);
-    answer(d)
+    Answer::from(drawing::draw(file, ix, g, s, ls, &leads, simplify, room))
 }
 
-pub fn draw_in(
-    file: &[u8],
-    simplify: bool,
-    ix: &mut Slots,
-    g: &mut GraphWords,
-    tr: &mut Scratch,
-    ls: &mut ChainWords,
-    room: &mut [u8],
-) -> Answer
-    requires blank { Blank ix.old }
-    requires g_value { g.old ≡ replicate 1152 0 }
-    requires tr_len { length tr.old ≡ 1280 }
-    requires ls_value { ls.old ≡ replicate 3456 0 }
+// Kept: the new form is no plainer: each call has its own arrays and hands them to one function, its own.
+pub fn draw_of(file: &[u8], simplify: bool, room: &mut [u8]) -> Answer
     ensures value { result ≡ result_answer (draw_bytes (option_of simplify) (length room.old) file.now) }
     ensures room_after { room.new ≡ over (draw_bytes (option_of simplify) (length room.old) file.now).text room.old }
 {
-    let m = graph::of_file(file, ix, g, tr, ls);
-    match m {
-        Made::Refused(k, p) => refusal(k, p),
-        Made::Whole(s) => draw_whole(file, ix, g, s, ls, simplify, room),
+    let mut ix = [0u16; 10432];
+    let mut g = [0u64; 1152];
+    let mut tr = [0u64; 1280];
+    let mut ls = [0u16; 3456];
+    match graph::of_file(file, &mut ix, &mut g, &mut tr, &mut ls) {
+        Err(e) => refusal(e.number, e.place),
+        Ok(s) => draw_whole(file, &ix, &g, s, &ls, simplify, room),
     }
 }

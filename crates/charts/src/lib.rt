@@ -22,11 +22,7 @@ pub fn draw(file: &[u8], option: u64, room: &mut [u8]) -> Answer
     if 1 < option {
         return calls::answers::refusal(12, 0);
     }
-    let mut ix = [0u16; 10432];
-    let mut g = [0u64; 1152];
-    let mut tr = [0u64; 1280];
-    let mut ls = [0u16; 3456];
-    graphs::draw_in(file, option == 1, &mut ix, &mut g, &mut tr, &mut ls, room)
+    graphs::draw_of(file, option == 1, room)
 }
 
 // Five numbers an edge, oldest first: source, target, kind, the number that it names, clause. Refusals 1 to 9, 10 where the list is
@@ -35,11 +31,7 @@ pub fn list_edges(file: &[u8], list: &mut [u16]) -> Answer
     ensures value { result ≡ edges_answer file.now (length list.old) }
     ensures list_after { list.new ≡ edges_left file.now list.old }
 {
-    let mut ix = [0u16; 10432];
-    let mut g = [0u64; 1152];
-    let mut tr = [0u64; 1280];
-    let mut ls = [0u16; 3456];
-    edges::edges_in(file, &mut ix, &mut g, &mut tr, &mut ls, list)
+    edges::edges_of(file, list)
 }
 
 // The graph for the wall display in Trivial Graph Format (order 14): a line a node, a line with #, a line an edge. 1 to 9, then 10,
@@ -48,9 +40,5 @@ pub fn export(file: &[u8], room: &mut [u8]) -> Answer
     ensures value { result ≡ result_answer (export_file file.now (length room.old)) }
     ensures room_after { room.new ≡ over (export_file file.now (length room.old)).text room.old }
 {
-    let mut ix = [0u16; 10432];
-    let mut g = [0u64; 1152];
-    let mut tr = [0u64; 1280];
-    let mut ls = [0u16; 3456];
-    walls::export_in(file, &mut ix, &mut g, &mut tr, &mut ls, room)
+    walls::export_of(file, room)
 }

@@ -1,5 +1,5 @@
 -- Order 5 on small texts, by computation.
-use Rattle.std.specs.Prelude.{◌≡◌, refl, ℕ, length, replicate}
+use Rattle.std.specs.Prelude.{◌≡◌, refl, length, replicate}
 use Rattle.basis.specs.Quote.{utf8}
 use Rattle.display.specs.Quoted.{quoted}
 

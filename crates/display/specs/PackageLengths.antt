@@ -1,8 +1,7 @@
 -- How long the display text of a package is, as the tables tell it.
-use Rattle.std.specs.Prelude.{◌≡◌, refl, Bool, true, false, cond, List, [], ◌∷◌, ◌++◌, ℕ, zero, suc, ◌+◌, ◌*◌, ◌-◌, ◌<◌, ◌≤◌, length, get_or, take, ltb}
+use Rattle.std.specs.Prelude.{◌≡◌, refl, List, [], ◌∷◌, ◌++◌, ℕ, ◌+◌, ◌*◌, ◌-◌, ◌<◌, ◌≤◌, length, ltb}
 use Rattle.std.proofs.Common.{sym, ap, ◌∙◌, arith, length-append, length-take, ltb-true, ltb-false}
 use Rattle.std.proofs.Math.ListN.{get_or-eq_default}
-use Rattle.basis.specs.Lists.{concat_map}
 use Rattle.basis.specs.Members.{split}
 use Rattle.basis.specs.Quote.{utf8}
 use Rattle.records.specs.declared.Table.{Table}
@@ -17,7 +16,7 @@ use Rattle.index.specs.Promise.{RightFirst, Valid}
 use Rattle.index.specs.Index.{Loaded}
 use Rattle.index.specs.Found.{loaded_valid}
 use Rattle.plan.specs.Fields.{lead_in, mate_in, mate_field, mate_below, mates_from, mates_none, mates_more, mates_less, solvable_in}
-use Rattle.plan.specs.Texts.{next_version, ends_text, last_of_many, version_in, versions_in, further_in, package_in}
+use Rattle.plan.specs.Texts.{ends_text, last_of_many, version_in, versions_in, further_in, package_in}
 use Rattle.plan.specs.Laws.Texts.{rest_is, ends_are, package_is}
 
 -- ---- "Text is 1 to 24 bytes"

@@ -11,7 +11,7 @@ use Rattle.store.specs.declared.ConflictCause.TheVariants as K
 use Rattle.store.specs.declared.ConflictEdge.{ConflictEdge}
 use Rattle.store.specs.declared.ConflictEdge.TheVariants as W
 use Rattle.texts.specs.Wrote.{Wrote}
-use Rattle.display.specs.Quoted.{escaped, quoted}
+use Rattle.display.specs.Quoted.{quoted}
 use Rattle.display.specs.Laws.Quoted.{quoted_append}
 use Rattle.display.specs.Stroke.{solvable_text, excluded_text, node_text, label, is_red, paint, stroke}
 

@@ -6,7 +6,7 @@ ghost use Rattle.records.specs.Read.{tables_of};
 ghost use Rattle.records.specs.Views.{version_text};
 ghost use Rattle.index.specs.Index.{Loaded};
 ghost use Rattle.texts.specs.Wrote.{Wrote};
-ghost use Rattle.plan.specs.Fields.{mates_from};
+ghost use Rattle.plan.specs.Fields.{one_more, mates_from};
 ghost use Rattle.plan.specs.Texts.{next_version, ends_text, versions_in, further_in, package_in};
 
 use index::Slots;
@@ -20,7 +20,7 @@ fn put_next(out: &mut [u8], version: &[u8]) -> usize
     ensures value { result ≡ 3 + length version.now }
     ensures wrote { Wrote (utf8 " | " ++ version.now) out.old out.new result }
 {
-    let a = wordings::bar(out);
+    let a = put(out, wordings::BAR);
     a + put(&mut out[a..], version)
 }
 
@@ -35,18 +35,17 @@ fn put_version(file: &[u8], ix: &Slots, out: &mut [u8], s: u16) -> usize
     put_next(out, text)
 }
 
-// The versions from member x - 1 of a group on.
-fn put_versions(file: &[u8], ix: &Slots, p: &Scratch, out: &mut [u8], x: usize) -> usize
+// The versions from member x of a group on.
+fn put_versions(file: &[u8], ix: &Slots, p: &Scratch, out: &mut [u8], x: Option<usize>) -> usize
     requires loaded { Loaded file.now ix.now }
-    requires x_bound { x < 256 }
-    requires x_in_bounds { length (versions_in (tables_of file.now) p.now (mates_from p.now x)) ≤ length out.old }
-    ensures { Wrote (versions_in (tables_of file.now) p.now (mates_from p.now x)) out.old out.new
+    requires x_bound { one_more x < 256 }
+    requires x_in_bounds { length (versions_in (tables_of file.now) p.now (mates_from p.now (one_more x))) ≤ length out.old }
+    ensures { Wrote (versions_in (tables_of file.now) p.now (mates_from p.now (one_more x))) out.old out.new
         result }
 {
     let mut y = x;
     let mut at: usize = 0;
-    while 0 < y {
-        let n = y - 1;
+    while let Some(n) = y {
         let s = plan::solvable(p, n);
         at += put_version(file, ix, &mut out[at..], s);
         y = plan::next_mate(p, n);
@@ -74,25 +73,25 @@ fn put_ends(file: &[u8], ix: &Slots, out: &mut [u8], a: u16, b: u16, z: u16) -> 
     ensures { Wrote (ends_text (tables_of file.now) a b z) out.old out.new result }
 {
     let i = put_two(file, ix, out, a, b);
-    let j = i + wordings::dots(&mut out[i..]);
+    let j = i + put(&mut out[i..], wordings::DOTS);
     j + put_version(file, ix, &mut out[j..], z)
 }
 
 // What stands behind the first version: the other versions, or where they are more than five two of them and the last.
-fn put_further(file: &[u8], ix: &Slots, p: &Scratch, out: &mut [u8], x: usize) -> usize
+fn put_further(file: &[u8], ix: &Slots, p: &Scratch, out: &mut [u8], x: Option<usize>) -> usize
     requires loaded { Loaded file.now ix.now }
-    requires x_bound { x < 256 }
-    requires x_in_bounds { length (further_in (tables_of file.now) p.now (mates_from p.now x)) ≤ length out.old }
-    ensures { Wrote (further_in (tables_of file.now) p.now (mates_from p.now x)) out.old out.new result }
+    requires x_bound { one_more x < 256 }
+    requires x_in_bounds { length (further_in (tables_of file.now) p.now (mates_from p.now (one_more x))) ≤ length out.old }
+    ensures { Wrote (further_in (tables_of file.now) p.now (mates_from p.now (one_more x))) out.old out.new result }
 {
-    let last = plan::last_of_many(p, x);
-    if last == 0 {
+    let Some(last) = plan::last_of_many(p, x) else {
         return put_versions(file, ix, p, out, x);
-    }
-    let a = plan::solvable(p, x - 1);
-    let y = plan::next_mate(p, x - 1);
-    let b = plan::solvable(p, y - 1);
-    let z = plan::solvable(p, last - 1);
+    };
+    let second = x.unwrap();
+    let third = plan::next_mate(p, second).unwrap();
+    let a = plan::solvable(p, second);
+    let b = plan::solvable(p, third);
+    let z = plan::solvable(p, last);
     put_ends(file, ix, out, a, b, z)
 }
 
@@ -103,11 +102,11 @@ pub fn put_first(out: &mut [u8], name: &[u8], version: &[u8]) -> usize
     ensures wrote { Wrote (name.now ++ utf8 " " ++ version.now) out.old out.new result }
 {
     let a = put(out, name);
-    let b = a + wordings::space(&mut out[a..]);
+    let b = a + put(&mut out[a..], wordings::SPACE);
     b + put(&mut out[b..], version)
 }
 
-// The name and the versions, of which those from member next - 1 on are further ones.
+// The name and the versions, of which those from member next on are further ones.
 fn put_named(
     file: &[u8],
     ix: &Slots,
@@ -115,13 +114,14 @@ fn put_named(
     out: &mut [u8],
     name: &[u8],
     version: &[u8],
-    next: usize,
+    next: Option<usize>,
 ) -> usize
     requires loaded { Loaded file.now ix.now }
-    requires next_bound { next < 256 }
-    requires next_in_bounds { length name.now + 1 + length version.now + length (further_in (tables_of file.now) p.now (mates_from p.now next)) ≤ length out.old }
+    requires next_bound { one_more next < 256 }
+    requires next_in_bounds { length name.now + 1 + length version.now + length (further_in (tables_of file.now) p.now (mates_from p.now (one_more next)))
+        ≤ length out.old }
     ensures { Wrote ((name.now ++ utf8 " " ++ version.now)
-        ++ further_in (tables_of file.now) p.now (mates_from p.now next)) out.old out.new result }
+        ++ further_in (tables_of file.now) p.now (mates_from p.now (one_more next))) out.old out.new result }
 {
     let a = put_first(out, name, version);
     a + put_further(file, ix, p, &mut out[a..], next)

@@ -39,11 +39,9 @@ pub fn quoted_size(text: &[u8]) -> usize
     requires { length text.now ≤ 24 }
     ensures { (result ≡ length (quoted text.now)) × (result ≤ 48) }
 {
-    let mut i: usize = 0;
     let mut n: usize = 0;
-    while i < text.len() {
-        n += width(basis::byte(text, i));
-        i += 1;
+    for c in text {
+        n += width(*c);
     }
     n
 }
@@ -54,11 +52,9 @@ pub fn put_quoted(out: &mut [u8], text: &[u8]) -> usize
     ensures value { result ≡ length (quoted text.now) }
     ensures wrote { Wrote (quoted text.now) out.old out.new result }
 {
-    let mut i: usize = 0;
     let mut at: usize = 0;
-    while i < text.len() {
-        at += put_escaped(&mut out[at..], basis::byte(text, i));
-        i += 1;
+    for c in text {
+        at += put_escaped(&mut out[at..], *c);
     }
     at
 }

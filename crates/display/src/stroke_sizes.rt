@@ -1,4 +1,5 @@
 // How many bytes an edge takes. A unit is written whole, so its length is known before its first byte is.
+// Kept: the new form is no plainer: one walk for sizes and bytes would take a sink, and its law the room at each step, which a size has not.
 ghost use Rattle.std.specs.Prelude.{◌≡◌, ◌+◌, ◌≤◌, length};
 ghost use Rattle.records.specs.Read.{tables_of};
 ghost use Rattle.index.specs.Index.{Loaded};
@@ -48,10 +49,7 @@ fn cause_size(file: &[u8], ix: &Slots, c: ConflictCause) -> usize
 {
     match c {
         ConflictCause::Locked(_) => 17,
-        ConflictCause::Constrains(v) => {
-            let text = views::set_text(file, ix, v);
-            quoted_size(text)
-        }
+        ConflictCause::Constrains(v) => quoted_size(views::set_text(file, ix, v)),
         ConflictCause::ForbidMultipleInstances => 17,
         ConflictCause::Excluded => 8,
     }
@@ -62,10 +60,7 @@ fn label_size(file: &[u8], ix: &Slots, w: ConflictEdge) -> usize
     ensures { (result ≡ length (quoted (label (tables_of file.now) w))) × (result ≤ 48) }
 {
     match w {
-        ConflictEdge::Requires(q) => {
-            let text = views::requirement_text(file, ix, q);
-            quoted_size(text)
-        }
+        ConflictEdge::Requires(q) => quoted_size(views::requirement_text(file, ix, q)),
         ConflictEdge::Conflict(c) => cause_size(file, ix, c),
     }
 }
@@ -73,10 +68,7 @@ fn label_size(file: &[u8], ix: &Slots, w: ConflictEdge) -> usize
 fn paint_size(red: bool) -> usize
     ensures { (result ≡ length (paint red)) × (result ≤ 22) }
 {
-    if red {
-        return 20;
-    }
-    22
+    if red { 20 } else { 22 }
 }
 
 // The length of the edge that `put_stroke` writes.

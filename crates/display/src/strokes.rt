@@ -12,6 +12,7 @@ ghost use Rattle.display.specs.StrokeSizes.{stroke_size};
 use crate::quotes::put_quoted;
 use index::Slots;
 use store::{ConflictCause, ConflictEdge, ConflictNode};
+use texts::writers::put;
 use texts::{graphviz, wordings};
 
 // Name, space, version.
@@ -20,7 +21,7 @@ fn put_named(out: &mut [u8], name: &[u8], version: &[u8]) -> usize
     ensures { Wrote (quoted name.now ++ utf8 " " ++ quoted version.now) out.old out.new result }
 {
     let a = put_quoted(out, name);
-    let b = a + wordings::space(&mut out[a..]);
+    let b = a + put(&mut out[a..], wordings::SPACE);
     b + put_quoted(&mut out[b..], version)
 }
 
@@ -47,37 +48,40 @@ fn put_reason(out: &mut [u8], text: &[u8]) -> usize
     requires { 8 + length (quoted text.now) ≤ length out.old }
     ensures { Wrote (utf8 "reason: " ++ quoted text.now) out.old out.new result }
 {
-    let a = graphviz::reason(out);
+    let a = put(out, graphviz::REASON);
     a + put_quoted(&mut out[a..], text)
 }
 
 // A node as it is shown (`solvable_or_root` displayed, and the two other kinds).
+// Kept: the project's rule: the wall's captions stand apart from these, so that what quoting does here can't reach the wall (docs/DECISIONS.md).
 fn put_node(file: &[u8], ix: &Slots, out: &mut [u8], x: ConflictNode) -> usize
     requires loaded { Loaded file.now ix.now }
     requires x_in_bounds { length (quoted (node_text (tables_of file.now) x)) ≤ length out.old }
     ensures { Wrote (quoted (node_text (tables_of file.now) x)) out.old out.new result }
 {
     match x {
-        ConflictNode::Root => wordings::root(out),
+        ConflictNode::Root => put(out, wordings::ROOT),
         ConflictNode::Solvable(s) => put_solvable(file, ix, out, s),
-        ConflictNode::UnresolvedDependency => graphviz::unresolved(out),
+        ConflictNode::UnresolvedDependency => put(out, graphviz::UNRESOLVED),
         ConflictNode::Excluded(r) => put_excluded(file, ix, out, r),
     }
 }
 
+// Kept: the project's rule: see `put_node`.
 fn put_cause(file: &[u8], ix: &Slots, out: &mut [u8], c: ConflictCause) -> usize
     requires loaded { Loaded file.now ix.now }
     requires c_in_bounds { length (quoted (label (tables_of file.now) (ConflictEdge.Conflict c))) ≤ length out.old }
     ensures { Wrote (quoted (label (tables_of file.now) (ConflictEdge.Conflict c))) out.old out.new result }
 {
     match c {
-        ConflictCause::Locked(_) => graphviz::already_installed(out),
+        ConflictCause::Locked(_) => put(out, graphviz::ALREADY_INSTALLED),
         ConflictCause::Constrains(v) => put_quoted(out, views::set_text(file, ix, v)),
-        ConflictCause::ForbidMultipleInstances => graphviz::already_installed(out),
-        ConflictCause::Excluded => graphviz::excluded(out),
+        ConflictCause::ForbidMultipleInstances => put(out, graphviz::ALREADY_INSTALLED),
+        ConflictCause::Excluded => put(out, graphviz::EXCLUDED),
     }
 }
 
+// Kept: the project's rule: see `put_node`.
 fn put_label(file: &[u8], ix: &Slots, out: &mut [u8], w: ConflictEdge) -> usize
     requires loaded { Loaded file.now ix.now }
     requires w_in_bounds { length (quoted (label (tables_of file.now) w)) ≤ length out.old }
@@ -94,9 +98,10 @@ fn put_paint(out: &mut [u8], red: bool) -> usize
     ensures { Wrote (paint red) out.old out.new result }
 {
     if red {
-        return graphviz::red(out);
+        put(out, graphviz::RED)
+    } else {
+        put(out, graphviz::BLACK)
     }
-    graphviz::black(out)
 }
 
 // The opening quote and the end that the edge leaves.
@@ -106,7 +111,7 @@ fn put_source(file: &[u8], ix: &Slots, out: &mut [u8], x: ConflictNode) -> usize
     ensures value { result ≡ length (quoted (node_text (tables_of file.now) x)) + 1 }
     ensures wrote { Wrote (utf8 "\"" ++ quoted (node_text (tables_of file.now) x)) out.old out.new result }
 {
-    let a = graphviz::quote(out);
+    let a = put(out, graphviz::QUOTE);
     a + put_node(file, ix, &mut out[a..], x)
 }
 
@@ -119,7 +124,7 @@ fn put_ends(file: &[u8], ix: &Slots, out: &mut [u8], x: ConflictNode, y: Conflic
         ++ quoted (node_text (tables_of file.now) y)) out.old out.new result }
 {
     let a = put_source(file, ix, out, x);
-    let b = a + graphviz::arrow(&mut out[a..]);
+    let b = a + put(&mut out[a..], graphviz::ARROW);
     b + put_node(file, ix, &mut out[b..], y)
 }
 
@@ -160,20 +165,15 @@ pub fn put_stroke(
 {
     let a = put_line(file, ix, out, x, y, red);
     let b = a + put_label(file, ix, &mut out[a..], w);
-    b + graphviz::edge_end(&mut out[b..])
+    b + put(&mut out[b..], graphviz::EDGE_END)
 }
 
 // Whether an edge that says w and leads to x is red: all are but a requirement that has a candidate.
 pub fn is_red(w: ConflictEdge, x: ConflictNode) -> bool
     ensures { result ≡ is_red w x }
 {
-    let ConflictEdge::Requires(_) = w else {
-        return true;
-    };
-    match x {
-        ConflictNode::Root => false,
-        ConflictNode::Solvable(_) => false,
-        ConflictNode::UnresolvedDependency => true,
-        ConflictNode::Excluded(_) => false,
+    match w {
+        ConflictEdge::Requires(_) => matches!(x, ConflictNode::UnresolvedDependency),
+        ConflictEdge::Conflict(_) => true,
     }
 }

@@ -1,5 +1,5 @@
 -- Writing units into a room as far as they fit, from an answer so far; and what the code's steps and loops do to it.
-use Rattle.std.specs.Prelude.{◌≡◌, Bool, ◌&&◌, eqb, leb}
+use Rattle.std.specs.Prelude.{◌≡◌, Result, Ok, Err, MatchResult, Bool, ◌&&◌, eqb, leb}
 use Rattle.std.proofs.Math.Path.{refl}
 use Rattle.std.proofs.Common.{sym, ap, ◌∙◌, arith, length-append, length-take-le, drop-drop}
 use Rattle.std.proofs.Math.Bool.{true, false}
@@ -11,6 +11,8 @@ use borrow.Author.Tests.{eq-eqb, le-leb, lt-leb, leb-true}
 use borrow.Rule.Slice.PartMut.{put_mid}
 use Rattle.basis.specs.Members.{split}
 use Rattle.texts.specs.Wrote.{Wrote}
+use Rattle.drawing.specs.declared.Pen.{Pen}
+use Rattle.drawing.specs.declared.Full.{Full}
 use Rattle.drawing.specs.declared.PenAnswer.{PenAnswer}
 
 -- a unit is taken while no earlier one was refused, if it fits behind them
@@ -23,6 +25,28 @@ more u p = record { number = 0; place = 0; bytes = p.bytes + length u; units = p
 -- 10, place "units written"
 abbrev pub stopped : PenAnswer → PenAnswer
 stopped p = record { number = 10; place = p.units; bytes = p.bytes; units = p.units; depth = 0 }
+
+-- as the code holds them: while units fit, and once all is written or one did not fit
+abbrev pub going : Pen → PenAnswer
+going p = record { number = 0; place = 0; bytes = p.bytes; units = p.units; depth = 0 }
+
+abbrev pub ended : Result Pen Full → PenAnswer
+ended (Ok p) = going p
+ended (Err e) = stopped (going e.pen)
+
+-- n bytes more fit the room, or the pen comes back
+abbrev pub Fits : Pen → ℕ → ℕ → Result (Unit {0}) Full → Type 0
+Fits p room n r = MatchResult r (λ x. n ≤ room - p.bytes) (λ e. (e.pen ≡ p) × (room - p.bytes < n))
+
+full_of : Pen → Full
+full_of p = record { pen = p }
+
+pub fits_one : (p : Pen) (room n : ℕ) (a b : Result (Unit {0}) Full) → Fits p room n a → Fits p room n b → a ≡ b
+unfolding full_of
+fits_one p room n (Ok u) (Ok v) f g = refl
+fits_one p room n (Ok u) (Err e) f g = absurd (omega (arith, f, g.1))
+fits_one p room n (Err e) (Ok v) f g = absurd (omega (arith, f.1, g))
+fits_one p room n (Err d) (Err e) f g = ap (λ (x : Pen). Err (full_of x)) (f.0 ∙ sym g.0)
 
 abbrev pub put_in : List ℕ → ℕ → List ℕ → List ℕ
 put_in a n u = take n a ++ (u ++ drop (n + length u) a)

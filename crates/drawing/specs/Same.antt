@@ -27,7 +27,7 @@ use Rattle.drawing.specs.Draw.{drawing_units}
 use Rattle.drawing.specs.Graphviz.{draw_shown, answer_in}
 use Rattle.drawing.specs.Stamps.{kept_single, kept_met, kept_new}
 use Rattle.drawing.specs.Walk.{drawn_in, Ready}
-use Rattle.drawing.specs.MergeMarks.{lead, marks_to, Marked, marked_all, mark_most}
+use Rattle.drawing.specs.MergeMarks.{marks_to, Marked, marked_all, mark_most}
 
 abbrev drawn_by : Tables → Graph → List ℕ → Sketch
 drawn_by T G m = record { tables = T; graph = G; merged = m }

@@ -5,7 +5,7 @@ mod marks;
 mod units;
 mod walk;
 
-ghost use Rattle.std.specs.Prelude.{◌≡◌, length, replicate};
+ghost use Rattle.std.specs.Prelude.{◌≡◌, ◌≤◌, length, replicate};
 ghost use Rattle.records.specs.Read.{tables_of};
 ghost use Rattle.index.specs.Index.{Loaded};
 ghost use Rattle.store.specs.Table.{graph_in};
@@ -13,7 +13,7 @@ ghost use Rattle.links.specs.Build.{Chains};
 ghost use Rattle.texts.specs.Wrote.{over};
 ghost use Rattle.drawing.specs.Draw.{drawn_of, rest_units, drawing_units};
 ghost use Rattle.drawing.specs.Graphviz.{draw_shown, answer_in};
-ghost use Rattle.drawing.specs.Pen.{Fine, Adds};
+ghost use Rattle.drawing.specs.Pen.{going, ended, Fine, Fits, Adds};
 ghost use Rattle.drawing.specs.Stamps.{Stamped};
 ghost use Rattle.drawing.specs.Walk.{drawn_in, Ready};
 ghost use Rattle.drawing.specs.Same.{Leading, Given, option_of};
@@ -21,7 +21,34 @@ ghost use Rattle.drawing.specs.Same.{Leading, Given, option_of};
 use index::Slots;
 use store::{ChainWords, GraphWords, PerNode, Size};
 
-// "An answer holds number, place, bytes, units, depth". While the text is written the number is 0.
+// What was written so far: whole units, and their bytes.
+#[derive(Clone, Copy)]
+pub struct Pen {
+    pub bytes: usize,
+    pub units: usize,
+}
+
+// The next unit does not fit the room; what was written before it.
+#[derive(Clone, Copy)]
+pub struct Full {
+    pub pen: Pen,
+}
+
+impl Pen {
+    // Whether n bytes more fit this room.
+    pub fn fits(self, room: usize, n: usize) -> Result<(), Full>
+        requires { self.bytes ≤ room }
+        ensures { Fits self room n result }
+    {
+        if room - self.bytes < n {
+            return Err(Full { pen: self });
+        }
+        Ok(())
+    }
+}
+
+// "An answer holds number, place, bytes, units, depth".
+// Kept: the C interface: an answer's five numbers, which the calls hand on to C.
 #[derive(Clone, Copy)]
 pub struct PenAnswer {
     pub number: usize,
@@ -29,6 +56,28 @@ pub struct PenAnswer {
     pub bytes: usize,
     pub units: usize,
     pub depth: usize,
+}
+
+// The answer about a text: 10 where a unit did not fit.
+pub fn answer_of(r: Result<Pen, Full>) -> PenAnswer
+    ensures { result ≡ ended r }
+{
+    match r {
+        Ok(p) => PenAnswer {
+            number: 0,
+            place: 0,
+            bytes: p.bytes,
+            units: p.units,
+            depth: 0,
+        },
+        Err(e) => PenAnswer {
+            number: 10,
+            place: e.pen.units,
+            bytes: e.pen.bytes,
+            units: e.pen.units,
+            depth: 0,
+        },
+    }
 }
 
 // The edges and the closing brace.
@@ -41,19 +90,15 @@ fn draw_rest(
     m: &PerNode,
     w: &mut [u8; 128],
     out: &mut [u8],
-    p: PenAnswer,
-) -> PenAnswer
+    p: Pen,
+) -> Result<Pen, Full>
     requires loaded { Loaded file.now ix.now }
     requires ready { Ready g.now s ls.now m.now }
     requires stamped { Stamped w.old 0 }
-    requires fine { Fine out.old p }
-    requires number_value { p.number ≡ 0 }
-    ensures { Adds (rest_units (drawn_in (tables_of file.now) g.now s m.now)) out.old p out.new result }
+    requires fine { Fine out.old (going p) }
+    ensures { Adds (rest_units (drawn_in (tables_of file.now) g.now s m.now)) out.old (going p) out.new (ended result) }
 {
-    let q = walk::add_nodes(file, ix, g, s, ls, m, w, out, p);
-    if q.number != 0 {
-        return q;
-    }
+    let q = walk::add_nodes(file, ix, g, s, ls, m, w, out, p)?;
     units::add_closing(out, q)
 }
 
@@ -66,20 +111,16 @@ fn draw_from(
     m: &PerNode,
     w: &mut [u8; 128],
     out: &mut [u8],
-    p: PenAnswer,
-) -> PenAnswer
+    p: Pen,
+) -> Result<Pen, Full>
     requires loaded { Loaded file.now ix.now }
     requires ready { Ready g.now s ls.now m.now }
     requires stamped { Stamped w.old 0 }
-    requires fine { Fine out.old p }
-    requires number_value { p.number ≡ 0 }
-    ensures { Adds (drawing_units (drawn_in (tables_of file.now) g.now s m.now)) out.old p out.new
-        result }
+    requires fine { Fine out.old (going p) }
+    ensures { Adds (drawing_units (drawn_in (tables_of file.now) g.now s m.now)) out.old (going p) out.new
+        (ended result) }
 {
-    let q = units::add_opening(out, p);
-    if q.number != 0 {
-        return q;
-    }
+    let q = units::add_opening(out, p)?;
     draw_rest(file, ix, g, s, ls, m, w, out, q)
 }
 
@@ -100,14 +141,8 @@ fn draw_in(
     ensures out_after { out.new ≡ over (draw_shown (drawn_in (tables_of file.now) g.now s m.now)
         (length out.old)).text out.old }
 {
-    let p = PenAnswer {
-        number: 0,
-        place: 0,
-        bytes: 0,
-        units: 0,
-        depth: 0,
-    };
-    draw_from(file, ix, g, s, ls, m, w, out, p)
+    let p = Pen { bytes: 0, units: 0 };
+    answer_of(draw_from(file, ix, g, s, ls, m, w, out, p))
 }
 
 // The text of a graph with its merge marks, one a node: 0, or one more than its group's first member.

@@ -9,7 +9,7 @@ fn mark_group(leads: &PerNode, m: &mut PerNode, n: usize)
     requires { n < 128 }
     ensures { m.new ≡ mark_one leads.now m.old n }
 {
-    let l = basis::wide16(leads[n]);
+    let l = usize::from(leads[n]);
     if n <= l {
         return;
     }
@@ -22,9 +22,7 @@ pub fn mark_groups(leads: &PerNode, k: usize, m: &mut PerNode)
     requires { k ≤ 128 }
     ensures { m.new ≡ marks_to leads.now k m.old }
 {
-    let mut n: usize = 0;
-    while n < k {
+    for n in 0..k {
         mark_group(leads, m, n);
-        n += 1;
     }
 }

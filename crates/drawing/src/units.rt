@@ -1,102 +1,64 @@
 // One unit behind the earlier ones: its length first, then the test of the room, then its bytes. A unit that does not fit leaves
-// the room as it is, and the answer is 10.
+// the room as it is.
 ghost use Rattle.std.specs.Prelude.{◌≡◌, [], ◌∷◌};
 ghost use Rattle.basis.specs.Quote.{utf8};
 ghost use Rattle.records.specs.Read.{tables_of};
 ghost use Rattle.index.specs.Index.{Loaded};
 ghost use Rattle.display.specs.Stroke.{stroke};
-ghost use Rattle.drawing.specs.Pen.{Fine, Adds};
+ghost use Rattle.drawing.specs.Pen.{going, ended, Fine, Adds};
 ghost use Rattle.drawing.specs.Walk.{stroke_at};
 
-use super::PenAnswer;
+use super::{Full, Pen};
 use index::Slots;
 use store::{ConflictEdge, ConflictNode, GraphWords};
 use texts::graphviz;
+use texts::writers::put;
 
-pub fn add_opening(out: &mut [u8], p: PenAnswer) -> PenAnswer
-    requires fine { Fine out.old p }
-    requires number_value { p.number ≡ 0 }
-    ensures { Adds (utf8 "digraph {" ∷ []) out.old p out.new result }
+pub fn add_opening(out: &mut [u8], p: Pen) -> Result<Pen, Full>
+    requires fine { Fine out.old (going p) }
+    ensures { Adds (utf8 "digraph {" ∷ []) out.old (going p) out.new (ended result) }
 {
-    let at = p.bytes;
-    if out.len() - at < 9 {
-        return PenAnswer {
-            number: 10,
-            place: p.units,
-            bytes: at,
-            units: p.units,
-            depth: 0,
-        };
-    }
-    let k = graphviz::digraph(&mut out[at..]);
-    PenAnswer {
-        number: 0,
-        place: 0,
-        bytes: at + k,
+    p.fits(out.len(), 9)?;
+    let k = put(&mut out[p.bytes..], graphviz::DIGRAPH);
+    Ok(Pen {
+        bytes: p.bytes + k,
         units: p.units + 1,
-        depth: 0,
-    }
+    })
 }
 
-pub fn add_closing(out: &mut [u8], p: PenAnswer) -> PenAnswer
-    requires fine { Fine out.old p }
-    requires number_value { p.number ≡ 0 }
-    ensures { Adds (utf8 "}" ∷ []) out.old p out.new result }
+pub fn add_closing(out: &mut [u8], p: Pen) -> Result<Pen, Full>
+    requires fine { Fine out.old (going p) }
+    ensures { Adds (utf8 "}" ∷ []) out.old (going p) out.new (ended result) }
 {
-    let at = p.bytes;
-    if out.len() - at < 1 {
-        return PenAnswer {
-            number: 10,
-            place: p.units,
-            bytes: at,
-            units: p.units,
-            depth: 0,
-        };
-    }
-    let k = graphviz::brace(&mut out[at..]);
-    PenAnswer {
-        number: 0,
-        place: 0,
-        bytes: at + k,
+    p.fits(out.len(), 1)?;
+    let k = put(&mut out[p.bytes..], graphviz::BRACE);
+    Ok(Pen {
+        bytes: p.bytes + k,
         units: p.units + 1,
-        depth: 0,
-    }
+    })
 }
 
 pub fn add_stroke(
     file: &[u8],
     ix: &Slots,
     out: &mut [u8],
-    p: PenAnswer,
+    p: Pen,
     x: ConflictNode,
     y: ConflictNode,
     red: bool,
     w: ConflictEdge,
-) -> PenAnswer
+) -> Result<Pen, Full>
     requires loaded { Loaded file.now ix.now }
-    requires fine { Fine out.old p }
-    requires number_value { p.number ≡ 0 }
-    ensures { Adds (stroke (tables_of file.now) x y red w ∷ []) out.old p out.new result }
+    requires fine { Fine out.old (going p) }
+    ensures { Adds (stroke (tables_of file.now) x y red w ∷ []) out.old (going p) out.new (ended result) }
 {
-    let at = p.bytes;
     let n = display::stroke_sizes::stroke_size(file, ix, x, y, red, w);
-    if out.len() - at < n {
-        return PenAnswer {
-            number: 10,
-            place: p.units,
-            bytes: at,
-            units: p.units,
-            depth: 0,
-        };
-    }
-    let k = display::strokes::put_stroke(file, ix, &mut out[at..], x, y, red, w);
-    PenAnswer {
-        number: 0,
-        place: 0,
-        bytes: at + k,
+    p.fits(out.len(), n)?;
+    let k = display::strokes::put_stroke(file, ix, &mut out[p.bytes..], x, y, red, w);
+    Ok(Pen {
+        bytes: p.bytes + k,
         units: p.units + 1,
-        depth: 0,
-    }
+    })
 }
 
 // Edge i from node n, drawn to node l.
@@ -108,12 +70,11 @@ pub fn add_edge(
     l: usize,
     i: usize,
     out: &mut [u8],
-    p: PenAnswer,
-) -> PenAnswer
+    p: Pen,
+) -> Result<Pen, Full>
     requires loaded { Loaded file.now ix.now }
-    requires fine { Fine out.old p }
-    requires number_value { p.number ≡ 0 }
-    ensures { Adds (stroke_at (tables_of file.now) g.now n l i ∷ []) out.old p out.new result }
+    requires fine { Fine out.old (going p) }
+    ensures { Adds (stroke_at (tables_of file.now) g.now n l i ∷ []) out.old (going p) out.new (ended result) }
 {
     let e = store::edge_at(g, i);
     let w = e.weight;

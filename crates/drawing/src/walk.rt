@@ -4,12 +4,12 @@ ghost use Rattle.records.specs.Read.{tables_of};
 ghost use Rattle.store.specs.Table.{node_in, edge_in};
 ghost use Rattle.index.specs.Index.{Loaded};
 ghost use Rattle.drawing.specs.Draw.{drawn_at, edge_units, node_units, all_units};
-ghost use Rattle.drawing.specs.Pen.{Fine, Adds};
+ghost use Rattle.drawing.specs.Pen.{going, ended, Fine, Adds};
 ghost use Rattle.drawing.specs.Stamps.{marked, Stamped, step_units};
 ghost use Rattle.drawing.specs.Walk.{drawn_in, Edged, Ready};
 
-use super::PenAnswer;
 use super::units::add_edge;
+use super::{Full, Pen};
 use index::Slots;
 use store::{ChainWords, ConflictNode, GraphWords, PerNode, Size};
 
@@ -36,25 +36,24 @@ fn step(
     n: usize,
     i: usize,
     out: &mut [u8],
-    p: PenAnswer,
-) -> PenAnswer
+    p: Pen,
+) -> Result<Pen, Full>
     requires loaded { Loaded file.now ix.now }
     requires edged { Edged g.now s m.now n i }
-    requires fine { Fine out.old p }
-    requires number_value { p.number ≡ 0 }
+    requires fine { Fine out.old (going p) }
     ensures adds { Adds (step_units (drawn_in (tables_of file.now) g.now s m.now) n w.old
-        (edge_in g.now i)) out.old p out.new result }
+        (edge_in g.now i)) out.old (going p) out.new (ended result) }
     ensures w_after { w.new ≡ marked w.old (get_or m.now (edge_in g.now i).target 0) n }
 {
     let t = store::target_at(g, i);
-    let k = basis::wide16(m[t]);
+    let k = usize::from(m[t]);
     if k == 0 {
         return add_edge(file, ix, g, n, t, i, out, p);
     }
     let l = k - 1;
     let old = stamp(w, l, n);
     if old {
-        return p;
+        return Ok(p);
     }
     add_edge(file, ix, g, n, l, i, out, p)
 }
@@ -69,29 +68,25 @@ fn add_edges(
     w: &mut [u8; 128],
     n: usize,
     out: &mut [u8],
-    p: PenAnswer,
-) -> PenAnswer
+    p: Pen,
+) -> Result<Pen, Full>
     requires loaded { Loaded file.now ix.now }
     requires ready { Ready g.now s ls.now m.now }
     requires n_lt_nodes { n < s.nodes }
     requires stamped { Stamped w.old n }
-    requires fine { Fine out.old p }
-    requires number_value { p.number ≡ 0 }
-    ensures adds { Adds (edge_units (drawn_in (tables_of file.now) g.now s m.now) n) out.old p out.new
-        result }
+    requires fine { Fine out.old (going p) }
+    ensures adds { Adds (edge_units (drawn_in (tables_of file.now) g.now s m.now) n) out.old (going p) out.new
+        (ended result) }
     ensures stamped_2 { Stamped w.new (n + 1) }
 {
     let mut e = links::first_out(ls, n);
     let mut q = p;
     while 0 < e {
         let i = e - 1;
-        q = step(file, ix, g, s, m, w, n, i, out, q);
-        if q.number != 0 {
-            return q;
-        }
+        q = step(file, ix, g, s, m, w, n, i, out, q)?;
         e = links::next_out(ls, i);
     }
-    q
+    Ok(q)
 }
 
 // Whether node n's edges are drawn: the root's and the solvables', of a merged group the first member's.
@@ -103,7 +98,7 @@ fn is_drawn(g: &GraphWords, m: &PerNode, n: usize) -> bool
     match x {
         ConflictNode::Root => true,
         ConflictNode::Solvable(_) => {
-            let k = basis::wide16(m[n]);
+            let k = usize::from(m[n]);
             if k == 0 {
                 return true;
             }
@@ -124,23 +119,22 @@ fn add_node(
     w: &mut [u8; 128],
     n: usize,
     out: &mut [u8],
-    p: PenAnswer,
-) -> PenAnswer
+    p: Pen,
+) -> Result<Pen, Full>
     requires loaded { Loaded file.now ix.now }
     requires ready { Ready g.now s ls.now m.now }
     requires n_lt_nodes { n < s.nodes }
     requires stamped { Stamped w.old n }
-    requires fine { Fine out.old p }
-    requires number_value { p.number ≡ 0 }
-    ensures adds { Adds (node_units (drawn_in (tables_of file.now) g.now s m.now) n) out.old p out.new
-        result }
+    requires fine { Fine out.old (going p) }
+    ensures adds { Adds (node_units (drawn_in (tables_of file.now) g.now s m.now) n) out.old (going p) out.new
+        (ended result) }
     ensures stamped_2 { Stamped w.new (n + 1) }
 {
     let d = is_drawn(g, m, n);
     if d {
         return add_edges(file, ix, g, s, ls, m, w, n, out, p);
     }
-    p
+    Ok(p)
 }
 
 pub fn add_nodes(
@@ -152,23 +146,17 @@ pub fn add_nodes(
     m: &PerNode,
     w: &mut [u8; 128],
     out: &mut [u8],
-    p: PenAnswer,
-) -> PenAnswer
+    p: Pen,
+) -> Result<Pen, Full>
     requires loaded { Loaded file.now ix.now }
     requires ready { Ready g.now s ls.now m.now }
     requires stamped { Stamped w.old 0 }
-    requires fine { Fine out.old p }
-    requires number_value { p.number ≡ 0 }
-    ensures { Adds (all_units (drawn_in (tables_of file.now) g.now s m.now)) out.old p out.new result }
+    requires fine { Fine out.old (going p) }
+    ensures { Adds (all_units (drawn_in (tables_of file.now) g.now s m.now)) out.old (going p) out.new (ended result) }
 {
-    let mut n: usize = 0;
     let mut q = p;
-    while n < s.nodes {
-        q = add_node(file, ix, g, s, ls, m, w, n, out, q);
-        if q.number != 0 {
-            return q;
-        }
-        n += 1;
+    for n in 0..s.nodes {
+        q = add_node(file, ix, g, s, ls, m, w, n, out, q)?;
     }
-    q
+    Ok(q)
 }

@@ -1,6 +1,6 @@
 -- What each clause of the core adds to the graph, to the triples made and to the last solvables (conflict.rs: `Conflict::graph`;
 -- document 01, "Graph rules").
-use Rattle.std.specs.Prelude.{Bool, true, false, List, [], ◌∷◌, map, ℕ, get_or, set, replicate}
+use Rattle.std.specs.Prelude.{Bool, true, false, List, [], ◌∷◌, map, ℕ, get_or, set, replicate, Option as Maybe, Some, None}
 use Rattle.std.proofs.Math.Option.{Option, none, some}
 use Rattle.basis.specs.Lists.{any, snoc}
 use Rattle.records.specs.declared.Clause.{Clause}
@@ -13,8 +13,6 @@ use Rattle.store.specs.declared.ConflictCause.TheVariants as K
 use Rattle.store.specs.declared.ConflictEdge.TheVariants as W
 use Rattle.store.specs.Graph.{Graph, start_graph, Added, added, full, add_node, add_edge, add_link}
 use Rattle.expansion.specs.Triple.{Triple, triple, same_triple}
-use Rattle.linking.specs.declared.Party.{Party}
-use Rattle.linking.specs.declared.Party.TheVariants.{Node, Neither}
 use Rattle.linking.specs.Links.{party_of, solvable_in, name_forbidden, parent_reason, excluded_reason, partners_or, requirers}
 use Rattle.linking.specs.Links.{Linked, more, short, link_all, requires_of, excluded_links, lock_links, constrains_links, forbid_all}
 use Rattle.expansion.specs.declared.Side.{Side}
@@ -80,9 +78,9 @@ others T Parent v = partners_or T (aux_partners T 24 v) (excluded_reason T v)
 others T Candidate v = partners_or T (aux_partners T 23 v) (parent_reason T v)
 
 -- clauses 23 and 24: the clause's own node with each of the other side (conflict.rs, lines 281 to 336)
-abbrev pub pair_all : Tables → Side → ℕ → ℕ → Party → Build → ClauseStep
-pair_all T side b v Neither d = on d
-pair_all T side b v (Node n) d = once_all (triples_of side n v (others T side b)) d
+abbrev pub pair_all : Tables → Side → ℕ → ℕ → Maybe ConflictNode → Build → ClauseStep
+pair_all T side b v None d = on d
+pair_all T side b v (Some n) d = once_all (triples_of side n v (others T side b)) d
 
 -- the solvable is now the last one under the name (`last_node_by_name.insert`, conflict.rs, line 255)
 abbrev pub lastly : Build → ℕ → ℕ → Linked → ClauseStep

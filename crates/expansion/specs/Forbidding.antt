@@ -1,6 +1,6 @@
 -- ForbidMultipleInstances, and clauses whose links alone count: the graph grew, the rest of the state is as it was or has one more last
 -- solvable. And the dispatch over the kinds of clauses.
-use Rattle.std.specs.Prelude.{◌≡◌, refl, List, [], ◌∷◌, ℕ, zero, suc, ◌+◌, ◌<◌, ◌≤◌, get_or, set, ltb}
+use Rattle.std.specs.Prelude.{◌≡◌, refl, List, [], ◌∷◌, ℕ, zero, suc, ◌+◌, ◌<◌, ◌≤◌, get_or, set, ltb, Result, Ok, Err}
 use Rattle.std.proofs.Common.{sym, ap, ◌∙◌, ltb-true, ltb-false}
 use Rattle.std.proofs.Math.Option.{Option, none, some}
 use native.Mathlib.Omega.{arith}
@@ -25,14 +25,11 @@ use Rattle.store.specs.declared.Size.{Size}
 use Rattle.store.specs.Graph.{Graph}
 use Rattle.store.specs.Table.{graph_in, Growing, edges_count}
 use Rattle.expansion.specs.Hashed.{last_in, triples_put}
-use Rattle.linking.specs.declared.Grown.{Grown}
-use Rattle.linking.specs.declared.Grown.TheVariants as G
+use Rattle.store.specs.declared.Full.{Full}
 use Rattle.linking.specs.Links.{solvable_in, name_forbidden, Link, requires_of, requirers, excluded_links, lock_links, constrains_links}
 use Rattle.linking.specs.Working.{LinkedSoFar, more_to, short_at, link_all_in, forbid_all_in, last_by}
 use Rattle.linking.specs.Growth.{grown_in, Grew, edges_all, edges_forbid}
 use Rattle.expansion.specs.declared.Work.{Work}
-use Rattle.expansion.specs.declared.Progress.{Progress}
-use Rattle.expansion.specs.declared.Progress.TheVariants as P
 use Rattle.expansion.specs.declared.Side.TheVariants.{Parent, Candidate}
 use Rattle.expansion.specs.Expand.{Build}
 use Rattle.expansion.specs.Working.{StepSoFar, on_to, stop_at, kept_in, lastly_in, forbid_clause_in, forbid_named_in, pair_in, expand_in}
@@ -139,14 +136,14 @@ module _ (file ix : List ℕ) (L : Loaded file ix) (v n : ℕ) (o : Origin) (q :
 
 -- ---- the size alone changed
 
-abbrev pub widened : Work → Grown → Progress
-widened k (G.On s) = P.On (record { size = s; triples = k.triples })
-widened k (G.Full s) = P.Full s
+abbrev pub widened : Work → Result Size Full → Result Work Full
+widened k (Ok s) = Ok (record { size = s; triples = k.triples })
+widened k (Err e) = Err e
 
-pub widen_on : (k : Work) (r : Grown) (s : Size) → r ≡ G.On s → P.On (record { size = s; triples = k.triples }) ≡ widened k r
+pub widen_on : (k : Work) (r : Result Size Full) (s : Size) → r ≡ Ok s → Ok (record { size = s; triples = k.triples }) ≡ widened k r
 widen_on k r s e = ap (widened k) (sym e)
 
-pub widen_full : (k : Work) (r : Grown) (s : Size) → r ≡ G.Full s → P.Full s ≡ widened k r
+pub widen_full : (k : Work) (r : Result Size Full) (e : Full) → r ≡ Err e → Err e ≡ widened k r
 widen_full k r s e = ap (widened k) (sym e)
 
 pub ruleset widens = (widen_on, widen_full)
@@ -158,9 +155,9 @@ module _ (g tr w h : List ℕ) (k : Work) (H : Holds g tr w k) where
       omega (arith, f (graph_in h s) (sym q), edges_count h s P.stored, edges_count g k.size H.growing.stored, H.few)
 
   -- the links ls went in
-  pub links_done : (ls : List Link) (r : Grown) (d : Progress) → Grew (link_all_in ls (graph_in g k.size)) h r → d ≡ widened k r
+  pub links_done : (ls : List Link) (r : Result Size Full) (d : Result Work Full) → Grew (link_all_in ls (graph_in g k.size)) h r → d ≡ widened k r
       → Expanded (kept_in (build_in g tr w k) (link_all_in ls (graph_in g k.size))) h tr w d
-  links_done ls (G.On s) d R q =
+  links_done ls (Ok s) d R q =
       rw q
       (record {
         is = ap (kept_in (build_in g tr w k)) R.is;
@@ -172,12 +169,12 @@ module _ (g tr w h : List ℕ) (k : Work) (H : Holds g tr w k) where
                   edges_all ls (graph_in g k.size) j e);
             };
       })
-  links_done ls (G.Full s) d R q = rw q (record { is = ap (kept_in (build_in g tr w k)) R.is; holds = R.growing })
+  links_done ls (Err e) d R q = rw q (record { is = ap (kept_in (build_in g tr w k)) R.is; holds = R.growing })
 
   -- p, the last solvable under name n as the table holds it, was linked to s, which is the last one now
-  last_done : (p n s : ℕ) (l : List ℕ) (r : Grown) → Grew (forbid_all_in (graph_in g k.size) (last_by p) s) h r → n < 128 → l ≡ set w (3072 + n) (s + 1)
+  last_done : (p n s : ℕ) (l : List ℕ) (r : Result Size Full) → Grew (forbid_all_in (graph_in g k.size) (last_by p) s) h r → n < 128 → l ≡ set w (3072 + n) (s + 1)
       → Expanded (lastly_in (build_in g tr w k) n s (forbid_all_in (graph_in g k.size) (last_by p) s)) h tr l (widened k r)
-  last_done p n s l (G.On z) R f q =
+  last_done p n s l (Ok z) R f q =
       let m : lasts_in l ≡ set (lasts_in w) n (some s) = lasts_put w l n s q f in
       record {
         is = rw (← R.is, m);
@@ -188,22 +185,22 @@ module _ (g tr w h : List ℕ) (k : Work) (H : Holds g tr w k) where
               few = fewer z (forbid_all_in (graph_in g k.size) (last_by p) s) R.is R.growing (λ j e. edges_forbid (graph_in g k.size) j (last_by p) s e);
             };
       }
-  last_done p n s l (G.Full z) R f q = record { is = rw (← R.is); holds = R.growing }
+  last_done p n s l (Err e) R f q = record { is = rw (← R.is); holds = R.growing }
 
 -- ---- the ways of a ForbidMultipleInstances: a, b its variables, o, u their origins
 
 module _ (T : Tables) (a b : ℕ) (o : Origin) (q : o ≡ origin_of T a) (g tr w : List ℕ) (k : Work) (H : Holds g tr w k) where
-  pub forbid_skip : solvable_in o ≡ [] → Expanded (forbid_clause_in T a b (build_in g tr w k)) g tr w (P.On k)
+  pub forbid_skip : solvable_in o ≡ [] → Expanded (forbid_clause_in T a b (build_in g tr w k)) g tr w (Ok k)
   unfolding forbid_clause_in
   forbid_skip e = record { is = rw (← q, e); holds = H }
 
   pub forbid_unnamed : (u : Origin) (n : ℕ) → u ≡ origin_of T b → o ≡ O.Solvable n → name_forbidden u ≡ []
-      → Expanded (forbid_clause_in T a b (build_in g tr w k)) g tr w (P.On k)
+      → Expanded (forbid_clause_in T a b (build_in g tr w k)) g tr w (Ok k)
   unfolding forbid_clause_in
   forbid_unnamed u n z e f = record { is = rw (← q, ← z, e, f); holds = H }
 
   -- m' is the name's number as an index
-  pub forbid_done : (u : Origin) (n m m' p : ℕ) (h l : List ℕ) (r : Grown) (d : Progress) → u ≡ origin_of T b → o ≡ O.Solvable n → u ≡ O.ForbidMultiple m
+  pub forbid_done : (u : Origin) (n m m' p : ℕ) (h l : List ℕ) (r : Result Size Full) (d : Result Work Full) → u ≡ origin_of T b → o ≡ O.Solvable n → u ≡ O.ForbidMultiple m
       → m' ≡ m → m' < 128 → p ≡ get_or (last_in w) m' 0 → Grew (forbid_all_in (graph_in g k.size) (last_by p) n) h r → l ≡ set w (3072 + m') (n + 1)
       → d ≡ widened k r → Expanded (forbid_clause_in T a b (build_in g tr w k)) h tr l d
   unfolding forbid_clause_in
@@ -217,49 +214,49 @@ pub ruleset forbids = (forbid_skip, forbid_unnamed, forbid_done)
 -- ---- the dispatch: c is a clause of the kind that the arm found
 
 module _ (T : Tables) (c : Clause) (g tr w g' tr' w' : List ℕ) (k : Work) where
-  pub expand_root : c ≡ C.InstallRoot → Holds g tr w k → Expanded (expand_in T c (build_in g tr w k)) g tr w (P.On k)
+  pub expand_root : c ≡ C.InstallRoot → Holds g tr w k → Expanded (expand_in T c (build_in g tr w k)) g tr w (Ok k)
   unfolding expand_in
   expand_root e H = record { is = rw e; holds = H }
 
-  pub expand_learnt : c ≡ C.Learnt → Holds g tr w k → Expanded (expand_in T c (build_in g tr w k)) g tr w (P.On k)
+  pub expand_learnt : c ≡ C.Learnt → Holds g tr w k → Expanded (expand_in T c (build_in g tr w k)) g tr w (Ok k)
   unfolding expand_in
   expand_learnt e H = record { is = rw e; holds = H }
 
-  pub expand_any : (a b : ℕ) → c ≡ C.AnyOf a b → Holds g tr w k → Expanded (expand_in T c (build_in g tr w k)) g tr w (P.On k)
+  pub expand_any : (a b : ℕ) → c ≡ C.AnyOf a b → Holds g tr w k → Expanded (expand_in T c (build_in g tr w k)) g tr w (Ok k)
   unfolding expand_in
   expand_any a b e H = record { is = rw e; holds = H }
 
-  pub expand_excluded : (a r : ℕ) (u : Grown) (d : Progress) → c ≡ C.Excluded a r → Holds g tr w k
+  pub expand_excluded : (a r : ℕ) (u : Result Size Full) (d : Result Work Full) → c ≡ C.Excluded a r → Holds g tr w k
       → Grew (link_all_in (excluded_links T a r) (graph_in g k.size)) g' u → d ≡ widened k u → Expanded (expand_in T c (build_in g tr w k)) g' tr w d
   unfolding expand_in
   expand_excluded a r u d e H R q = rw e (links_done g tr w g' k H (excluded_links T a r) u d R q)
 
-  pub expand_requires : (a q : ℕ) (u : Grown) (d : Progress) → c ≡ C.Requires a q → Holds g tr w k
+  pub expand_requires : (a q : ℕ) (u : Result Size Full) (d : Result Work Full) → c ≡ C.Requires a q → Holds g tr w k
       → Grew (link_all_in (requires_of T q (requirers T a)) (graph_in g k.size)) g' u → d ≡ widened k u → Expanded (expand_in T c (build_in g tr w k)) g' tr w d
   unfolding expand_in
   expand_requires a q u d e H R z = rw e (links_done g tr w g' k H (requires_of T q (requirers T a)) u d R z)
 
-  pub expand_lock : (a b : ℕ) (u : Grown) (d : Progress) → c ≡ C.Lock a b → Holds g tr w k → Grew (link_all_in (lock_links T a b) (graph_in g k.size)) g' u
+  pub expand_lock : (a b : ℕ) (u : Result Size Full) (d : Result Work Full) → c ≡ C.Lock a b → Holds g tr w k → Grew (link_all_in (lock_links T a b) (graph_in g k.size)) g' u
       → d ≡ widened k u → Expanded (expand_in T c (build_in g tr w k)) g' tr w d
   unfolding expand_in
   expand_lock a b u d e H R q = rw e (links_done g tr w g' k H (lock_links T a b) u d R q)
 
-  pub expand_constrains : (a b v : ℕ) (u : Grown) (d : Progress) → c ≡ C.Constrains a b v → Holds g tr w k
+  pub expand_constrains : (a b v : ℕ) (u : Result Size Full) (d : Result Work Full) → c ≡ C.Constrains a b v → Holds g tr w k
       → Grew (link_all_in (constrains_links T a b v) (graph_in g k.size)) g' u → d ≡ widened k u → Expanded (expand_in T c (build_in g tr w k)) g' tr w d
   unfolding expand_in
   expand_constrains a b v u d e H R q = rw e (links_done g tr w g' k H (constrains_links T a b v) u d R q)
 
-  pub expand_forbid : (a b : ℕ) (d : Progress) → c ≡ C.ForbidMultipleInstances a b → Expanded (forbid_clause_in T a b (build_in g tr w k)) g' tr' w' d
+  pub expand_forbid : (a b : ℕ) (d : Result Work Full) → c ≡ C.ForbidMultipleInstances a b → Expanded (forbid_clause_in T a b (build_in g tr w k)) g' tr' w' d
       → Expanded (expand_in T c (build_in g tr w k)) g' tr' w' d
   unfolding expand_in
   expand_forbid a b d e R = rw e R
 
-  pub expand_parent : (a b v : ℕ) (d : Progress) → c ≡ C.ConstrainsParent a b v → Expanded (pair_in T Parent a b v (build_in g tr w k)) g' tr' w' d
+  pub expand_parent : (a b v : ℕ) (d : Result Work Full) → c ≡ C.ConstrainsParent a b v → Expanded (pair_in T Parent a b v (build_in g tr w k)) g' tr' w' d
       → Expanded (expand_in T c (build_in g tr w k)) g' tr' w' d
   unfolding expand_in
   expand_parent a b v d e R = rw e R
 
-  pub expand_candidate : (a b v : ℕ) (d : Progress) → c ≡ C.ConstrainsExcluded a b v → Expanded (pair_in T Candidate a b v (build_in g tr w k)) g' tr' w' d
+  pub expand_candidate : (a b v : ℕ) (d : Result Work Full) → c ≡ C.ConstrainsExcluded a b v → Expanded (pair_in T Candidate a b v (build_in g tr w k)) g' tr' w' d
       → Expanded (expand_in T c (build_in g tr w k)) g' tr' w' d
   unfolding expand_in
   expand_candidate a b v d e R = rw e R

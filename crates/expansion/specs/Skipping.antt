@@ -1,5 +1,5 @@
 -- Clauses 23 and 24: partners whose triples were made before add nothing, and are passed over. Each law is one way out of a function.
-use Rattle.std.specs.Prelude.{◌≡◌, refl, Bool, true, ℕ, ◌-◌, ◌<◌, ◌≤◌, length, take, eqb}
+use Rattle.std.specs.Prelude.{◌≡◌, refl, Bool, true, ℕ, ◌-◌, ◌<◌, ◌≤◌, length, take, eqb, Result, Ok, Err, Option, Some, None}
 use Rattle.std.proofs.Math.Path.{sym, ap}
 use Rattle.std.proofs.Common.{◌∙◌, arith}
 use Rattle.std.proofs.Math.Bool.{false, not}
@@ -9,14 +9,11 @@ use Rattle.basis.specs.Members.{clash}
 use Rattle.records.specs.Tables.{Tables}
 use Rattle.views.specs.Walks.{next_partner, aux_at, aux_from, aux_less}
 use Rattle.store.specs.declared.ConflictNode.{ConflictNode}
-use Rattle.linking.specs.declared.Party.{Party}
-use Rattle.linking.specs.declared.Party.TheVariants.{Node, Neither}
 use Rattle.linking.specs.Links.{party_of, as_list}
 use Rattle.expansion.specs.declared.Side.{Side}
 use Rattle.expansion.specs.declared.Side.TheVariants.{Parent, Candidate}
 use Rattle.expansion.specs.declared.Work.{Work}
-use Rattle.expansion.specs.declared.Progress.{Progress}
-use Rattle.expansion.specs.declared.Progress.TheVariants as P
+use Rattle.store.specs.declared.Full.{Full}
 use Rattle.expansion.specs.Triple.{Triple, triple, same_triple}
 use Rattle.expansion.specs.Hashed.{TripleWord, Triples, made_in, made_before}
 use Rattle.expansion.specs.Expand.{Build, triple_by, triples_of}
@@ -27,9 +24,9 @@ use Rattle.expansion.specs.Pairing.{ExpandedBy, Pending, triples_at, pairs_from,
 -- ---- what is spoken of
 
 -- party r of the other side is a node whose triple with node n is not among ms
-unfoldable pub new_by : Side → ConflictNode → ℕ → List Triple → Party → Bool
-new_by side n v ms Neither = false
-new_by side n v ms (Node p) = not (any (same_triple (triple_by side n v p)) ms)
+unfoldable pub new_by : Side → ConflictNode → ℕ → List Triple → Option ConflictNode → Bool
+new_by side n v ms None = false
+new_by side n v ms (Some p) = not (any (same_triple (triple_by side n v p)) ms)
 
 -- where the triples ms were made, the partners from the stored value y on add what those from x on add
 pub record Skipped (T : Tables) (side : Side) (n : ConflictNode) (v : ℕ) (ms : List Triple) (x y : ℕ) : Type 0 where
@@ -50,24 +47,24 @@ pub ruleset words_by = (word_parent, word_candidate)
 
 -- ---- whether variable c adds a triple: r is the party that it names, t the triple's word, b whether that is there
 
-module _ (T : Tables) (side : Side) (n : ConflictNode) (v : ℕ) (tr w : List ℕ) (m c : ℕ) (r : Party) (q : r ≡ party_of T c) where
-  pub new_neither : r ≡ Neither → false ≡ new_by side n v (made_in tr m) (party_of T c)
+module _ (T : Tables) (side : Side) (n : ConflictNode) (v : ℕ) (tr w : List ℕ) (m c : ℕ) (r : Option ConflictNode) (q : r ≡ party_of T c) where
+  pub new_neither : r ≡ None → false ≡ new_by side n v (made_in tr m) (party_of T c)
   unfolding new_by
   new_neither e = ap (new_by side n v (made_in tr m)) (sym e ∙ q)
 
-  module _ (p : ConflictNode) (t : ℕ) (b : Bool) (e : r ≡ Node p) (W : TripleWord (triple_by side n v p) t) (H : Triples tr w m)
+  module _ (p : ConflictNode) (t : ℕ) (b : Bool) (e : r ≡ Some p) (W : TripleWord (triple_by side n v p) t) (H : Triples tr w m)
       (f : b ≡ any (eqb t) (take m tr)) where
-    told : not b ≡ new_by side n v (made_in tr m) (party_of T c)
+    pub new_told : not b ≡ new_by side n v (made_in tr m) (party_of T c)
     unfolding new_by
-    told = ap not (f ∙ made_before tr w m (triple_by side n v p) t H W) ∙ ap (new_by side n v (made_in tr m)) (sym e ∙ q)
+    new_told = ap not (f ∙ made_before tr w m (triple_by side n v p) t H W) ∙ ap (new_by side n v (made_in tr m)) (sym e ∙ q)
 
     pub new_old : b ≡ true → false ≡ new_by side n v (made_in tr m) (party_of T c)
-    new_old h = ap not (sym h) ∙ told
+    new_old h = ap not (sym h) ∙ new_told
 
     pub new_node : b ≡ false → true ≡ new_by side n v (made_in tr m) (party_of T c)
-    new_node h = ap not (sym h) ∙ told
+    new_node h = ap not (sym h) ∙ new_told
 
-pub ruleset news = (new_neither, new_old, new_node)
+pub ruleset news = (new_told, new_neither, new_old, new_node)
 
 -- ---- partners passed over, one after another
 
@@ -76,11 +73,11 @@ not-false true h = refl
 not-false false h = clash cc
 
 -- what is not new adds nothing
-adds_none : (side : Side) (n : ConflictNode) (v : ℕ) (r : Party) (b : Build) → new_by side n v b.made r ≡ false
+adds_none : (side : Side) (n : ConflictNode) (v : ℕ) (r : Option ConflictNode) (b : Build) → new_by side n v b.made r ≡ false
     → once_all_in (triples_of side n v (as_list r)) b ≡ on_to b
 unfolding once_all_in triples_of new_by once_in
-adds_none side n v Neither b h = refl
-adds_none side n v (Node p) b h =
+adds_none side n v None b h = refl
+adds_none side n v (Some p) b h =
     once_one (triple_by side n v p) b ∙ rw (not-false (any (same_triple (triple_by side n v p)) b.made) h, once_in)
 
 module _ (T : Tables) (side : Side) (n : ConflictNode) (v : ℕ) (ms : List Triple) (x : ℕ) where
@@ -121,9 +118,9 @@ module _ (T : Tables) (side : Side) (n : ConflictNode) (v : ℕ) where
       pending_skip (once_all_in (pairs_from T side n v x) (build_in g tr w k)) g tr w k x y (record { left = refl; holds = H }) S
 
   -- after the partner of the stored value x: d is what making its triple gave, f the next one
-  pub skipped_next : (X : StepSoFar) (g tr w g' tr' w' : List ℕ) (k : Work) (x : ℕ) (d : Progress) (f y : ℕ) (m : Work)
+  pub skipped_next : (X : StepSoFar) (g tr w g' tr' w' : List ℕ) (k : Work) (x : ℕ) (d : Result Work Full) (f y : ℕ) (m : Work)
       → Pending X (pairs_from T side n v x) g tr w k → Skipped T side n v (made_in tr' m.triples) f y → 0 < x
-      → ExpandedBy (triples_at T side n v (x - 1)) g tr w k g' tr' w' d → d ≡ P.On m → f ≡ next_partner T (x - 1)
+      → ExpandedBy (triples_at T side n v (x - 1)) g tr w k g' tr' w' d → d ≡ Ok m → f ≡ next_partner T (x - 1)
       → Pending X (pairs_from T side n v y) g' tr' w' m
   skipped_next X g tr w g' tr' w' k x d f y m L S h R o z =
       pending_skip X g' tr' w' m f y (pairs_next T side n v X g tr w g' tr' w' k x d f m L h R o z) S
@@ -133,5 +130,5 @@ module _ (T : Tables) (side : Side) (n : ConflictNode) (v : ℕ) where
   skipped_less ms x f y S h z = omega (arith, S.fewer, aux_less T x f h z)
 
 -- the promise of the triples where building goes on
-pub triples_on : (X : StepSoFar) (g tr w : List ℕ) (r : Progress) (m : Work) → Expanded X g tr w r → r ≡ P.On m → Triples tr w m.triples
+pub triples_on : (X : StepSoFar) (g tr w : List ℕ) (r : Result Work Full) (m : Work) → Expanded X g tr w r → r ≡ Ok m → Triples tr w m.triples
 triples_on X g tr w r m R e = let H : Holds g tr w m = rw e at R.holds in H.triples

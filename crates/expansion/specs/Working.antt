@@ -1,8 +1,8 @@
 -- What each clause of the core adds, with what stays in working memory where there is no room: the graph as far as it came. With that
 -- graph forgotten it is the expansion of `Expand`.
-use Rattle.std.specs.Prelude.{◌≡◌, refl, Bool, true, false, List, [], ◌∷◌, ℕ, get_or, set}
+use Rattle.std.specs.Prelude.{◌≡◌, refl, Bool, true, false, List, [], ◌∷◌, ℕ, get_or, set, Option, Some, None}
 use Rattle.std.proofs.Common.{sym, ap, ◌∙◌}
-use Rattle.std.proofs.Math.Option.{Option, none, some}
+use Rattle.std.proofs.Math.Option.{none, some}
 use Rattle.basis.specs.Lists.{any, snoc}
 use Rattle.records.specs.declared.Clause.{Clause}
 use Rattle.records.specs.declared.Clause.TheVariants as C
@@ -14,8 +14,7 @@ use Rattle.store.specs.declared.ConflictEdge.TheVariants as W
 use Rattle.store.specs.Graph.{Graph, add_link}
 use Rattle.store.specs.Working.{AddedSoFar, added_to, full_at, add_link_in, forget_added, forget_link}
 use Rattle.expansion.specs.Triple.{Triple, same_triple}
-use Rattle.linking.specs.declared.Party.{Party}
-use Rattle.linking.specs.declared.Party.TheVariants.{Node, Neither}
+use Rattle.store.specs.declared.ConflictNode.{ConflictNode}
 use Rattle.linking.specs.Links.{Link, party_of, solvable_in, name_forbidden, requirers, link_all, forbid_all}
 use Rattle.linking.specs.Links.{requires_of, excluded_links, lock_links, constrains_links}
 use Rattle.linking.specs.Working.{LinkedSoFar, more_to, short_at, link_all_in, forbid_all_in, forget_linked, forget_links, forget_forbid}
@@ -52,9 +51,9 @@ unfolding once_in
 once_all_in [] b = on_to b
 once_all_in (t ∷ rest) b = elim (once_in b t) [ stop_at g ↦ stop_at g | on_to c ↦ once_all_in rest c ]
 
-abbrev pub pair_all_in : Tables → Side → ℕ → ℕ → Party → Build → StepSoFar
-pair_all_in T side b v Neither d = on_to d
-pair_all_in T side b v (Node n) d = once_all_in (triples_of side n v (others T side b)) d
+abbrev pub pair_all_in : Tables → Side → ℕ → ℕ → Option ConflictNode → Build → StepSoFar
+pair_all_in T side b v None d = on_to d
+pair_all_in T side b v (Some n) d = once_all_in (triples_of side n v (others T side b)) d
 
 abbrev pub lastly_in : Build → ℕ → ℕ → LinkedSoFar → StepSoFar
 lastly_in b n s (more_to g) = on_to (record { graph = g; last = set b.last n (some s); made = b.made })
@@ -139,9 +138,9 @@ pub forget_pair : (T : Tables) (side : Side) (a b v : ℕ) (d : Build) → forge
 unfolding pair_in pair
 forget_pair T side a b v d = by_party (party_of T a)
   where
-    by_party : (p : Party) → forget_step (pair_all_in T side b v p d) ≡ pair_all T side b v p d
-    by_party Neither = refl
-    by_party (Node n) = forget_onces (triples_of side n v (others T side b)) d
+    by_party : (p : Option ConflictNode) → forget_step (pair_all_in T side b v p d) ≡ pair_all T side b v p d
+    by_party None = refl
+    by_party (Some n) = forget_onces (triples_of side n v (others T side b)) d
 
 pub forget_forbidden : (T : Tables) (x y : ℕ) (b : Build) → forget_step (forbid_clause_in T x y b) ≡ forbid T x y b
 unfolding forbid_clause_in forbid

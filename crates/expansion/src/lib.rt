@@ -10,7 +10,7 @@ ghost use Rattle.index.specs.Index.{Loaded};
 ghost use Rattle.views.specs.Walks.{aux_from};
 ghost use Rattle.expansion.specs.Triple.{triple};
 ghost use Rattle.expansion.specs.Hashed.{TripleWord, Triples, made_in};
-ghost use Rattle.linking.specs.Links.{party_of, as_list, parent_reason, excluded_reason};
+ghost use Rattle.linking.specs.Links.{party_of, as_list};
 ghost use Rattle.linking.specs.Parties.{any_node};
 ghost use Rattle.expansion.specs.Expand.{triple_by, triples_of, others};
 ghost use Rattle.expansion.specs.Working.{once_in, once_all_in, pair_in, forbid_clause_in, expand_in};
@@ -20,10 +20,9 @@ ghost use Rattle.expansion.specs.Skipping.{new_by, Skipped};
 ghost use Rattle.expansion.specs.Forbidding.{widened};
 
 use index::Slots;
-use linking::{Grown, Party};
 use records::{Clause, Origin};
 use store::{
-    ChainWords, ConflictCause, ConflictEdge, ConflictNode, GraphWords, Put, Scratch, Size,
+    ChainWords, ConflictCause, ConflictEdge, ConflictNode, Full, GraphWords, Scratch, Size,
 };
 
 // The side of an auxiliary that a clause stands on: 23 holds a parent, 24 a candidate.
@@ -40,13 +39,6 @@ pub struct Work {
     pub triples: usize,
 }
 
-// How a clause went.
-#[derive(Clone, Copy)]
-pub enum Progress {
-    On(Work),
-    Full(Size),
-}
-
 // The edge of a triple, unless it was made before.
 fn make_once(
     g: &mut GraphWords,
@@ -56,7 +48,7 @@ fn make_once(
     p: ConflictNode,
     d: ConflictNode,
     v: u16,
-) -> Progress
+) -> Result<Work, Full>
     requires { Holds g.old tr.old ls.old k }
     ensures { Expanded (once_in (build_in g.old tr.old ls.old k) (triple p d v)) g.new tr.new
         ls.new result }
@@ -64,26 +56,16 @@ fn make_once(
     let t = triples::pack(p, d, v);
     let n = k.triples;
     if triples::made(tr, ls, n, t) {
-        return Progress::On(k);
+        return Ok(k);
     }
     let s = k.size;
-    let a = store::link(
-        g,
-        s,
-        p,
-        d,
-        ConflictEdge::Conflict(ConflictCause::Constrains(v)),
-    );
-    match a {
-        Put::Full(z) => Progress::Full(z),
-        Put::At(_, z) => {
-            triples::make(tr, ls, n, t);
-            Progress::On(Work {
-                size: z,
-                triples: n + 1,
-            })
-        }
-    }
+    let w = ConflictEdge::Conflict(ConflictCause::Constrains(v));
+    let a = store::link(g, s, p, d, w)?;
+    triples::make(tr, ls, n, t);
+    Ok(Work {
+        size: a.size,
+        triples: n + 1,
+    })
 }
 
 // The triple of node n and party r of the other side, none where that names neither.
@@ -95,14 +77,14 @@ fn pair_party(
     side: Side,
     n: ConflictNode,
     v: u16,
-    r: Party,
-) -> Progress
+    r: Option<ConflictNode>,
+) -> Result<Work, Full>
     requires { Holds g.old tr.old ls.old k }
     ensures { Expanded (once_all_in (triples_of side n v (as_list r)) (build_in g.old tr.old ls.old k)) g.new
         tr.new ls.new result }
 {
-    let Party::Node(m) = r else {
-        return Progress::On(k);
+    let Some(m) = r else {
+        return Ok(k);
     };
     match side {
         Side::Parent => make_once(g, tr, ls, k, n, m, v),
@@ -139,7 +121,7 @@ fn pair_at(
     n: ConflictNode,
     v: u16,
     i: usize,
-) -> Progress
+) -> Result<Work, Full>
     requires loaded { Loaded file.now ix.now }
     requires holds { Holds g.old tr.old ls.old k }
     ensures { Expanded (once_all_in (triples_at (tables_of file.now) side n v i) (build_in g.old tr.old ls.old k))
@@ -177,18 +159,15 @@ fn is_new(
     ensures { result ≡ new_by side n v (made_in tr.now m) (party_of (tables_of file.now) c) }
 {
     let r = linking::named(file, ix, c);
-    let Party::Node(p) = r else {
+    let Some(p) = r else {
         return false;
     };
     let t = word_by(side, n, v, p);
-    if triples::made(tr, ls, m, t) {
-        return false;
-    }
-    true
+    !triples::made(tr, ls, m, t)
 }
 
 // Past the partners of an auxiliary, from the stored value x on, that add no triple to the first m: the stored value at which
-// one does, or 0. Most were made before, and no `Progress` is built for those.
+// one does, or 0. Most were made before, and no `Work` is built for those.
 fn first_new(
     file: &[u8],
     ix: &Slots,
@@ -228,7 +207,7 @@ fn pair_all(
     n: ConflictNode,
     v: u16,
     x: usize,
-) -> Progress
+) -> Result<Work, Full>
     requires loaded { Loaded file.now ix.now }
     requires holds { Holds g.old tr.old ls.old k }
     ensures { Expanded (once_all_in (pairs_from (tables_of file.now) side n v x) (build_in g.old tr.old ls.old k))
@@ -239,50 +218,12 @@ fn pair_all(
     let mut m = k;
     while 0 < y {
         let i = y - 1;
-        let d = pair_at(file, ix, g, tr, ls, m, side, n, v, i);
-        match d {
-            Progress::Full(z) => return Progress::Full(z),
-            Progress::On(z) => {
-                m = z;
-                let j = z.triples;
-                let e = views::next_partner(file, ix, i);
-                y = first_new(file, ix, tr, ls, j, side, n, v, e);
-            }
-        }
+        m = pair_at(file, ix, g, tr, ls, m, side, n, v, i)?;
+        let j = m.triples;
+        let e = views::next_partner(file, ix, i);
+        y = first_new(file, ix, tr, ls, j, side, n, v, e);
     }
-    Progress::On(m)
-}
-
-// The a of the clause that assigned auxiliary v, if that is ConstrainsParent.
-fn recover_parent(file: &[u8], ix: &Slots, v: u16) -> Party
-    requires { Loaded file.now ix.now }
-    ensures { result ≡ parent_reason (tables_of file.now) v }
-{
-    let i = views::assigned_by(file, ix, v);
-    if i == 0 {
-        return Party::Neither;
-    }
-    let c = views::clause(file, ix, i - 1);
-    let Clause::ConstrainsParent(a, _, _) = c else {
-        return Party::Neither;
-    };
-    linking::named(file, ix, a)
-}
-
-// The same of ConstrainsExcluded.
-fn recover_excluded(file: &[u8], ix: &Slots, v: u16) -> Party
-    requires { Loaded file.now ix.now }
-    ensures { result ≡ excluded_reason (tables_of file.now) v }
-{
-    let i = views::assigned_by(file, ix, v);
-    if i == 0 {
-        return Party::Neither;
-    }
-    let c = views::clause(file, ix, i - 1);
-    let Clause::ConstrainsExcluded(a, _, _) = c else {
-        return Party::Neither;
-    };
-    linking::named(file, ix, a)
+    Ok(m)
 }
 
 // The first partner of the other side.
@@ -296,13 +237,29 @@ fn first_other(file: &[u8], ix: &Slots, side: Side, v: u16) -> usize
     }
 }
 
-fn recover_other(file: &[u8], ix: &Slots, side: Side, v: u16) -> Party
+// The party of the other side that the clause which assigned auxiliary v tells, if that is of the other kind.
+fn recover_other(file: &[u8], ix: &Slots, side: Side, v: u16) -> Option<ConflictNode>
     requires { Loaded file.now ix.now }
     ensures { result ≡ other_reason (tables_of file.now) side v }
 {
+    let i = views::assigned_by(file, ix, v);
+    if i == 0 {
+        return None;
+    }
+    let c = views::clause(file, ix, i - 1);
     match side {
-        Side::Parent => recover_excluded(file, ix, v),
-        Side::Candidate => recover_parent(file, ix, v),
+        Side::Parent => {
+            let Clause::ConstrainsExcluded(a, _, _) = c else {
+                return None;
+            };
+            linking::named(file, ix, a)
+        }
+        Side::Candidate => {
+            let Clause::ConstrainsParent(a, _, _) = c else {
+                return None;
+            };
+            linking::named(file, ix, a)
+        }
     }
 }
 
@@ -318,7 +275,7 @@ fn pair_others(
     n: ConflictNode,
     v: u16,
     b: u16,
-) -> Progress
+) -> Result<Work, Full>
     requires loaded { Loaded file.now ix.now }
     requires holds { Holds g.old tr.old ls.old k }
     ensures { Expanded (once_all_in (triples_of side n v (others (tables_of file.now) side b))
@@ -344,29 +301,27 @@ fn expand_pair(
     a: u16,
     b: u16,
     v: u16,
-) -> Progress
+) -> Result<Work, Full>
     requires loaded { Loaded file.now ix.now }
     requires holds { Holds g.old tr.old ls.old k }
     ensures { Expanded (pair_in (tables_of file.now) side a b v (build_in g.old tr.old ls.old k))
         g.new tr.new ls.new result }
 {
     let r = linking::named(file, ix, a);
-    let Party::Node(n) = r else {
-        return Progress::On(k);
+    let Some(n) = r else {
+        return Ok(k);
     };
     pair_others(file, ix, g, tr, ls, k, side, n, v, b)
 }
 
-fn widen(k: Work, r: Grown) -> Progress
+fn widen(k: Work, r: Result<Size, Full>) -> Result<Work, Full>
     ensures { result ≡ widened k r }
 {
-    match r {
-        Grown::On(s) => Progress::On(Work {
-            size: s,
-            triples: k.triples,
-        }),
-        Grown::Full(s) => Progress::Full(s),
-    }
+    let size = r?;
+    Ok(Work {
+        size,
+        triples: k.triples,
+    })
 }
 
 fn expand_forbid(
@@ -378,7 +333,7 @@ fn expand_forbid(
     k: Work,
     a: u16,
     b: u16,
-) -> Progress
+) -> Result<Work, Full>
     requires loaded { Loaded file.now ix.now }
     requires holds { Holds g.old tr.now ls.old k }
     ensures { Expanded (forbid_clause_in (tables_of file.now) a b (build_in g.old tr.now ls.old k))
@@ -386,13 +341,13 @@ fn expand_forbid(
 {
     let o = views::origin(file, ix, a);
     let Origin::Solvable(n) = o else {
-        return Progress::On(k);
+        return Ok(k);
     };
     let u = views::origin(file, ix, b);
     let Origin::ForbidMultiple(m) = u else {
-        return Progress::On(k);
+        return Ok(k);
     };
-    let name = basis::wide16(m);
+    let name = usize::from(m);
     let p = triples::last_under(ls, name);
     let s = k.size;
     let r = linking::add_forbidden(g, s, p, n);
@@ -409,7 +364,7 @@ pub fn expand(
     ls: &mut ChainWords,
     k: Work,
     c: Clause,
-) -> Progress
+) -> Result<Work, Full>
     requires loaded { Loaded file.now ix.now }
     requires holds { Holds g.old tr.old ls.old k }
     ensures { Expanded (expand_in (tables_of file.now) c (build_in g.old tr.old ls.old k)) g.new
@@ -417,12 +372,12 @@ pub fn expand(
 {
     let s = k.size;
     match c {
-        Clause::InstallRoot => Progress::On(k),
+        Clause::InstallRoot => Ok(k),
         Clause::Excluded(a, r) => {
             let u = linking::expand_excluded(file, ix, g, s, a, r);
             widen(k, u)
         }
-        Clause::Learnt => Progress::On(k),
+        Clause::Learnt => Ok(k),
         Clause::Requires(a, q) => {
             let u = linking::expand_requires(file, ix, g, s, a, q);
             widen(k, u)
@@ -460,6 +415,6 @@ pub fn expand(
             b,
             v,
         ),
-        Clause::AnyOf(_, _) => Progress::On(k),
+        Clause::AnyOf(_, _) => Ok(k),
     }
 }

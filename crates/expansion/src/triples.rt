@@ -16,7 +16,7 @@ pub fn pack(p: ConflictNode, d: ConflictNode, v: u16) -> u64
 {
     let a = store::node_word(p);
     let b = store::node_word(d);
-    a + 262144 * b + 68719476736 * (v as u64)
+    a + 262144 * b + 68719476736 * u64::from(v)
 }
 
 fn hash(t: u64) -> usize
@@ -30,16 +30,17 @@ fn first(ls: &ChainWords, n: usize) -> usize
     ensures { result ≡ get_or ls.now (1024 + n) 0 }
 {
     let at = 1024 + n;
-    basis::wide16(ls[at])
+    usize::from(ls[at])
 }
 
 fn next(ls: &ChainWords, i: usize) -> usize
     requires { i < 1024 }
     ensures { result ≡ get_or ls.now i 0 }
 {
-    basis::wide16(ls[i])
+    usize::from(ls[i])
 }
 
+#[tactic(auto, unfolding(basis::specs::Walks::word_is))]
 fn word_is(tr: &Scratch, t: u64, i: usize) -> bool
     requires { i < 1024 }
     ensures { result ≡ word_is tr.now t i }
@@ -86,6 +87,7 @@ pub fn make(tr: &mut Scratch, ls: &mut ChainWords, n: usize, t: u64)
 }
 
 // One more than the last solvable under a name, or 0.
+// Kept: the project's rule (fixed memory). The lent table holds this number, and it goes on to `add_forbidden` as it is.
 pub fn last_under(ls: &ChainWords, name: usize) -> u16
     requires { name < 128 }
     ensures { result ≡ get_or (last_in ls.now) name 0 }

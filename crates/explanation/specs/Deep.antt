@@ -1,10 +1,10 @@
 -- No package is shown below as many opened ones as the bound of demand 3: one that is opened is counted itself, and one that is not
 -- takes a group or a package from the count.
-use Rattle.std.specs.Prelude.{◌≡◌, refl, Bool, true, false, cond, not, List, [], ◌∷◌, ℕ, suc, ◌+◌, ◌*◌, ◌≤◌, ◌<◌, length, eqb}
-use Rattle.std.proofs.Common.{sym, ap, ◌∙◌, inl, inr, mul-le-mul_right, mul-le-mul_left, mul-suc, arith, eq-eqb, ne_eqb}
+use Rattle.std.specs.Prelude.{◌≡◌, refl, Bool, true, false, not, List, [], ◌∷◌, ℕ, suc, ◌+◌, ◌*◌, ◌≤◌, ◌<◌, length, eqb}
+use Rattle.std.proofs.Common.{sym, ◌∙◌, inl, inr, mul-le-mul_right, mul-le-mul_left, mul-suc, arith, eq-eqb, ne_eqb}
 use Rattle.basis.specs.Lists.{filter}
 use Rattle.basis.specs.Members.{In, All, split, either, has_out, filter_in}
-use Rattle.machine.specs.Machine.{Plan, Op, candidate, entry, skipped, repeats, openings}
+use Rattle.machine.specs.Machine.{Plan, candidate, entry, skipped, repeats, openings}
 use Rattle.machine.specs.Bound.{Counted, most, bound, leads}
 use Rattle.machine.specs.Keeps.{Fits}
 use Rattle.machine.specs.Told.{open_within}

@@ -1,9 +1,9 @@
 -- The explanation of a file, over the edition: 12 first, then 1 to 6 by the reader, 7 to 9 by the graph, then the text with 10 and 11.
 use Rattle.std.specs.Prelude.{Bool, true, false, ◌&&◌, ◌||◌, List, [], ℕ, leb, eqb}
-use Rattle.std.proofs.Math.Option.{Option, none, some}
-use Rattle.records.specs.Read.{Reading, good, bad, read_of}
+use Rattle.std.proofs.Math.Option.{Option, some}
+use Rattle.records.specs.Read.{good, bad, read_of}
 use Rattle.records.specs.Tables.{Tables}
-use Rattle.graph.specs.Graphs.{Outcome, drawn, refused, graph_of}
+use Rattle.graph.specs.Graphs.{drawn, refused, graph_of}
 use Rattle.machine.specs.Units.{Result}
 use Rattle.machine.specs.Explained.{explain}
 use Rattle.machine.specs.Edition.{edited}

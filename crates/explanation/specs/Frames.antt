@@ -1,6 +1,6 @@
 -- The frames as they stand in the lent array, and what they are to the machine.
-use Rattle.std.specs.Prelude.{◌≡◌, refl, Bool, true, false, cond, not, List, [], ◌∷◌, ℕ, zero, suc, ◌+◌, ◌*◌, ◌-◌, ◌/◌, ◌%◌, ◌≤◌, ◌<◌, length, get_or, set, eqb, leb}
-use Rattle.std.proofs.Common.{sym, ap, ◌∙◌, not-suc-le-zero, add-one, sub-one, get_or-set_same, get_or-set_other}
+use Rattle.std.specs.Prelude.{◌≡◌, refl, Bool, true, false, not, List, [], ◌∷◌, ℕ, zero, suc, ◌+◌, ◌-◌, ◌/◌, ◌%◌, ◌≤◌, ◌<◌, length, get_or, set, leb}
+use Rattle.std.proofs.Common.{ap, not-suc-le-zero, add-one, sub-one, get_or-set_same, get_or-set_other}
 use native.Mathlib.Omega.{arith}
 use borrow.Author.Tests.{eq-eqb, ne_eqb, leb-true, leb-false}
 use Rattle.basis.specs.Lists.{any, has, is_nil, take_while}

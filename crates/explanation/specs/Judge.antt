@@ -1,5 +1,5 @@
 -- A package's turn: skipped, refused by 11, or shown.
-use Rattle.std.specs.Prelude.{◌≡◌, refl, Bool, true, false, cond, not, List, [], ◌∷◌, ℕ, ◌+◌, ◌≤◌, ◌<◌, length, get_or, set, replicate, eqb}
+use Rattle.std.specs.Prelude.{◌≡◌, refl, Bool, true, false, not, List, [], ◌∷◌, ℕ, ◌<◌, length, get_or, set, replicate, eqb}
 use Rattle.std.proofs.Common.{sym, ap, ◌∙◌, arith, get_or-set_same, get_or-set_other}
 use Rattle.std.proofs.Math.Decide.{dec_lt}
 use Rattle.std.proofs.Math.ListN.{length-set}
@@ -8,7 +8,7 @@ use borrow.Author.Tests.{eq-eqb, ne_eqb, eqb-true, eqb-false, not-true, not-fals
 use Rattle.basis.specs.Lists.{any, has}
 use Rattle.basis.specs.Members.{split}
 use Rattle.basis.specs.Store.{get_out}
-use Rattle.machine.specs.Machine.{Plan, skipped, report, repeats, below}
+use Rattle.machine.specs.Machine.{skipped, report, repeats}
 use Rattle.plan.specs.Fields.{merged_in, opens_in, lead_in, plan_in}
 use Rattle.explanation.specs.Ends.{refuses}
 use Rattle.explanation.specs.Frames.{below_in, branch_in}

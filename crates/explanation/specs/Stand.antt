@@ -1,19 +1,18 @@
 -- Where the walk stands, as the machine's stack, and how it goes on behind a package's lines.
-use Rattle.std.specs.Prelude.{◌≡◌, Bool, cond, not, List, [], ◌∷◌, ◌++◌, ℕ, zero, suc, ◌+◌, ◌*◌, ◌-◌, ◌≤◌, ◌<◌, max, get_or, set, leb}
+use Rattle.std.specs.Prelude.{◌≡◌, Bool, List, ◌∷◌, ◌++◌, ℕ, suc, ◌+◌, ◌*◌, ◌-◌, ◌≤◌, ◌<◌, max, set, leb}
 use Rattle.std.proofs.Math.Path.{refl, sym, ap}
 use Rattle.std.proofs.Common.{◌∙◌}
 use Rattle.std.proofs.Math.Bool.{true, false}
 use native.Mathlib.Omega.{arith}
 use Rattle.std.proofs.Math.ListN.{length, length-set}
 use Rattle.basis.specs.Lists.{is_nil}
-use Rattle.machine.specs.Machine.{Plan, Entry, under, openings}
+use Rattle.machine.specs.Machine.{Entry, under, openings}
 use Rattle.machine.specs.Frames.{Frame, marks_of, branch_of, stack_at, kid_entry, kid_marks, marks_length, under_open, under_shut, openings_open, openings_shut}
-use Rattle.machine.specs.Frames.{stack_pop}
 use Rattle.texts.specs.MarkBits as M
 use Rattle.texts.specs.MarkBits.{upper, pushed}
-use Rattle.texts.specs.Levels.{marks_count, pushed_below, upper_length, upper_whole, upper_under, upper_own, upper_upper}
+use Rattle.texts.specs.Levels.{marks_count, pushed_below, upper_whole, upper_under, upper_own, upper_upper}
 use Rattle.texts.specs.declared.Indenter.{Indenter}
-use Rattle.plan.specs.Fields.{plan_in, opens_in, runs_in, kid_first, kid_end, run_first, run_end, runs_from, runs_none, runs_more, kids_from, kids_none, kids_more}
+use Rattle.plan.specs.Fields.{plan_in, opens_in, runs_in, kid_first, kid_end, run_first, run_end, runs_from, kids_from, kids_none}
 use Rattle.explanation.specs.Frames.{Packed, owner_in, frame_in, frames_in, frames_length, frames_push, owner_push, frames_pop, Popped, nil_runs, nil_kids}
 use Rattle.explanation.specs.declared.frames.Top.{Top}
 

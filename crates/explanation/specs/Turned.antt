@@ -1,43 +1,42 @@
 -- What a turn of the code is: none or one turn of the machine, with the lines that it writes into the room left.
-use Rattle.std.specs.Prelude.{◌≡◌, Bool, true, false, cond, not, length, get_or, eqb, ltb, leb}
+use Rattle.std.specs.Prelude.{◌≡◌, Bool, false, cond, length, eqb, ltb, Ok, Err}
+use Rattle.std.specs.declared.result.Result.{Result}
 use Rattle.std.proofs.Math.Path.{refl}
 use Rattle.std.proofs.Common.{sym, ap, ◌∙◌, ne_eqb, ltb-true}
 use mathlib.Core.List.{List, [], ◌∷◌, ◌++◌, append-nil}
-use Prim.Native.Nat.{ℕ, zero, suc, ◌+◌, ◌*◌, ◌-◌, ◌≤◌, ◌<◌, max}
+use Prim.Native.Nat.{ℕ, suc, ◌+◌, ◌-◌, ◌≤◌, ◌<◌, max}
 use native.Mathlib.Omega.{arith}
 use Rattle.std.proofs.Math.ListN.{length-append}
-use Rattle.basis.specs.Lists.{is_nil, concat_map}
+use Rattle.basis.specs.Lists.{is_nil}
 use Rattle.basis.specs.Members.{split}
 use Rattle.records.specs.Tables.{Tables}
-use Rattle.machine.specs.Machine.{Plan, Entry, State, state, Stop, going, loops, stop_of, says, repeats, skipped, report, openings}
-use Rattle.machine.specs.Units.{TextUnit, text_of, depth_of}
+use Rattle.machine.specs.Machine.{Plan, Entry, State, state, going, loops, stop_of, says, repeats, skipped, report, openings}
+use Rattle.machine.specs.Units.{text_of, depth_of}
 use Rattle.machine.specs.Tally.{Added, added_none}
-use Rattle.machine.specs.Explained.{lines_as, units_of, units_for}
+use Rattle.machine.specs.Explained.{lines_as, units_for}
 use Rattle.machine.specs.Turns.{Turns, stay}
-use Rattle.machine.specs.Frames.{Frame, marks_of, branch_of, stack_at, kid_entry, kid_marks, run_entry, marks_length, openings_run, openings_shut, run_goes, kid_goes}
+use Rattle.machine.specs.Frames.{Frame, marks_of, branch_of, stack_at, kid_entry, kid_marks, run_entry, openings_run, openings_shut, run_goes, kid_goes}
 use Rattle.machine.specs.Frames.{kid_loops, run_says, kid_says, turn_run, turn_skip, turn_kid}
 use Rattle.texts.specs.Wrote.{Wrote}
-use Rattle.texts.specs.Laws.Wrote.{wrote_none, wrote_length}
+use Rattle.texts.specs.Laws.Wrote.{wrote_none}
 use Rattle.texts.specs.MarkBits as M
 use Rattle.texts.specs.MarkBits.{upper}
-use Rattle.texts.specs.Levels.{marks_count, upper_whole, upper_own, upper_under}
 use Rattle.texts.specs.declared.Indenter.{Indenter}
-use Rattle.plan.specs.Fields.{plan_in, opens_in, tag_in, runs_in, kids_in, run_first, run_end, kid_first, kid_end, kid_at, text_length, reason_in, sets_in, requirement_in}
-use Rattle.plan.specs.Fields.{wording_in, runs_from, runs_none, runs_more, kids_from, kids_none, kids_more}
+use Rattle.plan.specs.Fields.{plan_in, opens_in, tag_in, kids_in, kid_first, kid_end, kid_at, text_length, reason_in, sets_in, requirement_in}
+use Rattle.plan.specs.Fields.{wording_in, runs_from, runs_none, runs_more, kids_none, kids_more}
 use Rattle.plan.specs.Texts.{package_in}
 use Rattle.lines.specs.Said.{run_said, package_said, sets_said, package_all, lines_in}
-use Rattle.lines.specs.Tried.{Tried, text_all, LinesWhole, Broken, Lined}
+use Rattle.lines.specs.Tried.{LineWrote, LineFull, text_all, LinesWhole, Broken}
 use Rattle.lines.specs.PackageLaws as L
-use Rattle.lines.specs.RunLaws as N
-use Rattle.explanation.specs.Frames.{frame_in, frames_in, frames_length, frames_branch, frames_pop, branch_in, Popped, nil_runs}
+use Rattle.explanation.specs.Frames.{frame_in, frames_in, frames_length, frames_branch, frames_pop, branch_in, Popped}
 use Rattle.explanation.specs.Judge.{Flags, Skipped, Repeated, Showing, Judged}
 use Rattle.explanation.specs.Stand.{next_kid, next_run, runs_at, kids_at, frames_at, stack_in, Small, measure, Indented, Level, Entered, small_next}
 use Rattle.explanation.specs.Stand.{held_beside, held_run, held_pop}
 use Rattle.explanation.specs.declared.frames.Top.{Top}
 use Rattle.explanation.specs.declared.frames.Verdict.{Verdict}
 use Rattle.explanation.specs.declared.frames.Verdict.TheVariants.{Skip, Repeat, Show}
-use Rattle.explanation.specs.declared.turns.Step.{Step}
-use Rattle.explanation.specs.declared.turns.Step.TheVariants.{On, Done, Loops, Full}
+use Rattle.explanation.specs.declared.turns.End.{End}
+use Rattle.explanation.specs.declared.turns.End.TheVariants.{Done, Loops, Full}
 
 -- ---- the outcomes
 
@@ -84,11 +83,11 @@ pub record TurnedFull (T : Tables) (p k : List ℕ) (g : Indenter) (t : Top) (fr
   pub at : u.at ≡ t.at + bytes
   pub over : length room < bytes + length line
 
-unfoldable pub WalkTurned : Tables → List ℕ → List ℕ → Indenter → Top → List ℕ → List ℕ → List ℕ → Top → Step → List ℕ → List ℕ → List ℕ → Type 0
-WalkTurned T p k g t fr seen room u On fr' seen' left = TurnedOn T p k g t fr seen room u fr' seen' left
-WalkTurned T p k g t fr seen room u Done fr' seen' left = TurnedDone p k t fr room left
-WalkTurned T p k g t fr seen room u (Loops n) fr' seen' left = TurnedLoops p k t fr room n left
-WalkTurned T p k g t fr seen room u Full fr' seen' left = TurnedFull T p k g t fr seen room u left
+unfoldable pub WalkTurned : Tables → List ℕ → List ℕ → Indenter → Top → List ℕ → List ℕ → List ℕ → Result Top End → List ℕ → List ℕ → List ℕ → Type 0
+WalkTurned T p k g t fr seen room (Ok u) fr' seen' left = TurnedOn T p k g t fr seen room u fr' seen' left
+WalkTurned T p k g t fr seen room (Err Done) fr' seen' left = TurnedDone p k t fr room left
+WalkTurned T p k g t fr seen room (Err (Loops n)) fr' seen' left = TurnedLoops p k t fr room n left
+WalkTurned T p k g t fr seen room (Err (Full u)) fr' seen' left = TurnedFull T p k g t fr seen room u left
 
 -- ---- lines as units
 
@@ -141,42 +140,34 @@ pub record ShownFull (T : Tables) (p k : List ℕ) (g : Indenter) (t : Top) (n :
   pub lines : Broken (package_all T p k g.top (M.marks_in g) n) room left bytes units
   pub stands : u ≡ moved t bytes units
 
-abbrev pub ShowTurned : Tables → List ℕ → List ℕ → Indenter → Top → ℕ → List ℕ → List ℕ → Top → Step → List ℕ → List ℕ → Type 0
-ShowTurned T p k g t n fr room u On fr' left = ShownOn T p k g t n fr room u fr' left
-ShowTurned T p k g t n fr room u Done fr' left = ⊥
-ShowTurned T p k g t n fr room u (Loops m) fr' left = ⊥
-ShowTurned T p k g t n fr room u Full fr' left = ShownFull T p k g t n room u left
+abbrev pub ShowTurned : Tables → List ℕ → List ℕ → Indenter → Top → ℕ → List ℕ → List ℕ → Result Top End → List ℕ → List ℕ → Type 0
+ShowTurned T p k g t n fr room (Ok u) fr' left = ShownOn T p k g t n fr room u fr' left
+ShowTurned T p k g t n fr room (Err Done) fr' left = ⊥
+ShowTurned T p k g t n fr room (Err (Loops m)) fr' left = ⊥
+ShowTurned T p k g t n fr room (Err (Full u)) fr' left = ShownFull T p k g t n room u left
 
--- so many bytes and units of a package's lines are written, all of them unless f
-pub record SettledOn (p : List ℕ) (t : Top) (n : ℕ) (fr : List ℕ) (b c : ℕ) (f : Bool) (u : Top) (fr' : List ℕ) : Type 0 where
-  pub whole : f ≡ false
-  pub entered : (k : List ℕ) → Entered p k (moved t b c) n fr u fr'
+module _ (t v : Top) (b c : ℕ) (e : v ≡ moved t b c) where
+  pub moved_small : (p fr : List ℕ) → Small p fr t → c ≤ b → Small p fr v
+  moved_small p fr sm h =
+      rw e (record {
+        r = sm.r;
+        re = sm.re;
+        k = sm.k;
+        ke = sm.ke;
+        d = sm.d;
+        rune = sm.rune;
+        kide = sm.kide;
+        deep = sm.deep;
+        units = let a = sm.units in omega arith;
+      })
 
-pub record SettledFull (t : Top) (b c : ℕ) (f : Bool) (u : Top) : Type 0 where
-  pub broken : f ≡ true
-  pub stands : u ≡ moved t b c
+  module _ (T : Tables) (p k : List ℕ) (g : Indenter) (n : ℕ) (fr room left : List ℕ) where
+    pub shown_on : (u : Top) (fr' : List ℕ) → LinesWhole (package_all T p k g.top (M.marks_in g) n) room left b c
+        → ((k : List ℕ) → Entered p k v n fr u fr') → ShownOn T p k g t n fr room u fr' left
+    shown_on u fr' l x = record { bytes = b; units = c; lines = l; entered = rw e at (x k) }
 
-abbrev pub Settled : List ℕ → Top → ℕ → List ℕ → ℕ → ℕ → Bool → Top → Step → List ℕ → Type 0
-Settled p t n fr b c f u On fr' = SettledOn p t n fr b c f u fr'
-Settled p t n fr b c f u Done fr' = ⊥
-Settled p t n fr b c f u (Loops m) fr' = ⊥
-Settled p t n fr b c f u Full fr' = SettledFull t b c f u
-
-pub settled_full : (t : Top) (b c : ℕ) (f : Bool) → f ≡ true → SettledFull t b c f (moved t b c)
-settled_full t b c f e = record { broken = e; stands = refl }
-
-pub settled_on : (p : List ℕ) (t : Top) (n : ℕ) (fr : List ℕ) (b c : ℕ) (f : Bool) (u : Top) (fr' : List ℕ) → f ≡ false
-    → ((k : List ℕ) → Entered p k (moved t b c) n fr u fr')
-    → SettledOn p t n fr b c f u fr'
-settled_on p t n fr b c f u fr' e x = record { whole = e; entered = x }
-
-module _ (T : Tables) (p k : List ℕ) (g : Indenter) (t : Top) (n : ℕ) (fr room left : List ℕ) (b c : ℕ) (f : Bool)
-    (l : Lined (package_all T p k g.top (M.marks_in g) n) room left b c f) where
-  pub show_settled : (u : Top) (st : Step) (fr' : List ℕ) → Settled p t n fr b c f u st fr' → ShowTurned T p k g t n fr room u st fr' left
-  show_settled u On fr' x = record { bytes = b; units = c; lines = rw x.whole at l; entered = x.entered k }
-  show_settled u Done fr' x = absurd x
-  show_settled u (Loops m) fr' x = absurd x
-  show_settled u Full fr' x = record { bytes = b; units = c; lines = rw x.broken at l; stands = x.stands }
+    pub shown_full : Broken (package_all T p k g.top (M.marks_in g) n) room left b c → ShownFull T p k g t n room v left
+    shown_full l = record { bytes = b; units = c; lines = l; stands = e }
 
 -- ---- a package's turn
 
@@ -332,22 +323,21 @@ module _ (T : Tables) (p k : List ℕ) (g : Indenter) (t : Top) (n : ℕ) (fr se
           over = l.over;
         }
 
-    shows : (u : Top) (st : Step) (fr' left : List ℕ) → ShowTurned T p k g t n fr room u st fr' left → WalkTurned T p k g t fr seen room u st fr' seen' left
+    shows : (r : Result Top End) (fr' left : List ℕ) → ShowTurned T p k g t n fr room r fr' left → WalkTurned T p k g t fr seen room r fr' seen' left
     unfolding WalkTurned
-    shows u On fr' left x = on u fr' left x
-    shows u Done fr' left x = absurd x
-    shows u (Loops m) fr' left x = absurd x
-    shows u Full fr' left x = full u left x
+    shows (Ok u) fr' left x = on u fr' left x
+    shows (Err Done) fr' left x = absurd x
+    shows (Err (Loops m)) fr' left x = absurd x
+    shows (Err (Full u)) fr' left x = full u left x
 
-  pub kid_show : (v : Verdict) (seen' : List ℕ) (u : Top) (st : Step) (fr' left : List ℕ) → Judged p fr t.d n seen seen' v → v ≡ Show
-      → ShowTurned T p k g t n fr room u st fr' left
-      → WalkTurned T p k g t fr seen room u st fr' seen' left
-  kid_show v seen' u st fr' left j q x = shows seen' (rw q at j) u st fr' left x
+  pub kid_show : (v : Verdict) (seen' : List ℕ) (r : Result Top End) (fr' left : List ℕ) → Judged p fr t.d n seen seen' v → v ≡ Show
+      → ShowTurned T p k g t n fr room r fr' left
+      → WalkTurned T p k g t fr seen room r fr' seen' left
+  kid_show v seen' r fr' left j q x = shows seen' (rw q at j) r fr' left x
 
 -- ---- a run's turn
 
-module _ (T : Tables) (p k : List ℕ) (g : Indenter) (t : Top) (fr seen room left : List ℕ) (b w q : ℕ)
-    (tr : Tried (run_said T g.top (M.marks_in g) w q) room left b)
+module _ (T : Tables) (p k : List ℕ) (g : Indenter) (t : Top) (fr seen room left : List ℕ) (w q : ℕ)
     (wi : w ≡ wording_in p t.r) (qi : q ≡ requirement_in p t.r) (no : t.ke ≤ t.k) (lt : t.r < t.re)
     (gm : M.marks_in g ≡ is_nil (runs_from (t.r + 1) t.re) ∷ marks_of (frames_at p k t fr)) (gc : g.count ≤ 4160) (sm : Small p fr t) where
   abbrev later : List ℕ
@@ -364,9 +354,8 @@ module _ (T : Tables) (p k : List ℕ) (g : Indenter) (t : Top) (fr seen room le
   unfolding lines_in
   line_run = rw (gm, wi, qi)
 
-  pub run_full : b ≤ 0 → TurnedFull T p k g t fr seen room t left
-  run_full z =
-      let f = tr.full (omega arith) in
+  pub run_full : LineFull (run_said T g.top (M.marks_in g) w q) room left → TurnedFull T p k g t fr seen room t left
+  run_full f =
       record {
         entry = run;
         goes = rw stack_run (run_goes (plan_in p k) later (frames_at p k t fr) t.r);
@@ -377,16 +366,16 @@ module _ (T : Tables) (p k : List ℕ) (g : Indenter) (t : Top) (fr seen room le
         is = line_run;
         added = added_none t.at t.units t.depth;
         bytes = 0;
-        wrote = rw f.0 wrote_none;
+        wrote = rw f.same wrote_none;
         at = omega arith;
-        over = let h = f.1 in omega arith;
+        over = let h = f.over in omega arith;
       }
 
-  module _ (z : 0 < b) (kb : kid_first p t.r < 2048) (lb : kid_end p t.r < 2048) where
+  module _ (b : ℕ) (tr : LineWrote (run_said T g.top (M.marks_in g) w q) room left b) (kb : kid_first p t.r < 2048) (lb : kid_end p t.r < 2048) where
     on_run : TurnedOn T p k g t fr seen room (next_run p t b) fr seen left
     unfolding stack_in plan_in kids_in
     on_run =
-        let v = tr.wrote z in
+        let v = tr.wrote in
         let o = openings_run (plan_in p k) t.r later (frames_at p k t fr) in
         let fl = frames_length p k fr t.d in
         let de = sm.deep in
@@ -419,15 +408,16 @@ module _ (T : Tables) (p k : List ℕ) (g : Indenter) (t : Top) (fr seen room le
                 deep = sm.deep;
                 units = let a = sm.units in omega arith;
               };
-          less = let i = tr.within in let d = sm.d in omega arith;
+          less = let i = tr.within in let z = tr.some in let d = sm.d in omega arith;
           within = let i = tr.within in omega arith;
           frames = refl;
           flags = refl;
           held = held_run p k fr t (next_run p t b) g gc gm refl;
         }
 
-  pub run_on : (u : Top) → 0 < b → u ≡ next_run p t b → u.k < 2048 → u.ke < 2048 → TurnedOn T p k g t fr seen room u fr seen left
-  run_on u z e kb lb = rw e (on_run z (rw e at kb) (rw e at lb))
+  pub run_on : (u : Top) (b : ℕ) → LineWrote (run_said T g.top (M.marks_in g) w q) room left b → u ≡ next_run p t b → u.k < 2048 → u.ke < 2048
+      → TurnedOn T p k g t fr seen room u fr seen left
+  run_on u b tr e kb lb = rw e (on_run b tr (rw e at kb) (rw e at lb))
 
 -- ---- nothing waits at hand
 

@@ -1,32 +1,33 @@
 -- The whole walk: the contract `Explained` of the machine, over the packed plan, and every byte of the room.
-use Rattle.std.specs.Prelude.{◌≡◌, Bool, true, false, cond, not, ℕ, zero, suc, ◌+◌, ◌*◌, ◌-◌, ◌≤◌, ◌<◌, max, get_or, set, take, drop, replicate, eqb}
+use Rattle.std.specs.Prelude.{◌≡◌, Bool, true, ℕ, ◌+◌, ◌-◌, ◌≤◌, ◌<◌, take, drop, Ok, Err}
 use Rattle.std.proofs.Math.Path.{refl, sym}
-use Rattle.std.proofs.Common.{ap, subst, ◌∙◌, inl, inr, zero-add, arith, length-take, length-drop}
+use Rattle.std.proofs.Common.{ap, subst, ◌∙◌, arith, length-take, length-drop}
 use mathlib.Core.List.{List, [], ◌∷◌, ◌++◌, append-nil}
-use Rattle.std.proofs.Math.Option.{Option, none, some}
+use Rattle.std.proofs.Math.Option.{Option, some}
 use Rattle.std.proofs.Math.ListN.{length}
 use borrow.Rule.Slice.PartMut.{put_mid}
-use Rattle.basis.specs.Lists.{has, is_nil, filter}
-use Rattle.basis.specs.Members.{In, All, all_append, all_map, split, either, has_out, in_filter, filter_in}
+use Rattle.basis.specs.Members.{In, All, all_append, split}
 use Rattle.records.specs.Tables.{Tables}
-use Rattle.machine.specs.Machine.{Plan, Op, requirement, candidate, Entry, entry, State, state, start, level, going, done, loops, stop_of, next, says, tell}
-use Rattle.machine.specs.Machine.{skipped, repeats, report, under, openings}
-use Rattle.machine.specs.Bound.{Counted, most, bound, leads, segment, Good}
-use Rattle.machine.specs.Keeps.{Fits, AllFit, all_level, fits_start}
-use Rattle.machine.specs.Halts.{Halted, halts}
-use Rattle.machine.specs.Units.{TextUnit, Result, text_of}
-use Rattle.machine.specs.Tally.{Tally, tally_none, tally_added, Added}
+use Rattle.machine.specs.Machine.{Plan, Op, requirement, candidate, Entry, entry, State, state, start, level, next}
+use Rattle.machine.specs.Machine.{skipped, under}
+use Rattle.machine.specs.Bound.{Counted, most}
+use Rattle.machine.specs.Keeps.{all_level, fits_start}
+use Rattle.machine.specs.Halts.{halts}
+use Rattle.machine.specs.Units.{TextUnit, text_of}
+use Rattle.machine.specs.Units as U
+use Rattle.std.specs.declared.result.Result.{Result}
+use Rattle.machine.specs.Tally.{Tally, tally_none, tally_added}
 use Rattle.machine.specs.Fit.{text_append}
 use Rattle.machine.specs.Explained.{Explained, lines_as, units_for}
 use Rattle.machine.specs.Laws.Explained.{unique}
 use Rattle.machine.specs.Turns.{Turns, stay, turn, turns_then, turns_fit}
 use Rattle.machine.specs.Writes.{so_far, units_append, end_done, end_loops, end_full}
-use Rattle.machine.specs.Frames.{Frame, branch_of, branch_length, stack_at, kid_marks, stack_start}
+use Rattle.machine.specs.Frames.{branch_of, branch_length, kid_marks}
 use Rattle.texts.specs.Wrote.{Wrote, over}
 use Rattle.texts.specs.Laws.Wrote.{wrote_none, wrote_length, behind}
 use Rattle.texts.specs.MarkBits as M
 use Rattle.texts.specs.declared.Indenter.{Indenter}
-use Rattle.plan.specs.Fields.{plan_in, start_in, opens_in, kids_in, runs_in, run_first, run_end, runs_from, kids_from, kid_at, kids_none, kids_more, solvable_in}
+use Rattle.plan.specs.Fields.{plan_in, start_in, kids_in, runs_in, run_first, run_end, kid_at, kids_none, kids_more, solvable_in}
 use Rattle.plan.specs.Fields.{text_length}
 use Rattle.plan.specs.Texts.{package_in}
 use Rattle.lines.specs.Said.{lines_in}
@@ -38,8 +39,8 @@ use Rattle.explanation.specs.Judge.{Flags}
 use Rattle.explanation.specs.Stand.{indenter_at, stack_in, runs_at, kids_at, frames_at, Small, measure, Indented, Stepped, Level, level_step}
 use Rattle.explanation.specs.Turned.{Went, WalkTurned, TurnedOn, TurnedDone, TurnedLoops, TurnedFull, Known, Framed}
 use Rattle.explanation.specs.declared.frames.Top.{Top}
-use Rattle.explanation.specs.declared.turns.Step.{Step}
-use Rattle.explanation.specs.declared.turns.Step.TheVariants.{On, Done, Loops, Full}
+use Rattle.explanation.specs.declared.turns.End.{End}
+use Rattle.explanation.specs.declared.turns.End.TheVariants.{Done, Loops, Full}
 use Rattle.explanation.specs.declared.walk.WalkAnswer.{WalkAnswer}
 
 -- what the walk asks of a packed plan: a kid's text is as long as the plan says, and the kids are counted, within the frames
@@ -111,7 +112,7 @@ unfoldable pub to_go : List ℕ → Top → ℕ
 to_go out t = measure (length out) t
 
 -- an answer with the text that it counts
-abbrev pub result_by : WalkAnswer → List ℕ → Result
+abbrev pub result_by : WalkAnswer → List ℕ → U.Result
 result_by r t = record { number = r.number; place = r.place; bytes = r.bytes; units = r.units; depth = r.depth; text = t }
 
 -- the contract: the machine's answer for this room, and every byte of it
@@ -125,8 +126,8 @@ pub answered_one : (T : Tables) (p k : List ℕ) (top : Bool) (out a b : List �
     → (r ≡ q) × (a ≡ b)
 answered_one T p k top out a b r q x y =
     let e = unique (plan_in p k) (lines_in T p k top) (solvable_in p) (start_in p) (length out) (result_by r x.text) (result_by q y.text) x.is y.is in (
-      ap (λ (z : Result). record { number = z.number; place = z.place; bytes = z.bytes; units = z.units; depth = z.depth }) e,
-      x.room.leaves ∙ ap (λ (z : Result). over z.text out) e ∙ sym y.room.leaves,
+      ap (λ (z : U.Result). record { number = z.number; place = z.place; bytes = z.bytes; units = z.units; depth = z.depth }) e,
+      x.room.leaves ∙ ap (λ (z : U.Result). over z.text out) e ∙ sym y.room.leaves,
     )
 
 -- where the walk begins
@@ -255,7 +256,7 @@ rest_fits T p k top fr seen t g out₀ out x h = let e = rest_length out t.at x.
 
 module _ (T : Tables) (p k : List ℕ) (top : Bool) (fr seen : List ℕ) (t : Top) (out₀ out : List ℕ) (g : Indenter) (x : Walking T p k top fr seen t g out₀ out)
     (h : Indenter) (sp : Stepped t g h)
-    (u : Top) (st : Step) (fr' seen' left : List ℕ) (q : WalkTurned T p k h t fr seen (rest out t.at) u st fr' seen' left) where
+    (r : Result Top End) (fr' seen' left : List ℕ) (q : WalkTurned T p k h t fr seen (rest out t.at) r fr' seen' left) where
   s : SoFar T p k top fr seen t out₀ out
   s = x.so_far_lem
 
@@ -273,7 +274,7 @@ module _ (T : Tables) (p k : List ℕ) (top : Bool) (fr seen : List ℕ) (t : To
 
   -- ---- the walk goes on
 
-  module _ (e : st ≡ On) where
+  module _ (u : Top) (e : r ≡ Ok u) where
     on : TurnedOn T p k h t fr seen (rest out t.at) u fr' seen' left
     unfolding WalkTurned
     on = rw e at q
@@ -335,7 +336,7 @@ module _ (T : Tables) (p k : List ℕ) (top : Bool) (fr seen : List ℕ) (t : To
   came_back : left ≡ rest out t.at → Wrote (text_of so) out₀ (back out t.at left) t.at
   came_back e = part_back left s.wrote e
 
-  done_at : st ≡ Done → Answered T p k top out₀ (back out t.at left) (answer_at 0 0 t)
+  done_at : r ≡ Err Done → Answered T p k top out₀ (back out t.at left) (answer_at 0 0 t)
   unfolding WalkTurned
   done_at e =
       let d : TurnedDone p k t fr (rest out t.at) left = rw e at q in
@@ -348,7 +349,7 @@ module _ (T : Tables) (p k : List ℕ) (top : Bool) (fr seen : List ℕ) (t : To
         room = came_back d.same;
       }
 
-  loops_at : (n : ℕ) → st ≡ Loops n → Answered T p k top out₀ (back out t.at left) (answer_at 11 (solvable_in p n) t)
+  loops_at : (n : ℕ) → r ≡ Err (Loops n) → Answered T p k top out₀ (back out t.at left) (answer_at 11 (solvable_in p n) t)
   unfolding WalkTurned
   loops_at n e =
       let d : TurnedLoops p k t fr (rest out t.at) n left = rw e at q in
@@ -361,12 +362,12 @@ module _ (T : Tables) (p k : List ℕ) (top : Bool) (fr seen : List ℕ) (t : To
         room = came_back d.same;
       }
 
-  r : Ready T p k
-  r = x.ready
+  ready : Ready T p k
+  ready = x.ready
 
-  full_at : st ≡ Full → Answered T p k top out₀ (back out t.at left) (answer_at 10 u.units u)
+  full_at : (u : Top) → r ≡ Err (Full u) → Answered T p k top out₀ (back out t.at left) (answer_at 10 u.units u)
   unfolding start_in WalkTurned
-  full_at e =
+  full_at u e =
       let f : TurnedFull T p k h t fr seen (rest out t.at) u left = rw e at q in
       let is : lines f.entry ≡ f.first ++ (f.line ∷ f.rest) = sym (ap (λ (b : Bool). lines_in T p k b f.entry) ht) ∙ f.is in
       let us : List TextUnit = lines_as P f.entry f.first in
@@ -378,7 +379,7 @@ module _ (T : Tables) (p k : List ℕ) (top : Bool) (fr seen : List ℕ) (t : To
         text = text_of (so_far P lines s.es f.entry f.first);
         is = end_full P lines (solvable_in p) (start_in p) (state (stack_in p k t fr) s.rep) s.es s.turns (length out₀) u.at u.units u.depth
             (text_of (so_far P lines s.es f.entry f.first))
-            (halts P r.G r.U r.counted (runs_in p 0)) f.entry f.goes (f.shown s.rep s.flags) f.first f.line f.rest is
+            (halts P ready.G ready.U ready.counted (runs_in p 0)) f.entry f.goes (f.shown s.rep s.flags) f.first f.line f.rest is
             y refl (let a = w.count in let b = w.fits in omega arith)
             (let a = f.over in let b = f.at in let c = rest_length out t.at (let x = same_length in let z = in_room in omega arith) in
             let d = same_length in omega arith);
@@ -388,13 +389,9 @@ module _ (T : Tables) (p k : List ℕ) (top : Bool) (fr seen : List ℕ) (t : To
   some_same : {A : Type 0} {x y : A} → ◌≡◌ {A = Option A} (some x) (some y) → x ≡ y
   some_same e = cc
 
-  none_some : {A X : Type 0} {x : A} → ◌≡◌ {A = Option A} none (some x) → X
-  none_some e = let z : ◌≡◌ {A = ℕ} 0 1 = cc in let y : ⊥ = omega arith in absurd y
-
   -- a turn that ends the walk gives the answer of its case
-  pub walk_ends : (y : Step) (a : WalkAnswer) → st ≡ y → told_of p y t u ≡ some a → Answered T p k top out₀ (back out t.at left) a
+  pub walk_ends : (y : End) (a : WalkAnswer) → r ≡ Err y → told_of p (Err y) t ≡ some a → Answered T p k top out₀ (back out t.at left) a
   unfolding told_of
-  walk_ends On a e i = none_some i
   walk_ends Done a e i = rw (← some_same i) (done_at e)
   walk_ends (Loops n) a e i = rw (← some_same i) (loops_at n e)
-  walk_ends Full a e i = rw (← some_same i) (full_at e)
+  walk_ends (Full u) a e i = rw (← some_same i) (full_at u e)

@@ -19,6 +19,10 @@ pub struct Top {
     pub depth: usize,
 }
 
+// A frame for each opened package (`pack`).
+// Kept: the project's rule: no heap, fixed memory.
+pub type Frames = [u32; 2080];
+
 // What becomes of a package whose turn it is.
 #[derive(Clone, Copy)]
 pub enum Verdict {
@@ -36,28 +40,19 @@ fn pack(n: usize, r: usize, k: usize) -> u32
 }
 
 // The package opened last, or the root.
-fn owner(fr: &[u32; 2080], d: usize) -> usize
+fn owner(fr: &Frames, d: usize) -> usize
     requires { d ≤ 2080 }
     ensures { result ≡ owner_in fr.now d }
 {
     if 0 < d { (fr[d - 1] % 256) as usize } else { 0 }
 }
 
-// The run before run r, whose kids wait where r is the first run that waits.
-fn before(r: usize) -> usize
-    ensures { result ≡ r - 1 }
-{
-    if 0 < r { r - 1 } else { 0 }
-}
-
 // Package n is opened above, with only unmerged ones between.
-fn below(p: &Scratch, fr: &[u32; 2080], d: usize, n: usize) -> bool
+fn below(p: &Scratch, fr: &Frames, d: usize, n: usize) -> bool
     requires { d ≤ 2080 }
     ensures { result ≡ below_in p.now (branch_in fr.now d) n }
 {
-    let mut j = d;
-    while 0 < j {
-        j -= 1;
+    for j in (0..d).rev() {
         let m = (fr[j] % 256) as usize;
         if plan::merged(p, m) {
             return false;
@@ -70,7 +65,7 @@ fn below(p: &Scratch, fr: &[u32; 2080], d: usize, n: usize) -> bool
 }
 
 // A later package of a reported group is skipped, and one that would be opened below itself ends the walk (lines 1066 to 1077).
-pub fn judge(p: &Scratch, fr: &[u32; 2080], seen: &mut [u8; 128], d: usize, n: usize) -> Verdict
+pub fn judge(p: &Scratch, fr: &Frames, seen: &mut [u8; 128], d: usize, n: usize) -> Verdict
     requires d_bound { d ≤ 2080 }
     requires seen_len { length seen.old ≡ 128 }
     ensures { Judged p.now fr.now d n seen.old seen.new result }
@@ -92,69 +87,44 @@ pub fn judge(p: &Scratch, fr: &[u32; 2080], seen: &mut [u8; 128], d: usize, n: u
     Verdict::Show
 }
 
-fn larger(a: usize, b: usize) -> usize
-    ensures { result ≡ max a b }
-{
-    if a < b { b } else { a }
-}
-
 // Behind the line of package n: it is opened, or the next kid comes up.
-pub fn enter(p: &Scratch, fr: &mut [u32; 2080], t: Top, n: usize) -> Top
+pub fn enter(p: &Scratch, fr: &mut Frames, t: Top, n: usize) -> Top
     requires small { Small p.now fr.old t }
     requires fr_len { length fr.old ≡ 2080 }
     requires k_lt_ke { (t.k < t.ke) × ((n < 128) × (t.d < 2079)) }
     ensures { (k : List ℕ) → Entered p.now k t n fr.old result fr.new }
 {
-    let d = t.d;
     let k = t.k + 1;
-    if plan::opens(p, n) {
-        fr[d] = pack(n, t.r, k);
-        let r = plan::run_first(p, n);
-        let re = plan::run_end(p, n);
-        let depth = larger(t.depth, d + 1);
-        return Top {
-            r,
-            re,
-            k: 0,
-            ke: 0,
-            d: d + 1,
-            at: t.at,
-            units: t.units,
-            depth,
-        };
+    if !plan::opens(p, n) {
+        return Top { k, ..t };
     }
+    fr[t.d] = pack(n, t.r, k);
+    let d = t.d + 1;
     Top {
-        r: t.r,
-        re: t.re,
-        k,
-        ke: t.ke,
+        r: plan::run_first(p, n),
+        re: plan::run_end(p, n),
+        k: 0,
+        ke: 0,
         d,
-        at: t.at,
-        units: t.units,
-        depth: t.depth,
+        depth: t.depth.max(d),
+        ..t
     }
 }
 
 // The package opened last has nothing pending.
-pub fn pop(p: &Scratch, fr: &[u32; 2080], t: Top) -> Top
+pub fn pop(p: &Scratch, fr: &Frames, t: Top) -> Top
     requires { (0 < t.d) × (t.d ≤ 2079) }
     ensures { Popped p.now fr.now t result }
 {
     let d = t.d - 1;
-    let m = owner(fr, d);
-    let re = plan::run_end(p, m);
     let w = fr[d];
     let r = (w / 256 % 2048) as usize;
-    let x = before(r);
-    let ke = plan::kid_end(p, x);
     Top {
         r,
-        re,
+        re: plan::run_end(p, owner(fr, d)),
         k: (w / 524288 % 2048) as usize,
-        ke,
+        ke: plan::kid_end(p, r.saturating_sub(1)),
         d,
-        at: t.at,
-        units: t.units,
-        depth: t.depth,
+        ..t
     }
 }

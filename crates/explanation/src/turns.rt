@@ -9,75 +9,51 @@ ghost use Rattle.texts.specs.MarkBits.{marks_in};
 ghost use Rattle.plan.specs.Fields.{text_length, runs_from};
 ghost use Rattle.plan.specs.Texts.{package_in};
 ghost use Rattle.explanation.specs.Stand.{indenter_at, next_kid, next_run, Small, Level, Stepped, runs_at, kids_at, frames_at};
-ghost use Rattle.explanation.specs.Turned.{Settled, ShowTurned, Known, Framed, WalkTurned};
+ghost use Rattle.explanation.specs.Turned.{moved, ShowTurned, Known, Framed, WalkTurned};
 
-use super::frames::{Top, Verdict, enter, judge, pop};
+use super::frames::{Frames, Top, Verdict, enter, judge, pop};
 use index::Slots;
 use lines::sets::Part;
 use store::Scratch;
 use texts::marks::put_level;
 
-// How a turn ends: the walk goes on, it is done (0), this package would be opened below itself (11), or the next line does not fit (10);
-// `told_of` (specs/Ends.antt) lists the answers.
+// Why the walk does not go on behind a turn: it is done (0), this package would be opened below itself (11), or the next line does not fit
+// (10), and it stands here then; `told_of` (specs/Ends.antt) lists the answers.
 #[derive(Clone, Copy)]
-pub enum Step {
-    On,
+pub enum End {
     Done,
     Loops(usize),
-    Full,
+    Full(Top),
 }
 
-#[derive(Clone, Copy)]
-pub struct Move {
-    pub top: Top,
-    pub step: Step,
-}
-
-// Behind the lines of package n, as far as they came.
-fn settled(p: &Scratch, fr: &mut [u32; 2080], t: Top, n: usize, s: Part) -> Move
-    requires small { Small p.now fr.old t }
-    requires fr_len { length fr.old ≡ 2080 }
-    requires k_lt_ke { (t.k < t.ke) × ((n < 128) × (t.d < 2079)) }
+// Behind the lines of a package, as far as they came.
+fn behind(t: Top, s: Part) -> Top
+    requires units_bound { t.units ≤ t.at }
     requires bytes_bound { (t.at + s.bytes < 18446744073709551616) × (s.units ≤ s.bytes) }
-    ensures { Settled p.now t n fr.old s.bytes s.units s.full result.top result.step fr.new }
+    ensures { result ≡ moved t s.bytes s.units }
 {
-    let u = Top {
-        r: t.r,
-        re: t.re,
-        k: t.k,
-        ke: t.ke,
-        d: t.d,
+    Top {
         at: t.at + s.bytes,
         units: t.units + s.units,
-        depth: t.depth,
-    };
-    if s.full {
-        return Move {
-            top: u,
-            step: Step::Full,
-        };
-    }
-    let v = enter(p, fr, u, n);
-    Move {
-        top: v,
-        step: Step::On,
+        ..t
     }
 }
 
 // Package n, the next kid, is shown, and opened if it opens.
+// Kept: the new form is no plainer: `lines`, `display` and `views` take file, index, plan and kids one by one, so a struct is taken apart at each call.
 fn show(
     file: &[u8],
     ix: &Slots,
     p: &Scratch,
     k: &[u16; 1024],
-    fr: &mut [u32; 2080],
+    fr: &mut Frames,
     out: &mut [u8],
     levels: &[u64; 65],
     count: usize,
     top: bool,
     t: Top,
     n: usize,
-) -> Move
+) -> Result<Top, End>
     requires loaded { Loaded file.now ix.now }
     requires small { Small p.now fr.old t }
     requires fr_len { length fr.old ≡ 2080 }
@@ -87,10 +63,12 @@ fn show(
         ≡ kid_marks (runs_at p.now k.now t fr.old) (kids_at p.now k.now t fr.old) (frames_at p.now k.now t fr.old)) }
     requires n_value { text_length p.now n ≡ length (package_in (tables_of file.now) p.now n) }
     ensures { ShowTurned (tables_of file.now) p.now k.now (indenter_at levels.now count top) t n
-        fr.old out.old result.top result.step fr.new out.new }
+        fr.old out.old result fr.new out.new }
 {
-    let s = lines::sets::package_lines(file, ix, p, k, out, levels, count, top, n);
-    settled(p, fr, t, n, s)
+    match lines::sets::package_lines(file, ix, p, k, out, levels, count, top, n) {
+        Ok(s) => Ok(enter(p, fr, behind(t, s), n)),
+        Err(s) => Err(End::Full(behind(t, s))),
+    }
 }
 
 // The next kid is passed over.
@@ -98,16 +76,7 @@ fn next_kid(t: Top) -> Top
     requires { t.k < 2048 }
     ensures { result ≡ next_kid t }
 {
-    Top {
-        r: t.r,
-        re: t.re,
-        k: t.k + 1,
-        ke: t.ke,
-        d: t.d,
-        at: t.at,
-        units: t.units,
-        depth: t.depth,
-    }
+    Top { k: t.k + 1, ..t }
 }
 
 // The next kid's turn (lines 1063 to 1180).
@@ -116,14 +85,14 @@ fn kid_turn(
     ix: &Slots,
     p: &Scratch,
     k: &[u16; 1024],
-    fr: &mut [u32; 2080],
+    fr: &mut Frames,
     seen: &mut [u8; 128],
     out: &mut [u8],
     levels: &[u64; 65],
     count: usize,
     top: bool,
     t: Top,
-) -> Move
+) -> Result<Top, End>
     requires loaded { Loaded file.now ix.now }
     requires small { Small p.now fr.old t }
     requires fr_len { (length fr.old ≡ 2080) × (length seen.old ≡ 128) }
@@ -134,27 +103,13 @@ fn kid_turn(
     requires known { Known (tables_of file.now) p.now k.now t }
     requires framed { Framed p.now k.now fr.old seen.old t }
     ensures { WalkTurned (tables_of file.now) p.now k.now (indenter_at levels.now count top) t
-        fr.old seen.old out.old result.top result.step fr.new seen.new out.new }
+        fr.old seen.old out.old result fr.new seen.new out.new }
 {
     let n = plan::kid_at(k, t.k);
-    let v = judge(p, fr, seen, t.d, n);
-    match v {
-        Verdict::Skip => {
-            let u = next_kid(t);
-            return Move {
-                top: u,
-                step: Step::On,
-            };
-        }
-        Verdict::Repeat => {
-            return Move {
-                top: t,
-                step: Step::Loops(n),
-            };
-        }
-        Verdict::Show => {
-            return show(file, ix, p, k, fr, out, levels, count, top, t, n);
-        }
+    match judge(p, fr, seen, t.d, n) {
+        Verdict::Skip => Ok(next_kid(t)),
+        Verdict::Repeat => Err(End::Loops(n)),
+        Verdict::Show => show(file, ix, p, k, fr, out, levels, count, top, t, n),
     }
 }
 
@@ -169,13 +124,11 @@ fn next_run(p: &Scratch, t: Top, b: usize) -> Top
     let end = plan::kid_end(p, x);
     Top {
         r: x + 1,
-        re: t.re,
         k: first,
         ke: end,
-        d: t.d,
         at: t.at + b,
         units: t.units + 1,
-        depth: t.depth,
+        ..t
     }
 }
 
@@ -185,13 +138,13 @@ fn run_turn(
     ix: &Slots,
     p: &Scratch,
     k: &[u16; 1024],
-    fr: &[u32; 2080],
+    fr: &Frames,
     out: &mut [u8],
     levels: &[u64; 65],
     count: usize,
     top: bool,
     t: Top,
-) -> Move
+) -> Result<Top, End>
     requires loaded { Loaded file.now ix.now }
     requires small { Small p.now fr.now t }
     requires ke_le_k { (t.ke ≤ t.k) × (t.r < t.re) }
@@ -199,22 +152,14 @@ fn run_turn(
     requires count_bound { (count ≤ 4160) × (marks_in (indenter_at levels.now count top)
         ≡ is_nil (runs_from (t.r + 1) t.re) ∷ F.marks_of (frames_at p.now k.now t fr.now)) }
     ensures { (seen : List ℕ) → WalkTurned (tables_of file.now) p.now k.now (indenter_at levels.now count top)
-        t fr.now seen out.old result.top result.step fr.now seen out.new }
+        t fr.now seen out.old result fr.now seen out.new }
 {
     let x = t.r;
     let w = plan::wording(p, x);
     let q = plan::requirement(p, x);
-    let b = lines::run::run_line(file, ix, out, levels, count, top, w, q);
-    if 0 < b {
-        let u = next_run(p, t, b);
-        return Move {
-            top: u,
-            step: Step::On,
-        };
-    }
-    Move {
-        top: t,
-        step: Step::Full,
+    match lines::run::run_line(file, ix, out, levels, count, top, w, q) {
+        Some(b) => Ok(next_run(p, t, b)),
+        None => Err(End::Full(t)),
     }
 }
 
@@ -224,14 +169,14 @@ pub fn turn(
     ix: &Slots,
     p: &Scratch,
     k: &[u16; 1024],
-    fr: &mut [u32; 2080],
+    fr: &mut Frames,
     seen: &mut [u8; 128],
     out: &mut [u8],
     levels: &[u64; 65],
     count: usize,
     top: bool,
     t: Top,
-) -> Move
+) -> Result<Top, End>
     requires loaded { Loaded file.now ix.now }
     requires small { Small p.now fr.old t }
     requires fr_len { (length fr.old ≡ 2080) × (length seen.old ≡ 128) }
@@ -240,7 +185,7 @@ pub fn turn(
     requires known { Known (tables_of file.now) p.now k.now t }
     requires framed { Framed p.now k.now fr.old seen.old t }
     ensures { WalkTurned (tables_of file.now) p.now k.now (indenter_at levels.now count top) t
-        fr.old seen.old out.old result.top result.step fr.new seen.new out.new }
+        fr.old seen.old out.old result fr.new seen.new out.new }
 {
     if t.k < t.ke {
         return kid_turn(file, ix, p, k, fr, seen, out, levels, count, top, t);
@@ -249,16 +194,9 @@ pub fn turn(
         return run_turn(file, ix, p, k, fr, out, levels, count, top, t);
     }
     if 0 < t.d {
-        let u = pop(p, fr, t);
-        return Move {
-            top: u,
-            step: Step::On,
-        };
+        return Ok(pop(p, fr, t));
     }
-    Move {
-        top: t,
-        step: Step::Done,
-    }
+    Err(End::Done)
 }
 
 // The levels of the next entry in the lent marks: back at its level, with its mark; `top` is the option. The answer is how many are held.

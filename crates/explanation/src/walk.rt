@@ -1,19 +1,19 @@
 // The whole walk (conflict.rs, lines 893 to 1186).
-ghost use Rattle.std.specs.Prelude.{◌≡◌, [], length};
+ghost use Rattle.std.specs.Prelude.{◌≡◌, [], length, Err};
 ghost use Rattle.std.proofs.Math.Option.{some};
 ghost use Rattle.records.specs.Read.{tables_of};
 ghost use Rattle.index.specs.Index.{Loaded};
 ghost use Rattle.explanation.specs.Ends.{answer_at, told_of};
 ghost use Rattle.explanation.specs.Judge.{Flags};
 ghost use Rattle.explanation.specs.Walk.{Ready, Answered};
-ghost use Rattle.explanation.specs.declared.turns.Step.TheVariants.{Done, Loops, Full};
 
-use super::frames::Top;
-use super::turns::{Step, level, turn};
+use super::frames::{Frames, Top};
+use super::turns::{End, level, turn};
 use index::Slots;
 use store::Scratch;
 
 // "An answer holds number, place, bytes, units, depth".
+// Kept: the C interface: the number of an answer, which the calls hand on to C as it is (`result_by`, `told_as`).
 #[derive(Clone, Copy)]
 pub struct WalkAnswer {
     pub number: u64,
@@ -36,26 +36,15 @@ fn answer(number: u64, place: usize, t: Top) -> WalkAnswer
     }
 }
 
-// The walk is done; it stood at t before the turn and stands at u.
-fn done(p: &Scratch, t: Top, u: Top) -> WalkAnswer
-    ensures { told_of p.now Done t u ≡ some result }
+// The walk ends in the turn that began at t.
+fn ended(p: &Scratch, e: End, t: Top) -> WalkAnswer
+    ensures { told_of p.now (Err e) t ≡ some result }
 {
-    answer(0, 0, t)
-}
-
-// Package n would be opened below itself.
-fn looped(p: &Scratch, n: usize, t: Top, u: Top) -> WalkAnswer
-    ensures { told_of p.now (Loops n) t u ≡ some result }
-{
-    let place = basis::wide16(plan::solvable(p, n));
-    answer(11, place, t)
-}
-
-// The next line does not fit.
-fn full(p: &Scratch, t: Top, u: Top) -> WalkAnswer
-    ensures { told_of p.now Full t u ≡ some result }
-{
-    answer(10, u.units, u)
+    match e {
+        End::Done => answer(0, 0, t),
+        End::Loops(n) => answer(11, usize::from(plan::solvable(p, n)), t),
+        End::Full(u) => answer(10, u.units, u),
+    }
 }
 
 // The walk over lent frames, flags and marks.
@@ -64,7 +53,7 @@ fn walk_plan(
     ix: &Slots,
     p: &Scratch,
     k: &[u16; 1024],
-    fr: &mut [u32; 2080],
+    fr: &mut Frames,
     seen: &mut [u8; 128],
     levels: &mut [u64; 65],
     out: &mut [u8],
@@ -90,7 +79,7 @@ fn walk_plan(
     loop {
         count = level(levels, count, top, t);
         let at = t.at;
-        let m = turn(
+        match turn(
             file,
             ix,
             p,
@@ -102,21 +91,12 @@ fn walk_plan(
             count,
             top,
             t,
-        );
-        let s = m.step;
-        let u = m.top;
-        match s {
-            Step::On => {
+        ) {
+            Ok(u) => {
                 t = u;
             }
-            Step::Done => {
-                return done(p, t, u);
-            }
-            Step::Loops(n) => {
-                return looped(p, n, t, u);
-            }
-            Step::Full => {
-                return full(p, t, u);
+            Err(e) => {
+                return ended(p, e, t);
             }
         }
     }

@@ -11,48 +11,60 @@ ghost use Rattle.expansion.specs.State.{build_in, Holds};
 ghost use Rattle.graph.specs.Graphs.{is_learnt, reached_all, graph_of};
 ghost use Rattle.graph.specs.Working.{core_turn_in, turn_at_in, build_from_in, left_of};
 ghost use Rattle.graph.specs.Drawing.{hand_work, Turns, Builds, Drew};
-ghost use Rattle.graph.specs.Files.{Makes, made_of};
+ghost use Rattle.graph.specs.declared.Refusal.TheVariants.{NoRoom};
+ghost use Rattle.graph.specs.Files.{Makes, made_of, number_of};
 ghost use Rattle.graph.specs.Checked.{Checks, MakesFor};
 
-use expansion::{Progress, Work};
+use expansion::Work;
 use index::Slots;
-use linking::Grown;
-use records::Clause;
-use store::{ChainWords, GraphWords, Scratch, Size};
+use records::{Clause, Refused};
+use store::{ChainWords, Full, GraphWords, Scratch, Size};
 
-// Where one clause led: on, or to a refusal's number.
-#[derive(Clone, Copy)]
-pub enum Turn {
-    On(Work),
-    Refused(u64, Size),
+// Why a file that reads well has no graph (document 01, "Refusal numbers").
+#[derive(Clone, Copy, PartialEq, Eq)]
+pub enum Refusal {
+    Learnt,
+    NoRoom,
+    Unreached,
 }
 
-// Where the core led: to its end, or to a refusal's number and the clause.
-#[derive(Clone, Copy)]
-pub enum Core {
-    Whole(Work),
-    Refused(u64, u64, Size),
+impl Refusal {
+    // Its number in document 01.
+    pub fn number(self) -> u64
+        ensures { result ≡ number_of self }
+    {
+        match self {
+            Refusal::Learnt => 7,
+            Refusal::NoRoom => 8,
+            Refusal::Unreached => 9,
+        }
+    }
 }
 
-// The graph, or a refusal's number and place; with how much the table holds.
+// Where a clause is refused: why, and how much the table holds.
 #[derive(Clone, Copy)]
-pub enum Drawing {
-    Whole(Size),
-    Refused(u64, u64, Size),
+pub struct Halt {
+    pub refusal: Refusal,
+    pub size: Size,
 }
 
-// What a file makes: its graph, or one of the refusals 1 to 9 with its place.
-#[derive(Clone, Copy)]
-pub enum Made {
-    Whole(Size),
-    Refused(u64, u64),
+impl From<Full> for Halt {
+    ghost from_gives = { λ f h. h ≡ record { refusal = NoRoom; size = f.size } };
+
+    fn from(f: Full) -> Halt {
+        Halt {
+            refusal: Refusal::NoRoom,
+            size: f.size,
+        }
+    }
 }
 
-// A number as an answer holds it.
-fn number(i: usize) -> u64
-    ensures { result ≡ i }
-{
-    i as u64
+// Where drawing is refused: why, at which clause or node, and how much the table holds.
+#[derive(Clone, Copy)]
+pub struct Stop {
+    pub refusal: Refusal,
+    pub place: u64,
+    pub size: Size,
 }
 
 fn is_learnt(c: Clause) -> bool
@@ -81,21 +93,20 @@ fn core_turn(
     ls: &mut ChainWords,
     k: Work,
     c: Clause,
-) -> Turn
+) -> Result<Work, Halt>
     requires loaded { Loaded file.now ix.now }
     requires holds { Holds g.old tr.old ls.old k }
     ensures { Turns (core_turn_in (tables_of file.now) c (build_in g.old tr.old ls.old k)) g.new
         tr.new ls.new result }
 {
     if is_learnt(c) {
-        let s = k.size;
-        return Turn::Refused(7, s);
+        return Err(Halt {
+            refusal: Refusal::Learnt,
+            size: k.size,
+        });
     }
-    let d = expansion::expand(file, ix, g, tr, ls, k, c);
-    match d {
-        Progress::On(m) => Turn::On(m),
-        Progress::Full(z) => Turn::Refused(8, z),
-    }
+    let m = expansion::expand(file, ix, g, tr, ls, k, c)?;
+    Ok(m)
 }
 
 // A Requires of the core, by its links alone. The sizes are taken field by field: a copy of the whole would wait for its parts.
@@ -108,7 +119,7 @@ fn requires_turn(
     k: Work,
     a: u16,
     q: u16,
-) -> Turn
+) -> Result<Work, Halt>
     requires loaded { Loaded file.now ix.now }
     requires holds { Holds g.old tr.now ls.now k }
     ensures { Turns (core_turn_in (tables_of file.now) (Clause.Requires a q) (build_in g.old tr.now ls.now k))
@@ -116,25 +127,15 @@ fn requires_turn(
 {
     let s = k.size;
     let n = k.triples;
-    let r = linking::expand_requires(file, ix, g, s, a, q);
-    match r {
-        Grown::On(t) => Turn::On(Work {
-            size: Size {
-                nodes: t.nodes,
-                edges: t.edges,
-                hand: t.hand,
-            },
-            triples: n,
-        }),
-        Grown::Full(t) => Turn::Refused(
-            8,
-            Size {
-                nodes: t.nodes,
-                edges: t.edges,
-                hand: t.hand,
-            },
-        ),
-    }
+    let t = linking::expand_requires(file, ix, g, s, a, q)?;
+    Ok(Work {
+        size: Size {
+            nodes: t.nodes,
+            edges: t.edges,
+            hand: t.hand,
+        },
+        triples: n,
+    })
 }
 
 // A clause of the core; most are Requires.
@@ -146,7 +147,7 @@ fn clause_turn(
     ls: &mut ChainWords,
     k: Work,
     c: Clause,
-) -> Turn
+) -> Result<Work, Halt>
     requires loaded { Loaded file.now ix.now }
     requires holds { Holds g.old tr.old ls.old k }
     ensures { Turns (core_turn_in (tables_of file.now) c (build_in g.old tr.old ls.old k)) g.new
@@ -184,7 +185,7 @@ fn turn_at(
     ls: &mut ChainWords,
     k: Work,
     i: usize,
-) -> Turn
+) -> Result<Work, Halt>
     requires loaded { Loaded file.now ix.now }
     requires holds { Holds g.old tr.old ls.old k }
     requires i_bound { i < 1024 }
@@ -196,7 +197,7 @@ fn turn_at(
         let m = at_hand(k, i);
         return clause_turn(file, ix, g, tr, ls, m, c);
     }
-    Turn::On(k)
+    Ok(k)
 }
 
 // The first n clauses.
@@ -208,7 +209,7 @@ fn build_core(
     tr: &mut Scratch,
     ls: &mut ChainWords,
     k: Work,
-) -> Core
+) -> Result<Work, Stop>
     requires loaded { Loaded file.now ix.now }
     requires holds { Holds g.old tr.old ls.old k }
     requires n_bound { n ≤ 1024 }
@@ -216,40 +217,40 @@ fn build_core(
         tr.new ls.new result }
 {
     let mut m = k;
-    let mut i: usize = 0;
-    while i < n {
-        let d = turn_at(file, ix, g, tr, ls, m, i);
-        match d {
-            Turn::Refused(q, z) => {
-                let p = number(i);
-                return Core::Refused(q, p, z);
+    for i in 0..n {
+        m = match turn_at(file, ix, g, tr, ls, m, i) {
+            Ok(z) => z,
+            Err(h) => {
+                return Err(Stop {
+                    refusal: h.refusal,
+                    place: i as u64,
+                    size: h.size,
+                });
             }
-            Turn::On(z) => {
-                m = z;
-                i += 1;
-            }
-        }
+        };
     }
-    Core::Whole(m)
+    Ok(m)
 }
 
 // The chains, then 9.
-fn by_chains(g: &GraphWords, ls: &mut ChainWords, t: Size) -> Drawing
+fn by_chains(g: &GraphWords, ls: &mut ChainWords, t: Size) -> Result<Size, Stop>
     requires stored { Stored g.now t }
     requires ls_len { length ls.old ≡ 3456 }
     ensures { Drew true (reached_all (graph_in g.now t)) (graph_in g.now t) g.now ls.new result }
 {
     links::chain(g, t, ls);
-    let u = links::reach::lowest_unreached(g, t, ls);
-    if u == 0 {
-        return Drawing::Whole(t);
+    match links::reach::lowest_unreached(g, t, ls) {
+        None => Ok(t),
+        Some(n) => Err(Stop {
+            refusal: Refusal::Unreached,
+            place: n as u64,
+            size: t,
+        }),
     }
-    let p = number(u - 1);
-    Drawing::Refused(9, p, t)
 }
 
 // Unresolved may go, then 9. Where no chains are asked for, one pass over the edges does, or they are made for 9 alone.
-fn finish(g: &mut GraphWords, ls: &mut ChainWords, s: Size, chains: bool) -> Drawing
+fn finish(g: &mut GraphWords, ls: &mut ChainWords, s: Size, chains: bool) -> Result<Size, Stop>
     requires growing { Growing g.old s }
     requires ls_len { length ls.old ≡ 3456 }
     ensures { Drew chains (reached_all (settle (graph_in g.old s))) (settle (graph_in g.old s)) g.new ls.new result }
@@ -259,7 +260,7 @@ fn finish(g: &mut GraphWords, ls: &mut ChainWords, s: Size, chains: bool) -> Dra
         return by_chains(g, ls, t);
     }
     if links::reach::swept(g, t) {
-        return Drawing::Whole(t);
+        return Ok(t);
     }
     by_chains(g, ls, t)
 }
@@ -273,7 +274,7 @@ fn build(
     tr: &mut Scratch,
     ls: &mut ChainWords,
     chains: bool,
-) -> Drawing
+) -> Result<Size, Stop>
     requires loaded { Loaded file.now ix.now }
     requires n_value { n ≡ length (tables_of file.now).clauses }
     requires g_value { g.old ≡ replicate 1152 0 }
@@ -286,22 +287,19 @@ fn build(
         size: s,
         triples: 0,
     };
-    let r = build_core(file, ix, n, g, tr, ls, k);
-    match r {
-        Core::Refused(q, i, z) => Drawing::Refused(q, i, z),
-        Core::Whole(m) => {
-            let z = m.size;
-            finish(g, ls, z, chains)
-        }
-    }
+    let m = build_core(file, ix, n, g, tr, ls, k)?;
+    finish(g, ls, m.size, chains)
 }
 
-fn made_of(d: Drawing) -> Made
+fn made_of(d: Result<Size, Stop>) -> Result<Size, Refused>
     ensures { result ≡ made_of d }
 {
     match d {
-        Drawing::Whole(s) => Made::Whole(s),
-        Drawing::Refused(k, i, _) => Made::Refused(k, i),
+        Ok(s) => Ok(s),
+        Err(e) => Err(Refused {
+            number: e.refusal.number(),
+            place: e.place,
+        }),
     }
 }
 
@@ -313,22 +311,17 @@ fn make(
     tr: &mut Scratch,
     ls: &mut ChainWords,
     chains: bool,
-) -> Made
+) -> Result<Size, Refused>
     requires blank { Blank ix.old }
     requires g_value { g.old ≡ replicate 1152 0 }
     requires tr_len { length tr.old ≡ 1280 }
     requires ls_value { ls.old ≡ replicate 3456 0 }
     ensures { MakesFor chains file.now ix.new g.new ls.new result }
 {
-    let a = index::load(file, ix);
-    match a {
-        records::ReadAnswer::Refused { number, place } => Made::Refused(number, place),
-        records::ReadAnswer::Accepted(c) => {
-            let n = c.clauses;
-            let d = build(file, ix, n, g, tr, ls, chains);
-            made_of(d)
-        }
-    }
+    let c = index::load(file, ix)?;
+    let n = c.clauses;
+    let d = build(file, ix, n, g, tr, ls, chains);
+    made_of(d)
 }
 
 // From bytes to the graph: every call begins here, or at `check_file`. The tables come as fresh arrays; on a refusal they are of no use.
@@ -338,7 +331,7 @@ pub fn of_file(
     g: &mut GraphWords,
     tr: &mut Scratch,
     ls: &mut ChainWords,
-) -> Made
+) -> Result<Size, Refused>
     requires blank { Blank ix.old }
     requires g_value { g.old ≡ replicate 1152 0 }
     requires tr_len { length tr.old ≡ 1280 }
@@ -355,7 +348,7 @@ pub fn check_file(
     g: &mut GraphWords,
     tr: &mut Scratch,
     ls: &mut ChainWords,
-) -> Made
+) -> Result<Size, Refused>
     requires blank { Blank ix.old }
     requires g_value { g.old ≡ replicate 1152 0 }
     requires tr_len { length tr.old ≡ 1280 }

@@ -1,5 +1,6 @@
 -- Comparing two texts byte by byte.
-use Rattle.std.specs.Prelude.{◌≡◌, ℕ, ◌+◌, ◌<◌, ◌≤◌, Bool, true, false, List, [], ◌∷◌, length, drop, ◌≢◌, slice_index, slice_index_or, refl}
+use Rattle.std.specs.Prelude.{◌≡◌, ℕ, ◌+◌, ◌<◌, ◌≤◌, Bool, true, false, List, [], ◌∷◌, length, drop, ◌≢◌, nat_eq, slice_index, slice_index_or, refl}
+use Rattle.std.specs.Cmp.Lexicographic.{pointwise}
 use Rattle.std.proofs.Math.Path.{sym}
 use Rattle.std.proofs.Common.{ap, ◌∙◌, add-one, drop_of_length-le}
 use native.Mathlib.Omega.{arith}
@@ -34,3 +35,10 @@ module _ (a b : List ℕ) (i : ℕ) (Z : Bool) (e : text_left a b i ≡ Z) (h : 
 pub text_end : (a b : List ℕ) (i : ℕ) (Z : Bool) → text_left a b i ≡ Z → length a ≤ i → length a ≡ length b → true ≡ Z
 unfolding text_left
 text_end a b i Z e h l = sym (sym e ∙ rw (drop_of_length-le a h, drop_of_length-le b (let z : length b ≤ i = omega arith in z)))
+
+-- `==` on slices, pointwise, says the same
+pub text_pointwise : (a b : List ℕ) → pointwise nat_eq a b ≡ eq_list a b
+text_pointwise [] [] = refl
+text_pointwise [] (y ∷ b) = refl
+text_pointwise (x ∷ a) [] = refl
+text_pointwise (x ∷ a) (y ∷ b) = split (nat_eq x y) (λ t. rw (t, pointwise, eq_list) (text_pointwise a b)) (λ t. rw (t, pointwise, eq_list))

@@ -1,9 +1,9 @@
 // A node's edges as keys (requirement or none, other end), outgoing where `d`, else incoming, and their comparison as sorted
 // lists without sorting: equal beginnings are skipped, and each key that is left is counted on both sides.
-ghost use Rattle.std.specs.Prelude.{◌≡◌, ◌<◌, ◌≤◌, length, ◌==◌};
+ghost use Rattle.std.specs.Prelude.{◌≡◌, ◌<◌, ◌≤◌, length};
 ghost use Rattle.store.specs.Table.{graph_in};
 ghost use Rattle.links.specs.Build.{Chains};
-ghost use Rattle.groups.specs.Multi.{bump, count};
+ghost use Rattle.groups.specs.Multi.{count};
 ghost use Rattle.groups.specs.Keys.{keys_in, first_key, next_key, key_at, Way, Skipped, even_left, same_in, same_edges};
 
 use store::{ChainWords, GraphWords, Size};
@@ -15,28 +15,26 @@ struct Ends {
     right: usize,
 }
 
-fn wide64(x: usize) -> u64
-    ensures { result ≡ x }
-{
-    x as u64
-}
-
+// Kept: the new form is no plainer: two reads of a chain, each of the side that `d` names, as `first_key` and `next_key` say.
 fn first(ls: &ChainWords, d: bool, n: usize) -> usize
     ensures { (result ≡ first_key ls.now d n) × (result < 65536) }
 {
     if d {
-        return links::first_out(ls, n);
+        links::first_out(ls, n)
+    } else {
+        links::first_in(ls, n)
     }
-    links::first_in(ls, n)
 }
 
+// Kept: the new form is no plainer: see `first`.
 fn next(ls: &ChainWords, d: bool, e: usize) -> usize
     ensures { (result ≡ next_key ls.now d e) × (result < 65536) }
 {
     if d {
-        return links::next_out(ls, e);
+        links::next_out(ls, e)
+    } else {
+        links::next_in(ls, e)
     }
-    links::next_in(ls, e)
 }
 
 pub fn key_at(g: &GraphWords, d: bool, e: usize) -> u64
@@ -44,20 +42,10 @@ pub fn key_at(g: &GraphWords, d: bool, e: usize) -> u64
 {
     let q = store::requires_at(g, e);
     if d {
-        let t = wide64(store::target_at(g, e));
-        return q * 256 + t;
+        q * 256 + store::target_at(g, e) as u64
+    } else {
+        q * 256 + store::source_at(g, e) as u64
     }
-    let t = wide64(store::source_at(g, e));
-    q * 256 + t
-}
-
-fn is(k: u64, x: u64) -> usize
-    ensures { (result ≡ bump (k == x) 0) × (result ≤ 1) }
-{
-    if k == x {
-        return 1;
-    }
-    0
 }
 
 // How often key k stands among n's.
@@ -70,8 +58,7 @@ fn count_of(g: &GraphWords, s: Size, ls: &ChainWords, d: bool, n: usize, k: u64)
     let mut c: usize = 0;
     while 0 < e {
         let i = e - 1;
-        let x = key_at(g, d, i);
-        c += is(k, x);
+        c += usize::from(k == key_at(g, d, i));
         e = next(ls, d, i);
     }
     c
@@ -107,9 +94,7 @@ fn skip(g: &GraphWords, s: Size, ls: &ChainWords, d: bool, m: usize, n: usize) -
         }
         let i = a - 1;
         let j = b - 1;
-        let x = key_at(g, d, i);
-        let y = key_at(g, d, j);
-        if x != y {
+        if key_at(g, d, i) != key_at(g, d, j) {
             return Ends { left: a, right: b };
         }
         a = next(ls, d, i);
@@ -137,9 +122,7 @@ fn even_from(
     while 0 < e {
         let i = e - 1;
         let k = key_at(g, d, i);
-        let x = count_of(g, s, ls, d, m, k);
-        let y = count_of(g, s, ls, d, n, k);
-        if x != y {
+        if count_of(g, s, ls, d, m, k) != count_of(g, s, ls, d, n, k) {
             return false;
         }
         e = next(ls, d, i);
@@ -154,17 +137,10 @@ fn same_keys(g: &GraphWords, s: Size, ls: &ChainWords, d: bool, m: usize, n: usi
     ensures { result ≡ same_in (graph_in g.now s) d m n }
 {
     let p = skip(g, s, ls, d, m, n);
-    let a = p.left;
-    let b = p.right;
-    if a == 0 {
-        return b == 0;
+    if p.left == 0 {
+        return p.right == 0;
     }
-    let x = degree(g, s, ls, d, m);
-    let y = degree(g, s, ls, d, n);
-    if x != y {
-        return false;
-    }
-    even_from(g, s, ls, d, m, n, a)
+    degree(g, s, ls, d, m) == degree(g, s, ls, d, n) && even_from(g, s, ls, d, m, n, p.left)
 }
 
 // The full comparison: m's and n's incoming and outgoing edges are equal as sorted lists.
@@ -173,9 +149,5 @@ pub fn same_edges(g: &GraphWords, s: Size, ls: &ChainWords, m: usize, n: usize) 
     requires m_lt_nodes { (m < s.nodes) × (n < s.nodes) }
     ensures { result ≡ same_edges (graph_in g.now s) m n }
 {
-    let u = same_keys(g, s, ls, false, m, n);
-    if u {
-        return same_keys(g, s, ls, true, m, n);
-    }
-    false
+    same_keys(g, s, ls, false, m, n) && same_keys(g, s, ls, true, m, n)
 }

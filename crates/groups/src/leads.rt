@@ -15,14 +15,7 @@ fn alike(ids: &PerNode, prints: &[u32; 128], leads: &PerNode, m: usize, n: usize
     requires { (m < n) × (n < 128) }
     ensures { result ≡ alike_of ids.now prints.now leads.now m n }
 {
-    if prints[m] != prints[n] {
-        return false;
-    }
-    if ids[m] != ids[n] {
-        return false;
-    }
-    let l = basis::wide16(leads[m]);
-    l == m
+    prints[m] == prints[n] && ids[m] == ids[n] && usize::from(leads[m]) == m
 }
 
 // m is a first member, and merges with the later node n, a solvable.
@@ -41,18 +34,13 @@ fn fits(
     requires n_value { is_solvable (node_in g.now n) ≡ true }
     ensures { result ≡ fits_of (graph_in g.now s) ids.now leads.now m n }
 {
-    let t = alike(ids, prints, leads, m, n);
-    if t {
-        let v = store::solvable_at(g, m);
-        if v {
-            return crate::keys::same_edges(g, s, ls, m, n);
-        }
-        return false;
-    }
-    false
+    alike(ids, prints, leads, m, n)
+        && store::solvable_at(g, m)
+        && crate::keys::same_edges(g, s, ls, m, n)
 }
 
 // The first member of node n, a solvable, among the nodes before it.
+// Kept: the new form is no plainer: one search for this and `first_named` takes an impl Fn, and its clauses are longer than both loops.
 fn first_fit(
     g: &GraphWords,
     s: Size,
@@ -66,13 +54,10 @@ fn first_fit(
     requires n_value { is_solvable (node_in g.now n) ≡ true }
     ensures { (result ≡ lead_by (title_in ids.now) (graph_in g.now s) n) × (result ≤ n) }
 {
-    let mut m: usize = 0;
-    while m < n {
-        let t = fits(g, s, ls, ids, prints, leads, m, n);
-        if t {
+    for m in 0..n {
+        if fits(g, s, ls, ids, prints, leads, m, n) {
             return m;
         }
-        m += 1;
     }
     n
 }
@@ -90,17 +75,13 @@ fn lead_of(
     requires { Ready g.now s ls.now ids.now prints.now leads.now n }
     ensures { (result ≡ lead_by (title_in ids.now) (graph_in g.now s) n) × (result ≤ n) }
 {
-    let c = crate::prints::twins(prints, n);
-    if c == 0 {
+    if crate::prints::twins(prints, n) == 0 || !store::solvable_at(g, n) {
         return n;
     }
-    let t = store::solvable_at(g, n);
-    if t {
-        return first_fit(g, s, ls, ids, prints, leads, n);
-    }
-    n
+    first_fit(g, s, ls, ids, prints, leads, n)
 }
 
+// Kept: the new form is no plainer: what this shares with `number_all` is one `for` around a call of its own.
 pub fn lead_all(
     g: &GraphWords,
     s: Size,
@@ -114,10 +95,7 @@ pub fn lead_all(
     requires leads_len { length leads.old ≡ 128 }
     ensures { leads.new ≡ leads_to (title_in ids.now) (graph_in g.now s) s.nodes leads.old }
 {
-    let mut n: usize = 0;
-    while n < s.nodes {
-        let r = lead_of(g, s, ls, ids, prints, leads, n);
-        leads[n] = r as u16;
-        n += 1;
+    for n in 0..s.nodes {
+        leads[n] = lead_of(g, s, ls, ids, prints, leads, n) as u16;
     }
 }

@@ -7,29 +7,12 @@ pub mod names;
 pub mod naming;
 mod prints;
 
-ghost use Rattle.std.specs.Prelude.{◌≡◌, length, replicate};
+ghost use Rattle.std.specs.Prelude.{◌≡◌, length};
 ghost use Rattle.store.specs.Table.{graph_in};
 ghost use Rattle.links.specs.Build.{Chains};
 ghost use Rattle.groups.specs.Leads.{title_in, leads_to};
 
 use store::{ChainWords, GraphWords, PerNode, Size};
-
-fn group_in(
-    g: &GraphWords,
-    s: Size,
-    ls: &ChainWords,
-    ids: &PerNode,
-    leads: &mut PerNode,
-    prints: &mut [u32; 128],
-)
-    requires chains { Chains g.now s ls.now }
-    requires leads_len { length leads.old ≡ 128 }
-    requires prints_value { prints.old ≡ replicate 128 0 }
-    ensures { leads.new ≡ leads_to (title_in ids.now) (graph_in g.now s) s.nodes leads.old }
-{
-    prints::print_all(g, s, prints);
-    leads::lead_all(g, s, ls, ids, prints, leads);
-}
 
 // Each node's first member, its own number where it is unmerged. `ids` gives each solvable node a number that is equal where
 // the texts of the names are. Entries past the last node stay.
@@ -39,5 +22,6 @@ pub fn group(g: &GraphWords, s: Size, ls: &ChainWords, ids: &PerNode, leads: &mu
     ensures { leads.new ≡ leads_to (title_in ids.now) (graph_in g.now s) s.nodes leads.old }
 {
     let mut prints = [0u32; 128];
-    group_in(g, s, ls, ids, leads, &mut prints);
+    prints::print_all(g, s, &mut prints);
+    leads::lead_all(g, s, ls, ids, &prints, leads);
 }

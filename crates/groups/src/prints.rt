@@ -1,8 +1,7 @@
 // The fingerprint of every node's edges: numbers made from their keys, added up in 32 bits with the sum allowed to wrap, so
 // that the order of the edges does not count. One pass over the edges adds each to both its ends.
-ghost use Rattle.std.specs.Prelude.{◌≡◌, ◌<◌, ◌≤◌, length, replicate, ◌==◌, slice_index};
+ghost use Rattle.std.specs.Prelude.{◌≡◌, ◌<◌, ◌≤◌, length, replicate, slice_index};
 ghost use Rattle.store.specs.Table.{graph_in, Stored};
-ghost use Rattle.groups.specs.Multi.{bump};
 ghost use Rattle.groups.specs.Prints.{mix_of, Printed};
 ghost use Rattle.groups.specs.Laws.Prints.{square_of, plus_at, plus_edge, twins_to};
 
@@ -21,9 +20,10 @@ fn mix(d: bool, k: u64) -> u32
     ensures { result ≡ mix_of d k }
 {
     if d {
-        return square(2 * k + 1);
+        square(2 * k + 1)
+    } else {
+        square(2 * k + 2)
     }
-    square(2 * k + 2)
 }
 
 fn add(prints: &mut [u32; 128], n: usize, t: u32)
@@ -31,9 +31,7 @@ fn add(prints: &mut [u32; 128], n: usize, t: u32)
     requires n_bound { n < 128 }
     ensures { (prints.new ≡ plus_at prints.old n t) × (length prints.new ≡ 128) }
 {
-    let y = prints[n];
-    let r = std::num::wrapping_add_u32(y, t);
-    prints[n] = r;
+    prints[n] = prints[n].wrapping_add(t);
 }
 
 // Edge e's numbers, to both its ends.
@@ -47,10 +45,8 @@ fn add_edge(g: &GraphWords, s: Size, prints: &mut [u32; 128], e: usize)
     let b = store::target_at(g, e);
     let x = crate::keys::key_at(g, true, e);
     let y = crate::keys::key_at(g, false, e);
-    let t = mix(true, x);
-    let u = mix(false, y);
-    add(prints, a, t);
-    add(prints, b, u);
+    add(prints, a, mix(true, x));
+    add(prints, b, mix(false, y));
 }
 
 pub fn print_all(g: &GraphWords, s: Size, prints: &mut [u32; 128])
@@ -58,17 +54,9 @@ pub fn print_all(g: &GraphWords, s: Size, prints: &mut [u32; 128])
     requires prints_value { prints.old ≡ replicate 128 0 }
     ensures { Printed (graph_in g.now s) prints.new }
 {
-    let mut e: usize = 0;
-    while e < s.edges {
+    for e in 0..s.edges {
         add_edge(g, s, prints, e);
-        e += 1;
     }
-}
-
-fn is(a: u32, b: u32) -> u32
-    ensures { (result ≡ bump (a == b) 0) × (result ≤ 1) }
-{
-    if a == b { 1 } else { 0 }
 }
 
 // How many of the nodes before n have n's fingerprint. Leaving at the first would cost more: without a way out several are
@@ -78,12 +66,9 @@ pub fn twins(prints: &[u32; 128], n: usize) -> u32
     ensures { result ≡ twins_to prints.now (slice_index prints.now n) n }
 {
     let y = prints[n];
-    let mut m: usize = 0;
     let mut c: u32 = 0;
-    while m < n {
-        let x = prints[m];
-        c += is(x, y);
-        m += 1;
+    for x in &prints[..n] {
+        c += u32::from(*x == y);
     }
     c
 }

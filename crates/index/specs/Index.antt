@@ -1,6 +1,6 @@
 -- The index over an accepted file: one table of 10,432 numbers, each region at a fixed base. A number of a record, a clause or a
 -- candidate is stored plus one, and 0 stands for none.
-use Rattle.std.specs.Prelude.{◌≡◌, Bool, true, false, cond, List, [], ◌∷◌, ℕ, zero, suc, ◌+◌, ◌≤◌, ◌<◌, length, get_or, set, replicate, eqb, ltb}
+use Rattle.std.specs.Prelude.{◌≡◌, Bool, true, false, cond, Result, Ok, Err, List, [], ◌∷◌, ℕ, zero, suc, ◌+◌, ◌≤◌, ◌<◌, length, get_or, set, replicate, eqb, ltb}
 use Rattle.std.proofs.Math.Option.{Option, none, some}
 use Rattle.std.proofs.lemmas.List.{length-replicate, get_or-replicate}
 use Rattle.std.proofs.Math.ListN.{get_or-eq_default}
@@ -10,8 +10,8 @@ use Rattle.basis.specs.Members.{split}
 use Rattle.basis.specs.Chains.{Layout, linked, oldest}
 use Rattle.records.specs.declared.Table.{Table}
 use Rattle.records.specs.declared.Table.TheVariants.{Names, Solvables, VersionSets, Requirements, Candidates, Reasons, Variables, Assigned, Clauses}
-use Rattle.records.specs.declared.ReadAnswer.{ReadAnswer}
-use Rattle.records.specs.declared.ReadAnswer.TheVariants.{Accepted, Refused}
+use Rattle.records.specs.declared.Counts.{Counts}
+use Rattle.records.specs.declared.Refused.{Refused}
 use Rattle.records.specs.Shapes.{Rec, records_of, limit}
 use Rattle.records.specs.Tables.{Tables, at}
 use Rattle.records.specs.Read.{read_of, good, tables_of}
@@ -109,9 +109,9 @@ pub record Blank (ix : List ℕ) : Type 0 where
   pub zeros : (s : ℕ) → get_or ix s 0 ≡ 0
 
 -- what `load` leaves in the index
-abbrev pub Held : ReadAnswer → List ℕ → List ℕ → List ℕ → Type 0
-Held (Accepted c) file ix₀ ix₁ = Loaded file ix₁
-Held (Refused k i) file ix₀ ix₁ = ix₁ ≡ ix₀
+abbrev pub Held : Result Counts Refused → List ℕ → List ℕ → List ℕ → Type 0
+Held (Ok c) file ix₀ ix₁ = Loaded file ix₁
+Held (Err e) file ix₀ ix₁ = ix₁ ≡ ix₀
 
 -- ---- how it is filled: the records upwards, then both kinds of chains downwards
 

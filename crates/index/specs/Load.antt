@@ -1,13 +1,12 @@
 -- The laws of `load`: what an answer of the reader tells, and what is then in the index.
-use Rattle.std.specs.Prelude.{◌≡◌, refl, List, ℕ, ◌+◌, ◌%◌, ◌≤◌, ◌<◌, length, get_or, set, replicate, eqb, ltb}
+use Rattle.std.specs.Prelude.{◌≡◌, refl, Option, Some, None, Result, Ok, Err, List, ℕ, ◌+◌, ◌%◌, ◌≤◌, ◌<◌, length, get_or, set, replicate, eqb, ltb}
 use Rattle.std.proofs.Common.{sym, ap, ◌∙◌, arith, not-suc-le-zero, length-set, ext_get_or, get_or-set_same, get_or-set_other, eqb-true, ltb-true, ltb-false}
 use Rattle.std.proofs.Math.ListN.{get_or-eq_default}
 use Rattle.std.proofs.lemmas.Bool.{eqb-false}
 use Rattle.basis.specs.Lists.{filter}
 use Rattle.basis.specs.Members.{split, clash}
 use Rattle.records.specs.declared.Table.TheVariants.{Candidates, Clauses}
-use Rattle.records.specs.declared.ReadAnswer.{ReadAnswer}
-use Rattle.records.specs.declared.ReadAnswer.TheVariants.{Accepted, Refused}
+use Rattle.records.specs.declared.Refused.{Refused}
 use Rattle.records.specs.declared.Counts.{Counts}
 use Rattle.records.specs.Shapes.{Rec, records_of}
 use Rattle.records.specs.Tables.{Tables, counts_of}
@@ -25,17 +24,17 @@ record Taken (file : List ℕ) (c : Counts) : Type 0 where
   read : read_of file ≡ good (tables_of file)
   counts : c ≡ counts_of (tables_of file)
 
-taken : (file : List ℕ) (r : ReadAnswer) (c : Counts) → r ≡ answer_of (read_of file) → r ≡ Accepted c → Taken file c
+taken : (file : List ℕ) (r : Result Counts Refused) (c : Counts) → r ≡ answer_of (read_of file) → r ≡ Ok c → Taken file c
 unfolding tables_of
 taken file r c e q = go (read_of file) refl (sym q ∙ e)
   where
-    go : (x : Reading) → read_of file ≡ x → Accepted c ≡ answer_of x → Taken file c
+    go : (x : Reading) → read_of file ≡ x → Ok c ≡ answer_of x → Taken file c
     go (good T) p h =
         let z : tables_of file ≡ T = ap tables_in p in
         record { read = rw z p; counts = rw z (cc) }
     go (bad k i) p h = clash (cc)
 
-module _ (file : List ℕ) (r : ReadAnswer) (c : Counts) (e : r ≡ answer_of (read_of file)) (q : r ≡ Accepted c) where
+module _ (file : List ℕ) (r : Result Counts Refused) (c : Counts) (e : r ≡ answer_of (read_of file)) (q : r ≡ Ok c) where
   pub load_short : length file ≤ 65536
   load_short = (read_accepted file (tables_of file) (taken file r c e q).read).short
 
@@ -56,17 +55,17 @@ module _ (file : List ℕ) (r : ReadAnswer) (c : Counts) (e : r ≡ answer_of (r
       let t = taken file r c e q in
       rw (s, t.counts) (loaded file ix t.read b)
 
-pub load_refused : (file ix : List ℕ) (r : ReadAnswer) (k i : ℕ) → r ≡ Refused k i → Held r file ix ix
-load_refused file ix r k i q = rw q refl
+pub load_refused : (file ix : List ℕ) (r : Result Counts Refused) (k : Refused) → r ≡ Err k → Held r file ix ix
+load_refused file ix r k q = rw q refl
 
 -- ---- by the arms: all records were taken, and the partners are hung behind that
 
-pub quick_held : (file f iy : List ℕ) (r : ReadAnswer) (c : Counts) → Took file (replicate 1024 0) r f → r ≡ Accepted c → length file ≤ 65536
-    → length file % 32 ≡ 0 → iy ≡ partners_hung file c.clauses f → Quick (Accepted c) file iy
+pub quick_held : (file f iy : List ℕ) (r : Option Counts) (c : Counts) → Took file (replicate 1024 0) r f → r ≡ Some c → length file ≤ 65536
+    → length file % 32 ≡ 0 → iy ≡ partners_hung file c.clauses f → Quick (Some c) file iy
 quick_held file f iy r c K e h l q =
-    let k : Took file (replicate 1024 0) (Accepted c) f = rw e at K in
-    let a : Accepted c ≡ answer_of (read_of file) = read_run file (Accepted c) h l k.0 in
-    let t = taken file (Accepted c) c a refl in
+    let k : Took file (replicate 1024 0) (Some c) f = rw e at K in
+    let a : Ok c ≡ answer_of (read_of file) = read_run file (Ok c) h l k.0 in
+    let t = taken file (Ok c) c a refl in
     let T : Tables = tables_of file in
     let z : T.candidates ≡ filter (is_in Candidates) (records_of file) = table_is Candidates file T (read_accepted file T t.read) in
     let b : Based file f = record { accepted = t.read; wide = k.1.wide; own = k.1.own } in
@@ -84,11 +83,11 @@ quick_held file f iy r c K e h l q =
       },
     )
 
-pub quick_few : (file f : List ℕ) (r : ReadAnswer) (c : Counts) → Took file (replicate 1024 0) r f → r ≡ Accepted c → length file ≤ 65536
+pub quick_few : (file f : List ℕ) (r : Option Counts) (c : Counts) → Took file (replicate 1024 0) r f → r ≡ Some c → length file ≤ 65536
     → length file % 32 ≡ 0 → c.clauses ≤ 1024
 quick_few file f r c K e h l =
-    let k : Took file (replicate 1024 0) (Accepted c) f = rw e at K in
-    load_clauses file (Accepted c) c (read_run file (Accepted c) h l k.0) refl
+    let k : Took file (replicate 1024 0) (Some c) f = rw e at K in
+    load_clauses file (Ok c) c (read_run file (Ok c) h l k.0) refl
 
 -- ---- where an arm says no: the index is cleared, and the file read by the check
 
@@ -120,24 +119,24 @@ wiped_all ix k W h =
 blank_same : (ix iy : List ℕ) → Blank ix → Blank iy → ix ≡ iy
 blank_same ix iy p q = ext_get_or 0 ix iy (p.wide ∙ sym q.wide) (λ a h. p.zeros a ∙ sym (q.zeros a))
 
-pub load_again : (file ix iy iz : List ℕ) (r : ReadAnswer) → Blank ix → Blank iy → Held r file iy iz → Held r file ix iz
+pub load_again : (file ix iy iz : List ℕ) (r : Result Counts Refused) → Blank ix → Blank iy → Held r file iy iz → Held r file ix iz
 load_again file ix iy iz r p q h = rw (blank_same ix iy p q) h
 
-module _ (file ix iy : List ℕ) (r : ReadAnswer) (c : Counts) (K : Quick r file iy) (e : r ≡ Accepted c) where
-  pub quick_answer : r ≡ answer_of (read_of file)
-  quick_answer = let k : Quick (Accepted c) file iy = rw e at K in e ∙ k.0
+module _ (file ix iy : List ℕ) (r : Option Counts) (c : Counts) (K : Quick r file iy) (e : r ≡ Some c) where
+  pub quick_answer : Ok c ≡ answer_of (read_of file)
+  quick_answer = let k : Quick (Some c) file iy = rw e at K in k.0
 
-  pub quick_loaded : Held r file ix iy
-  quick_loaded = let k : Quick (Accepted c) file iy = rw e at K in rw e k.1
+  pub quick_loaded : Held (Ok c) file ix iy
+  quick_loaded = let k : Quick (Some c) file iy = rw e at K in k.1
 
 -- ---- for callers: what the answer and the index tell them
 
-pub load_counts : (file : List ℕ) (r : ReadAnswer) (c : Counts) → r ≡ answer_of (read_of file) → r ≡ Accepted c → c ≡ counts_of (tables_of file)
+pub load_counts : (file : List ℕ) (r : Result Counts Refused) (c : Counts) → r ≡ answer_of (read_of file) → r ≡ Ok c → c ≡ counts_of (tables_of file)
 load_counts file r c e q = (taken file r c e q).counts
 
-pub load_loaded : (file ix iy : List ℕ) (r : ReadAnswer) (c : Counts) → Held r file ix iy → r ≡ Accepted c → Loaded file iy
+pub load_loaded : (file ix iy : List ℕ) (r : Result Counts Refused) (c : Counts) → Held r file ix iy → r ≡ Ok c → Loaded file iy
 load_loaded file ix iy r c h q = rw q at h
 
 -- the number of clauses that the reader counted
-pub clauses_counted : (file : List ℕ) (r : ReadAnswer) (c : Counts) → r ≡ Accepted c → r ≡ answer_of (read_of file) → c.clauses ≡ length (tables_of file).clauses
+pub clauses_counted : (file : List ℕ) (r : Result Counts Refused) (c : Counts) → r ≡ Ok c → r ≡ answer_of (read_of file) → c.clauses ≡ length (tables_of file).clauses
 clauses_counted file r c q e = ap (λ (d : Counts). d.clauses) (load_counts file r c e q)

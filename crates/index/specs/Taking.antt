@@ -1,12 +1,13 @@
 -- Reading and filling at once: what the code stores for a record while it reads (src/lib.rt), and what then is known of the index.
 -- The way of the laws is that of Loading.antt, record by record: behind the first i records the tables T are theirs, the marks and the
 -- counts are those of T, the regions hold what is wanted, and the candidates are strung in their order (`Going`).
-use Rattle.std.specs.Prelude.{◌≡◌, Bool, false, cond, get_or, take, replicate, eqb, ltb}
+use Rattle.std.specs.Prelude.{◌≡◌, Bool, false, cond, Option, Some, None, Result, Ok, Err, get_or, take, replicate, eqb, ltb}
 use Rattle.std.proofs.Math.Path.{refl, sym, ap, subst}
 use Rattle.std.proofs.Common.{◌∙◌, arith, not-suc-le-zero, take-suc, take_all, length-take-le}
 use Rattle.std.proofs.Math.Bool.{true}
 use mathlib.Core.List.{List, [], ◌∷◌}
-use Rattle.std.proofs.Math.Option.{Option, none, some}
+use Rattle.std.proofs.Math.Option as maybe
+use Rattle.std.proofs.Math.Option.{none, some}
 use Prim.Native.Nat.{ℕ, zero, suc, ◌+◌, ◌-◌, ◌/◌, ◌≤◌, ◌<◌}
 use Rattle.std.proofs.Math.Numerals.{add-one}
 use Rattle.std.proofs.Math.ListN.{length, set, length-append}
@@ -19,10 +20,7 @@ use Rattle.records.specs.declared.Table.{Table}
 use Rattle.records.specs.declared.Table.TheVariants.{Names, Solvables, VersionSets, Requirements, Candidates, Reasons, Variables, Assigned, Clauses}
 use Rattle.records.specs.declared.Counts.{Counts}
 use Rattle.records.specs.declared.Shape.{Shape}
-use Rattle.records.specs.declared.CountStep.{CountStep}
-use Rattle.records.specs.declared.CountStep.TheVariants.{Next, No}
-use Rattle.records.specs.declared.ReadAnswer.{ReadAnswer}
-use Rattle.records.specs.declared.ReadAnswer.TheVariants.{Accepted, Refused}
+use Rattle.records.specs.declared.Refused.{Refused}
 use Rattle.records.specs.Shapes.{Rec, records_of, shape_of}
 use Rattle.records.specs.Tables.{Tables, no_tables, no_rec, at, table_of, put, counts_of}
 use Rattle.records.specs.Read.{read_of, answer_of, refusal_in}
@@ -146,22 +144,22 @@ module _ (t u : Table) (r : Rec) (c : Counts) (e : t ≡ u) where
 
 -- where the arm goes on the check says the same, and the counts, the marks, the index and the last candidates are those behind the record;
 -- where it does not the index is as it was
-unfoldable pub Takes : Counts → List ℕ → Rec → ℕ → List ℕ → List ℕ → ReadAnswer → List ℕ → List ℕ → List ℕ → Type 0
+unfoldable pub Takes : Counts → List ℕ → Rec → ℕ → List ℕ → List ℕ → Option Counts → List ℕ → List ℕ → List ℕ → Type 0
 Takes c m r i ix tl s u iy tm =
-    ((d : Counts) → s ≡ Accepted d
-    → (t : Table) × (check_pass c m r ≡ Next t) × (d ≡ more_of t c) × (u ≡ noted t r m) × (iy ≡ entered t r i c ix tl) × (tm ≡ tails_of t r c tl))
-    × ((k p : ℕ) → s ≡ Refused k p → iy ≡ ix)
+    ((d : Counts) → s ≡ Some d
+    → (t : Table) × (check_pass c m r ≡ Ok t) × (d ≡ more_of t c) × (u ≡ noted t r m) × (iy ≡ entered t r i c ix tl) × (tm ≡ tails_of t r c tl))
+    × (s ≡ None → iy ≡ ix)
 
-module _ (c : Counts) (m : List ℕ) (r : Rec) (i : ℕ) (ix tl : List ℕ) (q : CountStep) where
-  pub takes_no : (k : ℕ) → q ≡ No k → Takes c m r i ix tl (Refused 0 0) m ix tl
+module _ (c : Counts) (m : List ℕ) (r : Rec) (i : ℕ) (ix tl : List ℕ) where
+  pub takes_no : Takes c m r i ix tl None m ix tl
   unfolding Takes
-  takes_no k e = (λ d y. clash cc, λ l p y. refl)
+  takes_no = (λ d y. clash cc, λ y. refl)
 
-  pub takes_on : (t : Table) (d : Counts) (u iy tm : List ℕ) → Sure c m r q → q ≡ Next t → d ≡ more_of t c → u ≡ noted t r m
-      → (iy ≡ entered t r i c ix tl) × (tm ≡ tails_of t r c tl) → Takes c m r i ix tl (Accepted d) u iy tm
+  pub takes_on : (q : Option Table) (t : Table) (d : Counts) (u iy tm : List ℕ) → Sure c m r q → q ≡ Some t → d ≡ more_of t c → u ≡ noted t r m
+      → (iy ≡ entered t r i c ix tl) × (tm ≡ tails_of t r c tl) → Takes c m r i ix tl (Some d) u iy tm
   unfolding Takes
-  takes_on t d u iy tm h e w v z =
-      (λ f y. let g : f ≡ d = cc in (t, sym (sure_step c m r q t h e) ∙ e, g ∙ w, v, z.0, z.1), λ l p y. clash cc)
+  takes_on q t d u iy tm h e w v z =
+      (λ f y. let g : f ≡ d = cc in (t, sym (sure_step c m r q t h e), g ∙ w, v, z.0, z.1), λ y. clash cc)
 
 -- ---- what is known behind the first i records
 
@@ -312,50 +310,50 @@ module _ (file : List ℕ) (i : ℕ) (c : Counts) (m ix tl : List ℕ) (G : Goin
         chains = rw (x, y) L.chains;
       }
 
-  going_checked : (t : Table) (d : Counts) (u iy tm : List ℕ) → check_pass c m r ≡ Next t → d ≡ more_of t c → u ≡ noted t r m
+  going_checked : (t : Table) (d : Counts) (u iy tm : List ℕ) → check_pass c m r ≡ Ok t → d ≡ more_of t c → u ≡ noted t r m
       → iy ≡ entered t r i c ix tl → tm ≡ tails_of t r c tl → Going file (suc i) d u iy tm
   going_checked t d u iy tm e w v x y = by_shape (shape_of r.kind) refl
     where
-      said : check_pass (counts_of T) m r ≡ Next t
+      said : check_pass (counts_of T) m r ≡ Ok t
       said = ap (λ (x : Counts). check_pass x m r) (sym G.counts) ∙ e
 
-      by_refusal : (s : Shape) → shape_of r.kind ≡ some s → (n : ℕ) → refusal_in T s r ≡ n → step_of n s.table ≡ Next t → Going file (suc i) d u iy tm
+      by_refusal : (s : Shape) → shape_of r.kind ≡ some s → (n : ℕ) → refusal_in T s r ≡ n → step_of n s.table ≡ Ok t → Going file (suc i) d u iy tm
       by_refusal s k zero q f = going_passed t d u iy tm s (passed T r s k q) (cc) w v x y
       by_refusal s k (suc n) q f = clash (cc)
 
-      by_shape : (o : Option Shape) → shape_of r.kind ≡ o → Going file (suc i) d u iy tm
+      by_shape : (o : maybe.Option Shape) → shape_of r.kind ≡ o → Going file (suc i) d u iy tm
       by_shape none k = clash (cc (sym (check_none T m G.marked r k) ∙ said))
       by_shape (some s) k = by_refusal s k (refusal_in T s r) refl (sym (check_some T m G.marked r s k) ∙ said)
 
   -- s is what the arm said
-  module _ (s : ReadAnswer) (u iy tm : List ℕ) (K : Takes c m r i ix tl s u iy tm) (d : Counts) (e : s ≡ Accepted d) where
+  module _ (s : Option Counts) (u iy tm : List ℕ) (K : Takes c m r i ix tl s u iy tm) (d : Counts) (e : s ≡ Some d) where
     pub going_next : Going file (i + 1) d u iy tm
     unfolding Takes
     going_next = let z = K.0 d e in rw add-one (going_checked z.0 d u iy tm z.1 z.2 z.3 z.4 z.5)
 
-    pub took_next : (x : ReadAnswer) → left_pass file i c m ≡ x → left_pass file (i + 1) d u ≡ x
+    pub took_next : (x : Result Counts Refused) → left_pass file i c m ≡ x → left_pass file (i + 1) d u ≡ x
     unfolding Takes
     took_next x inv =
         let z = K.0 d e in
-        let a : Accepted d ≡ turn_pass c m r i = turn_on c m r (Next z.0) (sym z.1) i z.0 d refl z.2 in
-        left_next file i c m x inv s h (e ∙ a) d u e (marks_on c m r (Next z.0) (sym z.1) z.0 u refl z.3)
+        let a : Ok d ≡ turn_pass c m r i = turn_on c m r (Ok z.0) (sym z.1) i z.0 d refl z.2 in
+        left_next file i c m x inv (Ok d) h a d u refl (marks_on c m r (Ok z.0) (sym z.1) z.0 u refl z.3)
 
 -- ---- the end
 
 -- all records were taken: what the reader answers, and what the index holds
-abbrev pub Took : List ℕ → List ℕ → ReadAnswer → List ℕ → Type 0
-Took file m (Accepted c) iy =
-    (Accepted c ≡ pass_from (records_of file) 0 no_counts m) × Filled 6336 (records_of file) iy
+abbrev pub Took : List ℕ → List ℕ → Option Counts → List ℕ → Type 0
+Took file m (Some c) iy =
+    (Ok c ≡ pass_from (records_of file) 0 no_counts m) × Filled 6336 (records_of file) iy
     × Hangs candidate_lay (requirement_of (records_of file)) (length (filter (is_in Candidates) (records_of file))) iy
-Took file m (Refused k p) iy = length iy ≡ 10432
+Took file m None iy = length iy ≡ 10432
 
-pub took_stop : (file m₀ : List ℕ) (i : ℕ) (c : Counts) (m ix tl : List ℕ) (s : ReadAnswer) (u iy tm : List ℕ) → Going file i c m ix tl
-    → Takes c m (at (records_of file) i) i ix tl s u iy tm → (k p : ℕ) → s ≡ Refused k p → Took file m₀ s iy
+pub took_stop : (file m₀ : List ℕ) (i : ℕ) (c : Counts) (m ix tl : List ℕ) (s : Option Counts) (u iy tm : List ℕ) → Going file i c m ix tl
+    → Takes c m (at (records_of file) i) i ix tl s u iy tm → s ≡ None → Took file m₀ None iy
 unfolding Takes
-took_stop file m₀ i c m ix tl s u iy tm G K k p e = rw (e, K.1 k p e) G.filled.wide
+took_stop file m₀ i c m ix tl s u iy tm G K e = rw (K.1 e) G.filled.wide
 
 pub took_end : (file m u ix tl : List ℕ) (i : ℕ) (c : Counts) → Going file i c u ix tl → left_pass file i c u ≡ pass_from (records_of file) 0 no_counts m
-    → length file / 32 ≤ i → Took file m (Accepted c) ix
+    → length file / 32 ≤ i → Took file m (Some c) ix
 took_end file m u ix tl i c G inv h =
     let g : length (records_of file) ≤ i = rw (length_cut (length file / 32) file) h in
     let all : take i (records_of file) ≡ records_of file = take_all i (records_of file) g in
@@ -363,15 +361,15 @@ took_end file m u ix tl i c G inv h =
     (left_end file i c u _ inv h, rw all at G.filled, rw n at (strung_hangs candidate_lay (requirement_of (records_of file)) (length G.T.candidates) ix tl G.chains))
 
 -- by the arms: an accepted file is loaded
-abbrev pub Quick : ReadAnswer → List ℕ → List ℕ → Type 0
-Quick (Accepted c) file iy = (Accepted c ≡ answer_of (read_of file)) × Loaded file iy
-Quick (Refused k p) file iy = length iy ≡ 10432
+abbrev pub Quick : Option Counts → List ℕ → List ℕ → Type 0
+Quick (Some c) file iy = (Ok c ≡ answer_of (read_of file)) × Loaded file iy
+Quick None file iy = length iy ≡ 10432
 
-pub quick_not : (file m iy : List ℕ) (r : ReadAnswer) (k p : ℕ) → Took file m r iy → r ≡ Refused k p → Quick r file iy
-quick_not file m iy r k p K e = rw e (rw e at K)
+pub quick_not : (file m iy : List ℕ) (r : Option Counts) → Took file m r iy → r ≡ None → Quick None file iy
+quick_not file m iy r K e = rw e at K
 
-pub quick_odd : (file ix : List ℕ) → Blank ix → Quick (Refused 0 0) file ix
+pub quick_odd : (file ix : List ℕ) → Blank ix → Quick None file ix
 quick_odd file ix b = b.wide
 
-pub quick_wide : (file iy : List ℕ) (r : ReadAnswer) (k p : ℕ) → Quick r file iy → r ≡ Refused k p → length iy ≡ 10432
-quick_wide file iy r k p K e = rw e at K
+pub quick_wide : (file iy : List ℕ) (r : Option Counts) → Quick r file iy → r ≡ None → length iy ≡ 10432
+quick_wide file iy r K e = rw e at K

@@ -1,11 +1,11 @@
 -- What `load` leaves is determined: an answer and a file allow one index.
-use Rattle.std.specs.Prelude.{◌≡◌, List, ℕ, ◌+◌, ◌-◌, ◌≤◌, ◌<◌, get_or, ltb}
+use Rattle.std.specs.Prelude.{◌≡◌, Result, Ok, Err, List, ℕ, ◌+◌, ◌-◌, ◌≤◌, ◌<◌, get_or, ltb}
 use Rattle.std.proofs.Common.{sym, ◌∙◌, arith, ext_get_or, ltb-true, ltb-false}
 use Rattle.basis.specs.Members.{split}
 use Rattle.records.specs.declared.Table.{Table}
 use Rattle.records.specs.declared.Table.TheVariants.{Names, Solvables, VersionSets, Requirements, Candidates, Reasons, Variables, Assigned, Clauses}
-use Rattle.records.specs.declared.ReadAnswer.{ReadAnswer}
-use Rattle.records.specs.declared.ReadAnswer.TheVariants.{Accepted, Refused}
+use Rattle.records.specs.declared.Counts.{Counts}
+use Rattle.records.specs.declared.Refused.{Refused}
 use Rattle.records.specs.Shapes.{limit}
 use Rattle.index.specs.Index.{Loaded, Held, base}
 
@@ -47,6 +47,6 @@ module _ (file ix iy : List ℕ) (p : Loaded file ix) (q : Loaded file iy) where
   pub loaded_unique : ix ≡ iy
   loaded_unique = ext_get_or 0 ix iy (p.based.wide ∙ sym q.based.wide) (λ i h. everywhere i (omega (arith, p.based.wide)))
 
-pub held_unique : (r : ReadAnswer) (file ix a b : List ℕ) → Held r file ix a → Held r file ix b → a ≡ b
-held_unique (Accepted c) file ix a b p q = loaded_unique file a b p q
-held_unique (Refused k i) file ix a b p q = p ∙ sym q
+pub held_unique : (r : Result Counts Refused) (file ix a b : List ℕ) → Held r file ix a → Held r file ix b → a ≡ b
+held_unique (Ok c) file ix a b p q = loaded_unique file a b p q
+held_unique (Err e) file ix a b p q = p ∙ sym q

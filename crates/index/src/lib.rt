@@ -17,13 +17,14 @@ ghost use Rattle.index.specs.Strung.{behind_last};
 ghost use Rattle.index.specs.Taking.{candidate_in, tails_in, clause_in, entered, tails_of, Takes, Going, Took, Quick};
 
 use arms::fits::quick;
-use basis::{get16, put16, wide16};
+use basis::{get, put};
 use records::fields::{a_at, b_at, first_at, kind_at};
 use records::kinds::more;
 use records::pass::note;
-use records::{CountStep, Counts, ReadAnswer, Table};
+use records::{Counts, Refused, Table};
 
 // The index of a file: a number for each record, and the chains.
+// Kept: the project's rule: no heap, fixed memory.
 pub type Slots = [u16; 10432];
 
 // How many candidates and clauses have been numbered.
@@ -34,14 +35,20 @@ pub struct Places {
 }
 
 // What stands at place n of the region at b, which has l places; 0 past them.
+#[tactic(auto, using(crate::specs::Filling::place_in, crate::specs::Filling::place_past))]
 pub fn place(ix: &Slots, b: usize, l: usize, n: usize) -> usize
     requires { b + l ≤ 10432 }
     ensures { (result ≡ placed b l ix.now n) × (result < 65536) }
 {
-    if n < l { wide16(get16(ix, b + n)) } else { 0 }
+    if n < l {
+        usize::from(get(ix, b + n))
+    } else {
+        0
+    }
 }
 
 // The record that stands there; 2048, past every record, for none.
+#[tactic(auto, using(crate::specs::Filling::record_none, crate::specs::Filling::record_some))]
 pub fn record_no(ix: &Slots, b: usize, l: usize, n: usize) -> usize
     requires { b + l ≤ 10432 }
     ensures { (result ≡ record_no b l ix.now n) × (result < 65536) }
@@ -51,6 +58,7 @@ pub fn record_no(ix: &Slots, b: usize, l: usize, n: usize) -> usize
 }
 
 // Where the numbers of a kind's table begin; past the index for an unknown kind. Candidates, of which a file has most, are asked for first.
+#[tactic(auto, using(crate::specs::Filling::base_none, crate::specs::Filling::base_high, crate::specs::Filling::base_clause), unfolding(crate::specs::Index::base_of))]
 fn base(kind: u8) -> usize
     ensures { (result ≡ base_of kind) × (result ≤ 10432) }
 {
@@ -77,17 +85,19 @@ fn base(kind: u8) -> usize
 }
 
 // A record 8, by its variable.
+#[tactic(auto, using(crate::specs::Filling::assign_in, crate::specs::Filling::assign_out))]
 fn assign_at(file: &[u8], i: usize, ix: &mut Slots)
     ensures { ix.new ≡ assign (at (records_of file.now) i) ix.old }
 {
-    let b = wide16(b_at(file, i));
-    let a = wide16(a_at(file, i));
+    let b = usize::from(b_at(file, i));
+    let a = usize::from(a_at(file, i));
     if b < 1024 {
-        put16(ix, regions::ASSIGNED + a, (b + 1) as u16);
+        put(ix, regions::ASSIGNED + a, (b + 1) as u16);
     }
 }
 
 // Record i, whose table begins at b.
+#[tactic(auto, using(crate::specs::Filling::mark_own), unfolding(crate::specs::Index::marked))]
 fn mark(file: &[u8], i: usize, b: usize, c: Places, ix: &mut Slots)
     requires { (i < 2048) × (b ≤ 10432) × (c.candidates ≤ i) × (c.clauses ≤ i) }
     ensures { ix.new ≡ marked b (at (records_of file.now) i) i c ix.old }
@@ -96,22 +106,23 @@ fn mark(file: &[u8], i: usize, b: usize, c: Places, ix: &mut Slots)
     let q = c.clauses;
     let x = (i + 1) as u16;
     if b == 896 {
-        put16(ix, 896 + p, x);
+        put(ix, 896 + p, x);
         return;
     }
     if b == regions::CLAUSES {
-        put16(ix, regions::CLAUSES + q, x);
+        put(ix, regions::CLAUSES + q, x);
         return;
     }
     if b == regions::ASSIGNED {
         assign_at(file, i, ix);
         return;
     }
-    let a = wide16(a_at(file, i));
-    put16(ix, b + a, x);
+    let a = usize::from(a_at(file, i));
+    put(ix, b + a, x);
 }
 
 // The places after a record whose table begins at b.
+#[tactic(auto, using(crate::specs::Filling::pass_candidate, crate::specs::Filling::pass_clause, crate::specs::Filling::pass_other))]
 fn passed(b: usize, c: Places) -> Places
     requires { (c.candidates < 2048) × (c.clauses < 2048) }
     ensures { (result ≡ passed_by b c) × (result.candidates ≤ c.candidates + 1) × (result.clauses ≤ c.clauses + 1) }
@@ -138,41 +149,29 @@ fn number(file: &[u8], ix: &mut Slots)
     requires { length file.now ≤ 65536 }
     ensures { ix.new ≡ numbered (records_of file.now) 0 no_places ix.old }
 {
-    let n = file.len() / 32;
     let mut c = Places {
         candidates: 0,
         clauses: 0,
     };
-    let mut i = 0;
-    while i < n {
+    for i in 0..file.len() / 32 {
         let b = base(kind_at(file, i));
         mark(file, i, b, c, ix);
         c = passed(b, c);
-        i += 1;
     }
 }
 
-// Candidate k goes to the head of the chain of requirement n.
-fn link_candidate(ix: &mut Slots, k: usize, n: usize)
-    requires { (k < 1024) × (n < 256) }
-    ensures { ix.new ≡ linked candidate_lay ix.old k n }
+// Item k goes to the head of chain n, of those whose heads and links begin there.
+fn link(ix: &mut Slots, heads: usize, links: usize, k: usize, n: usize)
+    requires { (heads + n < 10432) × (links + k < 10432) × (k < 1024) }
+    ensures { ix.new ≡ linked (record { links = links; items = 1024; heads = heads; keys = 1024; size = 10432 }) ix.old k n }
 {
-    let h = get16(ix, regions::CANDIDATE_HEADS + n);
-    put16(ix, regions::CANDIDATE_LINKS + k, h);
-    put16(ix, regions::CANDIDATE_HEADS + n, (k + 1) as u16);
-}
-
-// Clause k goes to the head of the chain of key n.
-fn link_partner(ix: &mut Slots, k: usize, n: usize)
-    requires { (k < 1024) × (n < 3072) }
-    ensures { ix.new ≡ linked partner_lay ix.old k n }
-{
-    let h = get16(ix, regions::GATES + n);
-    put16(ix, regions::PARTNER_LINKS + k, h);
-    put16(ix, regions::GATES + n, (k + 1) as u16);
+    let h = get(ix, heads + n);
+    put(ix, links + k, h);
+    put(ix, heads + n, (k + 1) as u16);
 }
 
 // The key of the clause that record i is.
+#[tactic(auto, unfolding(crate::specs::Index::key_in))]
 fn key_at(file: &[u8], i: usize) -> usize
     ensures { (result ≡ key_in (at (records_of file.now) i)) × (result < 131072) }
 {
@@ -181,9 +180,9 @@ fn key_at(file: &[u8], i: usize) -> usize
     }
     let kind = kind_at(file, i);
     if kind == 25 {
-        return wide16(a_at(file, i));
+        return usize::from(a_at(file, i));
     }
-    let b = wide16(b_at(file, i));
+    let b = usize::from(b_at(file, i));
     if kind == 23 {
         return 1024 + b;
     }
@@ -193,17 +192,19 @@ fn key_at(file: &[u8], i: usize) -> usize
     3072
 }
 
+#[tactic(auto, using(crate::specs::Filling::candidate_in_lem, crate::specs::Filling::candidate_out))]
 fn hang_candidate(file: &[u8], ix: &mut Slots, k: usize)
     requires { k < 1024 }
     ensures { ix.new ≡ hung candidate_lay (at (records_of file.now) (record_no 896 1024 ix.old k)).a ix.old k }
 {
     let i = record_no(ix, 896, 1024, k);
-    let n = wide16(a_at(file, i));
+    let n = usize::from(a_at(file, i));
     if n < 256 {
-        link_candidate(ix, k, n);
+        link(ix, regions::CANDIDATE_HEADS, regions::CANDIDATE_LINKS, k, n);
     }
 }
 
+#[tactic(auto, using(crate::specs::Filling::partner_in, crate::specs::Filling::partner_out))]
 fn hang_partner(file: &[u8], ix: &mut Slots, k: usize)
     requires { k < 1024 }
     ensures { ix.new ≡ hung partner_lay (key_in (at (records_of file.now) (record_no 4032 1024 ix.old k))) ix.old
@@ -212,7 +213,7 @@ fn hang_partner(file: &[u8], ix: &mut Slots, k: usize)
     let i = record_no(ix, regions::CLAUSES, regions::CLAUSES_MOST, k);
     let n = key_at(file, i);
     if n < 3072 {
-        link_partner(ix, k, n);
+        link(ix, regions::GATES, regions::PARTNER_LINKS, k, n);
     }
 }
 
@@ -221,27 +222,22 @@ fn hang_candidates(file: &[u8], ix: &mut Slots, m: usize)
     requires { m ≤ 1024 }
     ensures { ix.new ≡ candidates_hung file.now m ix.old }
 {
-    let mut j = m;
-    while 0 < j {
-        let k = j - 1;
+    for k in (0..m).rev() {
         hang_candidate(file, ix, k);
-        j -= 1;
     }
 }
 
-fn hang_partners(file: &[u8], ix: &mut Slots, m: usize)
-    requires { m ≤ 1024 }
-    ensures { ix.new ≡ partners_hung file.now m ix.old }
+fn hang_partners(file: &[u8], ix: &mut Slots, n: usize)
+    requires { n ≤ 1024 }
+    ensures { ix.new ≡ partners_hung file.now n ix.old }
 {
-    let mut j = m;
-    while 0 < j {
-        let i = j - 1;
-        hang_partner(file, ix, i);
-        j -= 1;
+    for k in (0..n).rev() {
+        hang_partner(file, ix, k);
     }
 }
 
 // m candidates and n clauses.
+#[tactic(auto, using(crate::specs::Filling::fill_all))]
 fn fill(file: &[u8], ix: &mut Slots, m: usize, n: usize)
     requires { (length file.now ≤ 65536) × (m ≤ 1024) × (n ≤ 1024) }
     ensures { ix.new ≡ partners_hung file.now n
@@ -253,38 +249,35 @@ fn fill(file: &[u8], ix: &mut Slots, m: usize, n: usize)
 }
 
 // Reads a file by the check, and fills the index where it is accepted; else the index stays as it was.
-fn load_by_check(file: &[u8], ix: &mut Slots) -> ReadAnswer
+fn load_by_check(file: &[u8], ix: &mut Slots) -> Result<Counts, Refused>
     requires { Blank ix.old }
     ensures value { result ≡ answer_of (read_of file.now) }
     ensures held { Held result file.now ix.old ix.new }
 {
-    let r = arms::read(file);
-    let ReadAnswer::Accepted(c) = r else {
-        return r;
-    };
-    let m = c.candidates;
-    let n = c.clauses;
-    fill(file, ix, m, n);
-    r
+    let c = arms::read(file)?;
+    fill(file, ix, c.candidates, c.clauses);
+    Ok(c)
 }
 
 // Candidate k goes behind the last one of requirement n, and is the last one then.
+#[tactic(auto, using(crate::specs::Taking::behind_none, crate::specs::Taking::behind_some))]
 fn append(ix: &mut Slots, tails: &mut [u16; 256], k: usize, n: usize)
     requires { (k < 1024) × (n < 256) }
     ensures ix_after { ix.new ≡ behind_last candidate_lay (get_or tails.old n 0) ix.old k n }
     ensures tails_after { tails.new ≡ set tails.old n (k + 1) }
 {
-    let t = wide16(get16(tails, n));
+    let t = usize::from(get(tails, n));
     let x = (k + 1) as u16;
-    put16(tails, n, x);
+    put(tails, n, x);
     if t == 0 {
-        put16(ix, regions::CANDIDATE_HEADS + n, x);
+        put(ix, regions::CANDIDATE_HEADS + n, x);
         return;
     }
-    put16(ix, regions::CANDIDATE_LINKS + (t - 1), x);
+    put(ix, regions::CANDIDATE_LINKS + (t - 1), x);
 }
 
 // Record i, which is candidate k.
+#[tactic(auto, unfolding(crate::specs::Taking::candidate_in, crate::specs::Taking::tails_in))]
 fn enter_candidate(file: &[u8], i: usize, k: usize, ix: &mut Slots, tails: &mut [u16; 256])
     requires { i < 2048 }
     ensures { (ix.new ≡ candidate_in (at (records_of file.now) i) i k ix.old tails.old)
@@ -293,14 +286,15 @@ fn enter_candidate(file: &[u8], i: usize, k: usize, ix: &mut Slots, tails: &mut 
     if 1024 <= k {
         return;
     }
-    put16(ix, 896 + k, (i + 1) as u16);
-    let n = wide16(a_at(file, i));
+    put(ix, 896 + k, (i + 1) as u16);
+    let n = usize::from(a_at(file, i));
     if n < 256 {
         append(ix, tails, k, n);
     }
 }
 
 // Record i, which is clause k.
+#[tactic(auto, using(crate::specs::Taking::clause_full, crate::specs::Taking::clause_in_lem))]
 fn enter_clause(i: usize, k: usize, ix: &mut Slots)
     requires { i < 2048 }
     ensures { ix.new ≡ clause_in i k ix.old }
@@ -308,19 +302,21 @@ fn enter_clause(i: usize, k: usize, ix: &mut Slots)
     if 1024 <= k {
         return;
     }
-    put16(ix, regions::CLAUSES + k, (i + 1) as u16);
+    put(ix, regions::CLAUSES + k, (i + 1) as u16);
 }
 
 // Record i of a table that begins at b, by its own number.
+#[tactic(auto, using(crate::specs::Taking::own_in))]
 fn enter_own(file: &[u8], i: usize, b: usize, ix: &mut Slots)
     requires { (i < 2048) × (b < 10432) }
     ensures { ix.new ≡ set ix.old (b + (at (records_of file.now) i).a) (i + 1) }
 {
-    let a = wide16(a_at(file, i));
-    put16(ix, b + a, (i + 1) as u16);
+    let a = usize::from(a_at(file, i));
+    put(ix, b + a, (i + 1) as u16);
 }
 
 // Record i, which goes into table t.
+#[tactic(auto, unfolding(crate::specs::Taking::entered, crate::specs::Taking::tails_of))]
 fn enter(file: &[u8], i: usize, t: Table, c: Counts, ix: &mut Slots, tails: &mut [u16; 256])
     requires { i < 2048 }
     ensures { (ix.new ≡ entered t (at (records_of file.now) i) i c ix.old tails.old)
@@ -345,7 +341,7 @@ fn enter(file: &[u8], i: usize, t: Table, c: Counts, ix: &mut Slots, tails: &mut
     }
 }
 
-// Record i by the arm of its kind: the counts after it, with its mark noted and its place entered; a refusal of number 0 where the arm says no.
+// Record i by the arm of its kind: the counts after it, with its mark noted and its place entered; nothing where the arm says no.
 fn take(
     file: &[u8],
     i: usize,
@@ -353,32 +349,23 @@ fn take(
     m: &mut [u16],
     ix: &mut Slots,
     tails: &mut [u16; 256],
-) -> ReadAnswer
+) -> Option<Counts>
     requires { i < 2048 }
     ensures { Takes c m.old (at (records_of file.now) i) i ix.old tails.old result m.new ix.new
         tails.new }
 {
-    let s = quick(file, i, c, m);
-    match s {
-        CountStep::No(_) => ReadAnswer::Refused {
-            number: 0,
-            place: 0,
-        },
-        CountStep::Next(t) => {
-            note(file, i, t, m);
-            enter(file, i, t, c, ix, tails);
-            ReadAnswer::Accepted(more(t, c))
-        }
-    }
+    let t = quick(file, i, c, m)?;
+    note(file, i, t, m);
+    enter(file, i, t, c, ix, tails);
+    Some(more(t, c))
 }
 
 // All records in their order, as long as their arms take them.
-fn run(file: &[u8], m: &mut [u16], ix: &mut Slots, tails: &mut [u16; 256]) -> ReadAnswer
+fn run(file: &[u8], m: &mut [u16], ix: &mut Slots, tails: &mut [u16; 256]) -> Option<Counts>
     requires file_len_bound { length file.now ≤ 65536 }
     requires going { Going file.now 0 no_counts m.old ix.old tails.old }
     ensures { Took file.now m.old result ix.new }
 {
-    let n = file.len() / 32;
     let mut c = Counts {
         names: 0,
         solvables: 0,
@@ -390,68 +377,37 @@ fn run(file: &[u8], m: &mut [u16], ix: &mut Slots, tails: &mut [u16; 256]) -> Re
         assigned: 0,
         clauses: 0,
     };
-    let mut i = 0;
-    while i < n {
-        let s = take(file, i, c, m, ix, tails);
-        let ReadAnswer::Accepted(d) = s else {
-            return s;
-        };
-        c = d;
-        i += 1;
+    for i in 0..file.len() / 32 {
+        c = take(file, i, c, m, ix, tails)?;
     }
-    ReadAnswer::Accepted(c)
+    Some(c)
 }
 
-// Reads a file by the arms and fills the index; a refusal of any number where some arm says no, and the index is of no use then.
-fn load_by_arms(file: &[u8], ix: &mut Slots) -> ReadAnswer
+// Reads a file by the arms and fills the index; nothing where some arm says no, and the index is of no use then.
+fn load_by_arms(file: &[u8], ix: &mut Slots) -> Option<Counts>
     requires { Blank ix.old }
     ensures { Quick result file.now ix.new }
 {
     let len = file.len();
-    if 65536 < len {
-        return ReadAnswer::Refused {
-            number: 0,
-            place: 0,
-        };
-    }
-    if len % 32 != 0 {
-        return ReadAnswer::Refused {
-            number: 0,
-            place: 0,
-        };
+    if 65536 < len || len % 32 != 0 {
+        return None;
     }
     let mut marks = [0u16; 1024];
     let mut tails = [0u16; 256];
-    let r = run(file, &mut marks, ix, &mut tails);
-    let ReadAnswer::Accepted(c) = r else {
-        return r;
-    };
-    let n = c.clauses;
-    hang_partners(file, ix, n);
-    r
-}
-
-fn clear(ix: &mut Slots)
-    requires { length ix.old ≡ 10432 }
-    ensures { Blank ix.new }
-{
-    let mut k: usize = 0;
-    while k < 10432 {
-        ix[k] = 0;
-        k += 1;
-    }
+    let c = run(file, &mut marks, ix, &mut tails)?;
+    hang_partners(file, ix, c.clauses);
+    Some(c)
 }
 
 // Reads a file, and fills the index where it is accepted; else the index stays as it was.
-pub fn load(file: &[u8], ix: &mut Slots) -> ReadAnswer
+pub fn load(file: &[u8], ix: &mut Slots) -> Result<Counts, Refused>
     requires { Blank ix.old }
     ensures value { result ≡ answer_of (read_of file.now) }
     ensures held { Held result file.now ix.old ix.new }
 {
-    let r = load_by_arms(file, ix);
-    let ReadAnswer::Accepted(_) = r else {
-        clear(ix);
-        return load_by_check(file, ix);
-    };
-    r
+    if let Some(c) = load_by_arms(file, ix) {
+        return Ok(c);
+    }
+    ix.fill(0);
+    load_by_check(file, ix)
 }

@@ -9,30 +9,9 @@ ghost use Rattle.std.specs.Prelude.{◌≡◌};
 ghost use Rattle.store.specs.Table.{graph_in};
 ghost use Rattle.links.specs.Build.{Chains};
 ghost use Rattle.labels.specs.Marks.{label_bits};
-ghost use Rattle.labels.specs.Frames.{Fresh};
 ghost use Rattle.labels.specs.Passes.{Blank};
 
 use store::{ChainWords, GraphWords, PerNode, Size};
-
-// With the arrays that the walk needs.
-fn label_in(
-    g: &GraphWords,
-    s: Size,
-    ls: &ChainWords,
-    marks: &mut PerNode,
-    seen: &mut PerNode,
-    order: &mut PerNode,
-    frames: &mut [u32; 128],
-)
-    requires chains { Chains g.now s ls.now }
-    requires blank { Blank marks.old }
-    requires fresh { Fresh seen.old order.old frames.old }
-    ensures { marks.new ≡ label_bits (graph_in g.now s) }
-{
-    let count = order::post_order(g, s, ls, seen, order, frames);
-    passes::mark_start(g, s, marks);
-    passes::mark_all(g, s, ls, marks, order, count);
-}
 
 // Each node's labels, 1 for installable and 2 for missing, into a table of zeros.
 pub fn label(g: &GraphWords, s: Size, ls: &ChainWords, marks: &mut PerNode)
@@ -43,5 +22,7 @@ pub fn label(g: &GraphWords, s: Size, ls: &ChainWords, marks: &mut PerNode)
     let mut seen = [0u16; 128];
     let mut order = [0u16; 128];
     let mut frames = [0u32; 128];
-    label_in(g, s, ls, marks, &mut seen, &mut order, &mut frames);
+    let count = order::post_order(g, s, ls, &mut seen, &mut order, &mut frames);
+    passes::mark_start(g, s, marks);
+    passes::mark_all(g, s, ls, marks, &order, count);
 }

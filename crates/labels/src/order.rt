@@ -13,12 +13,6 @@ struct At {
     left: usize,
 }
 
-fn wide32(x: u32) -> usize
-    ensures { result ≡ x }
-{
-    x as usize
-}
-
 // One turn: the top frame takes its next target, or is left.
 fn turn(
     g: &GraphWords,
@@ -27,16 +21,15 @@ fn turn(
     seen: &mut PerNode,
     order: &mut PerNode,
     frames: &mut [u32; 128],
-    high: usize,
-    left: usize,
+    at: At,
 ) -> At
-    requires inside { Inside g.now s ls.now seen.old order.old frames.old high left }
-    requires high_nonzero { 0 < high }
-    ensures { PostTurned g.now s ls.now seen.old order.old frames.old high left seen.new
+    requires inside { Inside g.now s ls.now seen.old order.old frames.old at.high at.left }
+    requires high_nonzero { 0 < at.high }
+    ensures { PostTurned g.now s ls.now seen.old order.old frames.old at.high at.left seen.new
         order.new frames.new result.high result.left }
 {
-    let top = high - 1;
-    let x = wide32(frames[top]);
+    let top = at.high - 1;
+    let x = frames[top] as usize;
     let n = x % 128;
     let e = x / 128;
     if 0 < e {
@@ -46,21 +39,18 @@ fn turn(
         if seen[m] == 0 {
             let f = links::first_old(ls, m);
             seen[m] = 1;
-            frames[high] = (m + 128 * f) as u32;
+            frames[at.high] = (m + 128 * f) as u32;
             return At {
-                high: high + 1,
-                left: left,
+                high: at.high + 1,
+                left: at.left,
             };
         }
-        return At {
-            high: high,
-            left: left,
-        };
+        return at;
     }
-    order[left] = n as u16;
+    order[at.left] = n as u16;
     At {
         high: top,
-        left: left + 1,
+        left: at.left + 1,
     }
 }
 
@@ -80,12 +70,9 @@ pub fn post_order(
     let f = links::first_old(ls, 0);
     seen[0] = 1;
     frames[0] = (128 * f) as u32;
-    let mut high: usize = 1;
-    let mut left: usize = 0;
-    while 0 < high {
-        let a = turn(g, s, ls, seen, order, frames, high, left);
-        high = a.high;
-        left = a.left;
+    let mut at = At { high: 1, left: 0 };
+    while 0 < at.high {
+        at = turn(g, s, ls, seen, order, frames, at);
     }
-    left
+    at.left
 }

@@ -14,6 +14,7 @@ ghost use Rattle.labels.specs.Passes.{verdict_of, installing};
 use store::{ChainWords, GraphWords, PerNode, Size};
 
 // One pass along a node's outgoing edges. `key` is 1 + the requirement of the run that is open, 0 before the first.
+// Kept: the new form is no plainer: four tests of one walk, and none of them says whether another value is there.
 #[derive(Clone, Copy)]
 struct Scan {
     key: u64,
@@ -28,44 +29,29 @@ struct Scan {
 }
 
 // Without an outgoing conflict: every run has an installable target; some run has only missing ones.
+// Kept: the new form is no plainer: both are answers of their own, an outgoing conflict makes both false, and no third case is asked for.
 #[derive(Clone, Copy)]
 struct Verdict {
     every: bool,
     some: bool,
 }
 
-fn both(a: bool, b: bool) -> bool
-    ensures { result ≡ a && b }
-{
-    if a { b } else { false }
-}
-
-fn either(a: bool, b: bool) -> bool
-    ensures { result ≡ a || b }
-{
-    if a { true } else { b }
-}
-
 fn bits(installable: bool, missing: bool) -> u16
     ensures { result ≡ bits_of installable missing }
 {
-    if installable {
-        if missing { 3 } else { 1 }
-    } else {
-        if missing { 2 } else { 0 }
-    }
+    u16::from(installable) + 2 * u16::from(missing)
 }
 
 fn inst_at(marks: &PerNode, t: usize) -> bool
     ensures { result ≡ inst_at marks.now t }
 {
-    basis::get16(marks, t) % 2 == 1
+    basis::get(marks, t) % 2 == 1
 }
 
 fn miss_at(marks: &PerNode, t: usize) -> bool
     ensures { result ≡ miss_at marks.now t }
 {
-    1 < basis::get16(marks, t)
+    1 < basis::get(marks, t)
 }
 
 fn step(o: Scan, k: u64, i: bool, m: bool) -> Scan
@@ -75,16 +61,16 @@ fn step(o: Scan, k: u64, i: bool, m: bool) -> Scan
         return Scan {
             key: k,
             lost: o.lost,
-            bare: both(o.bare, !i),
+            bare: o.bare && !i,
             hit: o.hit,
-            all: both(o.all, m),
+            all: o.all && m,
         };
     }
     Scan {
         key: k,
-        lost: either(o.lost, o.bare),
+        lost: o.lost || o.bare,
         bare: !i,
-        hit: either(o.hit, o.all),
+        hit: o.hit || o.all,
         all: m,
     }
 }
@@ -123,9 +109,10 @@ fn scan_out(g: &GraphWords, s: Size, ls: &ChainWords, marks: &PerNode, n: usize)
         o = step_at(g, marks, o, k, i);
         e = links::next_out(ls, i);
     }
-    let a = either(o.lost, o.bare);
-    let b = either(o.hit, o.all);
-    Verdict { every: !a, some: b }
+    Verdict {
+        every: !(o.lost || o.bare),
+        some: o.hit || o.all,
+    }
 }
 
 // An Excluded edge leads to n.
@@ -137,8 +124,7 @@ fn excluded_into(g: &GraphWords, s: Size, ls: &ChainWords, n: usize) -> bool
     let mut e = links::first_in(ls, n);
     while 0 < e {
         let i = e - 1;
-        let t = store::excluded_at(g, i);
-        if t {
+        if store::excluded_at(g, i) {
             return true;
         }
         e = links::next_in(ls, i);
@@ -151,15 +137,7 @@ fn can_install(g: &GraphWords, s: Size, ls: &ChainWords, n: usize, every: bool) 
     requires n_lt_nodes { n < s.nodes }
     ensures { result ≡ installing g.now s ls.now n every }
 {
-    if every {
-        let u = store::unresolved_at(g, n);
-        if u {
-            return false;
-        }
-        let x = excluded_into(g, s, ls, n);
-        return !x;
-    }
-    false
+    every && !store::unresolved_at(g, n) && !excluded_into(g, s, ls, n)
 }
 
 // Node n's mark, from the marks so far.
@@ -169,10 +147,9 @@ fn node_mark(g: &GraphWords, s: Size, ls: &ChainWords, marks: &PerNode, n: usize
     ensures { result ≡ node_mark (graph_in g.now s) marks.now n }
 {
     let v = scan_out(g, s, ls, marks, n);
-    let c = can_install(g, s, ls, n, v.every);
-    let i = inst_at(marks, n);
-    let m = miss_at(marks, n);
-    bits(either(c, i), either(v.some, m))
+    let installable = can_install(g, s, ls, n, v.every) || inst_at(marks, n);
+    let missing = v.some || miss_at(marks, n);
+    bits(installable, missing)
 }
 
 // Node n's mark by the rules alone, whatever mark it has (order 10).
@@ -182,8 +159,7 @@ pub fn mark_again(g: &GraphWords, s: Size, ls: &ChainWords, marks: &PerNode, n: 
     ensures { result ≡ anew (graph_in g.now s) marks.now n }
 {
     let v = scan_out(g, s, ls, marks, n);
-    let c = can_install(g, s, ls, n, v.every);
-    bits(c, v.some)
+    bits(can_install(g, s, ls, n, v.every), v.some)
 }
 
 // Before the pass: the unresolved node is missing, where there is one.
@@ -191,12 +167,8 @@ pub fn mark_start(g: &GraphWords, s: Size, marks: &mut PerNode)
     requires { Stored g.now s }
     ensures { marks.new ≡ cond (has_unresolved (graph_in g.now s)) (set marks.old 1 2) marks.old }
 {
-    if 1 < s.nodes {
-        let u = store::unresolved_at(g, 1);
-        if u {
-            marks[1] = 2;
-            return;
-        }
+    if 1 < s.nodes && store::unresolved_at(g, 1) {
+        marks[1] = 2;
     }
 }
 
@@ -211,11 +183,8 @@ pub fn mark_all(
     requires { Posted g.now s ls.now order.now count }
     ensures { marks.new ≡ marks_along (graph_in g.now s) (order_of (graph_in g.now s)) marks.old }
 {
-    let mut i: usize = 0;
-    while i < count {
-        let n = basis::wide16(order[i]);
-        let v = node_mark(g, s, ls, marks, n);
-        marks[n] = v;
-        i += 1;
+    for x in &order[..count] {
+        let n = usize::from(*x);
+        marks[n] = node_mark(g, s, ls, marks, n);
     }
 }

@@ -1,10 +1,10 @@
 -- The lines of an entry: the `writeln!`s of `fmt_graph`, each with its newline. Line numbers are conflict.rs's.
-use Rattle.std.specs.Prelude.{Bool, true, false, cond, List, [], ◌∷◌, ◌++◌, ℕ, eqb}
+use Rattle.std.specs.Prelude.{Bool, cond, List, [], ◌∷◌, ◌++◌, ℕ, eqb}
 use Rattle.basis.specs.Lists.{is_nil}
 use Rattle.basis.specs.Quote.{utf8}
 use Rattle.records.specs.Views.{name_text, set_name, set_text, requirement_text, reason_text}
 use Rattle.labels.specs.Runs.{Run}
-use Rattle.machine.specs.Machine.{Entry, Op, requirement, candidate}
+use Rattle.machine.specs.Machine.{Entry, requirement, candidate}
 use Rattle.texts.specs.Indent.{indent, at_top}
 use Rattle.plan.specs.Plan.{Shown, run_installable, no_candidates, Kind, excluded, bare, conflicting, constraining, requiring, line_kind}
 use Rattle.plan.specs.Display.{package_text}

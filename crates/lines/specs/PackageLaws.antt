@@ -1,5 +1,5 @@
 -- Laws of a package's line, one for each way out.
-use Rattle.std.specs.Prelude.{◌≡◌, Bool, true, false, not, List, ◌++◌, ℕ, ◌+◌, ◌≤◌, ◌<◌, eqb, leb}
+use Rattle.std.specs.Prelude.{◌≡◌, Bool, true, false, not, List, ◌++◌, ℕ, ◌+◌, ◌≤◌, ◌<◌, eqb, leb, Some, None}
 use Rattle.std.proofs.Common.{sym, ◌∙◌}
 use native.Mathlib.Omega.{arith}
 use Rattle.std.proofs.Math.ListN.{length, length-append}
@@ -22,17 +22,17 @@ module _ (T : Tables) (t why : ℕ) where
   unfolding package_tail
   reason_is a = rw (eq-eqb t 0 a)
 
-  bare_is : (t ≡ 0 → ⊥) → t ≡ 1 → package_tail T t why ≡ utf8 "\n"
+  bare_is : t ≡ 1 → package_tail T t why ≡ utf8 "\n"
   unfolding package_tail
-  bare_is a b = rw (ne_eqb t 0 a, eq-eqb t 1 b)
+  bare_is b = rw b
 
-  conflicts_is : (t ≡ 0 → ⊥) → (t ≡ 1 → ⊥) → t ≡ 2 → package_tail T t why ≡ utf8 ", which conflicts with the versions reported above.\n"
+  conflicts_is : t ≡ 2 → package_tail T t why ≡ utf8 ", which conflicts with the versions reported above.\n"
   unfolding package_tail
-  conflicts_is a b c = rw (ne_eqb t 0 a, ne_eqb t 1 b, eq-eqb t 2 c)
+  conflicts_is c = rw c
 
-  constrain_is : (t ≡ 0 → ⊥) → (t ≡ 1 → ⊥) → (t ≡ 2 → ⊥) → t ≡ 3 → package_tail T t why ≡ utf8 " would constrain\n"
+  constrain_is : t ≡ 3 → package_tail T t why ≡ utf8 " would constrain\n"
   unfolding package_tail
-  constrain_is a b c d = rw (ne_eqb t 0 a, ne_eqb t 1 b, ne_eqb t 2 c, eq-eqb t 3 d)
+  constrain_is d = rw d
 
   require_is : (t ≡ 0 → ⊥) → (t ≡ 1 → ⊥) → (t ≡ 2 → ⊥) → (t ≡ 3 → ⊥) → package_tail T t why ≡ utf8 " would require\n"
   unfolding package_tail
@@ -47,25 +47,25 @@ module _ (T : Tables) (t why : ℕ) where
       → Wrote (package_tail T t why) o d r
   reason_wrote text o d r a e h = rw (reason_is a, ← e) h
 
-  pub bare_room : (n : ℕ) → (t ≡ 0 → ⊥) → t ≡ 1 → length (package_tail T t why) ≤ n → 1 ≤ n
-  bare_room n a b h = rw (bare_is a b) at h
+  pub bare_room : (n : ℕ) → t ≡ 1 → length (package_tail T t why) ≤ n → 1 ≤ n
+  bare_room n b h = rw (bare_is b) at h
 
-  pub bare_wrote : (o x : List ℕ) (r : ℕ) → (t ≡ 0 → ⊥) → t ≡ 1 → Wrote (utf8 "\n") o x r → Wrote (package_tail T t why) o x r
-  bare_wrote o x r a b h = rw (bare_is a b) h
+  pub bare_wrote : (o x : List ℕ) (r : ℕ) → t ≡ 1 → Wrote (utf8 "\n") o x r → Wrote (package_tail T t why) o x r
+  bare_wrote o x r b h = rw (bare_is b) h
 
-  pub conflicts_room : (n : ℕ) → (t ≡ 0 → ⊥) → (t ≡ 1 → ⊥) → t ≡ 2 → length (package_tail T t why) ≤ n → 52 ≤ n
-  conflicts_room n a b c h = rw (conflicts_is a b c) at h
+  pub conflicts_room : (n : ℕ) → t ≡ 2 → length (package_tail T t why) ≤ n → 52 ≤ n
+  conflicts_room n c h = rw (conflicts_is c) at h
 
-  pub conflicts_wrote : (o x : List ℕ) (r : ℕ) → (t ≡ 0 → ⊥) → (t ≡ 1 → ⊥) → t ≡ 2 → Wrote (utf8 ", which conflicts with the versions reported above.\n") o x r
+  pub conflicts_wrote : (o x : List ℕ) (r : ℕ) → t ≡ 2 → Wrote (utf8 ", which conflicts with the versions reported above.\n") o x r
       → Wrote (package_tail T t why) o x r
-  conflicts_wrote o x r a b c h = rw (conflicts_is a b c) h
+  conflicts_wrote o x r c h = rw (conflicts_is c) h
 
-  pub constrain_room : (n : ℕ) → (t ≡ 0 → ⊥) → (t ≡ 1 → ⊥) → (t ≡ 2 → ⊥) → t ≡ 3 → length (package_tail T t why) ≤ n → 17 ≤ n
-  constrain_room n a b c d h = rw (constrain_is a b c d) at h
+  pub constrain_room : (n : ℕ) → t ≡ 3 → length (package_tail T t why) ≤ n → 17 ≤ n
+  constrain_room n d h = rw (constrain_is d) at h
 
-  pub constrain_wrote : (o x : List ℕ) (r : ℕ) → (t ≡ 0 → ⊥) → (t ≡ 1 → ⊥) → (t ≡ 2 → ⊥) → t ≡ 3 → Wrote (utf8 " would constrain\n") o x r
+  pub constrain_wrote : (o x : List ℕ) (r : ℕ) → t ≡ 3 → Wrote (utf8 " would constrain\n") o x r
       → Wrote (package_tail T t why) o x r
-  constrain_wrote o x r a b c d h = rw (constrain_is a b c d) h
+  constrain_wrote o x r d h = rw (constrain_is d) h
 
   pub require_room : (n : ℕ) → (t ≡ 0 → ⊥) → (t ≡ 1 → ⊥) → (t ≡ 2 → ⊥) → (t ≡ 3 → ⊥) → length (package_tail T t why) ≤ n → 15 ≤ n
   require_room n a b c d h = rw (require_is a b c d) at h
@@ -79,17 +79,17 @@ module _ (t : ℕ) where
   unfolding tail_size
   reason_size a = rw (eq-eqb t 0 a)
 
-  pub bare_size : (t ≡ 0 → ⊥) → t ≡ 1 → 1 ≡ tail_size t
+  pub bare_size : t ≡ 1 → 1 ≡ tail_size t
   unfolding tail_size
-  bare_size a b = rw (ne_eqb t 0 a, eq-eqb t 1 b)
+  bare_size b = rw b
 
-  pub conflicts_size : (t ≡ 0 → ⊥) → (t ≡ 1 → ⊥) → t ≡ 2 → 52 ≡ tail_size t
+  pub conflicts_size : t ≡ 2 → 52 ≡ tail_size t
   unfolding tail_size
-  conflicts_size a b c = rw (ne_eqb t 0 a, ne_eqb t 1 b, eq-eqb t 2 c)
+  conflicts_size c = rw c
 
-  pub constrain_size : (t ≡ 0 → ⊥) → (t ≡ 1 → ⊥) → (t ≡ 2 → ⊥) → t ≡ 3 → 17 ≡ tail_size t
+  pub constrain_size : t ≡ 3 → 17 ≡ tail_size t
   unfolding tail_size
-  constrain_size a b c d = rw (ne_eqb t 0 a, ne_eqb t 1 b, ne_eqb t 2 c, eq-eqb t 3 d)
+  constrain_size d = rw d
 
   pub require_size : (t ≡ 0 → ⊥) → (t ≡ 1 → ⊥) → (t ≡ 2 → ⊥) → (t ≡ 3 → ⊥) → 15 ≡ tail_size t
   unfolding tail_size
@@ -136,12 +136,13 @@ module _ (T : Tables) (p : List ℕ) (top : Bool) (ms : List Bool) (n t why : �
   line_size : length (package_said T p top ms n) ≡ length (indent top ms) + length (package_in T p n) + length (package_tail T t why)
   line_size = rw (line_is, length-append, length-append)
 
-  pub line_wrote : (o d : List ℕ) (r : ℕ) → Wrote (indent top ms ++ package_in T p n ++ package_tail T t why) o d r → Tried (package_said T p top ms n) o d r
+  pub line_wrote : (o d : List ℕ) (r : ℕ) → Wrote (indent top ms ++ package_in T p n ++ package_tail T t why) o d r
+      → Tried (package_said T p top ms n) o d (Some r)
   line_wrote o d r h = let l = line_size in let z = tail_some T t why in tried_wrote (rw line_is h) (omega arith)
 
   module _ (o : List ℕ) (a x : ℕ) (f : Bool) (fi : f ≡ leb (a + x + length (package_tail T t why)) (length o)) (ai : a ≡ length (indent top ms))
       (xi : x ≡ text_length p n) (sized : text_length p n ≡ length (package_in T p n)) where
-    pub line_full : not f ≡ true → Tried (package_said T p top ms n) o o 0
+    pub line_full : not f ≡ true → Tried (package_said T p top ms n) o o None
     line_full e =
         let l = line_size in
         let h : length o < a + x + length (package_tail T t why) = leb-false (a + x + length (package_tail T t why)) (length o) (sym fi ∙ not-true f e) in

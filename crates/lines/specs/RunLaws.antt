@@ -1,6 +1,6 @@
 -- Laws of a requirement's line, one for each way out.
-use Rattle.std.specs.Prelude.{◌≡◌, refl, Bool, true, false, cond, not, List, [], ◌∷◌, ◌++◌, ℕ, ◌+◌, ◌-◌, ◌≤◌, ◌<◌, eqb, leb}
-use Rattle.std.proofs.Common.{sym, ap, ◌∙◌, arith, length-append}
+use Rattle.std.specs.Prelude.{◌≡◌, Bool, true, false, not, List, [], ◌++◌, ℕ, ◌+◌, ◌-◌, ◌≤◌, ◌<◌, eqb, leb, Some, None}
+use Rattle.std.proofs.Common.{sym, ◌∙◌, arith, length-append}
 use Rattle.std.proofs.Math.ListN.{length}
 use borrow.Author.Tests.{eq-eqb, ne_eqb, lt-leb, le-leb, leb-true, leb-false, not-true, not-false}
 use Rattle.basis.specs.Members.{split}
@@ -49,13 +49,13 @@ module _ (top : Bool) (w : ℕ) where
   unfolding run_tail
   found_is a b = rw (eq-eqb w 0 a, b)
 
-  pub options_is : (w ≡ 0 → ⊥) → w ≡ 1 → top ≡ true → run_tail top w ≡ utf8 " can be installed with any of the following options:\n"
+  pub options_is : w ≡ 1 → top ≡ true → run_tail top w ≡ utf8 " can be installed with any of the following options:\n"
   unfolding run_tail
-  options_is a c b = rw (ne_eqb w 0 a, eq-eqb w 1 c, b)
+  options_is c b = rw (c, b)
 
-  pub which_options_is : (w ≡ 0 → ⊥) → w ≡ 1 → top ≡ false → run_tail top w ≡ utf8 ", which can be installed with any of the following options:\n"
+  pub which_options_is : w ≡ 1 → top ≡ false → run_tail top w ≡ utf8 ", which can be installed with any of the following options:\n"
   unfolding run_tail
-  which_options_is a c b = rw (ne_eqb w 0 a, eq-eqb w 1 c, b)
+  which_options_is c b = rw (c, b)
 
   pub viable_is : (w ≡ 0 → ⊥) → (w ≡ 1 → ⊥) → top ≡ true → run_tail top w ≡ utf8 " cannot be installed because there are no viable options:\n"
   unfolding run_tail
@@ -75,11 +75,11 @@ module _ (top : Bool) (w : ℕ) where
     pub found_room : w ≡ 0 → top ≡ false → length (run_tail top w) ≤ n → 38 ≤ n
     found_room a b h = rw (found_is a b) at h
 
-    pub options_room : (w ≡ 0 → ⊥) → w ≡ 1 → top ≡ true → length (run_tail top w) ≤ n → 53 ≤ n
-    options_room a c b h = rw (options_is a c b) at h
+    pub options_room : w ≡ 1 → top ≡ true → length (run_tail top w) ≤ n → 53 ≤ n
+    options_room c b h = rw (options_is c b) at h
 
-    pub which_options_room : (w ≡ 0 → ⊥) → w ≡ 1 → top ≡ false → length (run_tail top w) ≤ n → 60 ≤ n
-    which_options_room a c b h = rw (which_options_is a c b) at h
+    pub which_options_room : w ≡ 1 → top ≡ false → length (run_tail top w) ≤ n → 60 ≤ n
+    which_options_room c b h = rw (which_options_is c b) at h
 
     pub viable_room : (w ≡ 0 → ⊥) → (w ≡ 1 → ⊥) → top ≡ true → length (run_tail top w) ≤ n → 58 ≤ n
     viable_room a c b h = rw (viable_is a c b) at h
@@ -97,13 +97,13 @@ module _ (top : Bool) (w : ℕ) where
     pub found_wrote : w ≡ 0 → top ≡ false → Wrote (utf8 ", for which no candidates were found.\n") o d r → Wrote (run_tail top w) o d r
     found_wrote a b h = rw (found_is a b) h
 
-    pub options_wrote : (w ≡ 0 → ⊥) → w ≡ 1 → top ≡ true → Wrote (utf8 " can be installed with any of the following options:\n") o d r
+    pub options_wrote : w ≡ 1 → top ≡ true → Wrote (utf8 " can be installed with any of the following options:\n") o d r
         → Wrote (run_tail top w) o d r
-    options_wrote a c b h = rw (options_is a c b) h
+    options_wrote c b h = rw (options_is c b) h
 
-    pub which_options_wrote : (w ≡ 0 → ⊥) → w ≡ 1 → top ≡ false → Wrote (utf8 ", which can be installed with any of the following options:\n") o d r
+    pub which_options_wrote : w ≡ 1 → top ≡ false → Wrote (utf8 ", which can be installed with any of the following options:\n") o d r
         → Wrote (run_tail top w) o d r
-    which_options_wrote a c b h = rw (which_options_is a c b) h
+    which_options_wrote c b h = rw (which_options_is c b) h
 
     pub viable_wrote : (w ≡ 0 → ⊥) → (w ≡ 1 → ⊥) → top ≡ true → Wrote (utf8 " cannot be installed because there are no viable options:\n") o d r
         → Wrote (run_tail top w) o d r
@@ -127,13 +127,13 @@ module _ (top : Bool) (w : ℕ) where
   unfolding words_size
   found_size a b = rw (found_is a b, lead_below a b)
 
-  pub options_size : (w ≡ 0 → ⊥) → w ≡ 1 → top ≡ true → 53 ≡ words_size top w
+  pub options_size : w ≡ 1 → top ≡ true → 53 ≡ words_size top w
   unfolding words_size
-  options_size a c b = rw (options_is a c b, lead_other a)
+  options_size c b = rw (options_is c b, lead_other (λ q. omega arith))
 
-  pub which_options_size : (w ≡ 0 → ⊥) → w ≡ 1 → top ≡ false → 60 ≡ words_size top w
+  pub which_options_size : w ≡ 1 → top ≡ false → 60 ≡ words_size top w
   unfolding words_size
-  which_options_size a c b = rw (which_options_is a c b, lead_other a)
+  which_options_size c b = rw (which_options_is c b, lead_other (λ q. omega arith))
 
   pub viable_size : (w ≡ 0 → ⊥) → (w ≡ 1 → ⊥) → top ≡ true → 58 ≡ words_size top w
   unfolding words_size
@@ -180,7 +180,7 @@ module _ (T : Tables) (top : Bool) (ws : List ℕ) (n w q : ℕ) (text : List �
   run_size = rw (run_is, length-append, length-append, length-append) (omega arith)
 
   pub run_wrote : (o d : List ℕ) (r : ℕ) → Wrote (indent top (marks_at ws n) ++ run_lead (eqb n 1) w ++ text ++ run_tail (eqb n 1) w) o d r
-      → Tried (run_said T top (marks_at ws n) w q) o d r
+      → Tried (run_said T top (marks_at ws n) w q) o d (Some r)
   run_wrote o d r h =
       let l = run_size in
       let z = tail_some (eqb n 1) w in
@@ -192,7 +192,7 @@ module _ (T : Tables) (top : Bool) (ws : List ℕ) (n w q : ℕ) (text : List �
     unfolding words_size
     s_is = si
 
-    pub run_full : not f ≡ true → Tried (run_said T top (marks_at ws n) w q) o o 0
+    pub run_full : not f ≡ true → Tried (run_said T top (marks_at ws n) w q) o o None
     run_full e =
         let l = run_size in
         let k = s_is in

@@ -1,11 +1,10 @@
 -- The lines of an entry as the code makes them, from the file's tables and the packed plan: the pieces of a line in their order.
-use Rattle.std.specs.Prelude.{◌≡◌, refl, Bool, true, false, cond, ◌&&◌, List, [], ◌∷◌, ◌++◌, ℕ, ◌+◌, ◌≤◌, ◌<◌, length, eqb}
-use Rattle.std.proofs.Common.{sym, ap, ◌∙◌, append_assoc, arith, length-append}
+use Rattle.std.specs.Prelude.{Bool, cond, List, [], ◌∷◌, ◌++◌, ℕ, ◌+◌, length, eqb}
 use Rattle.basis.specs.Lists.{is_nil}
 use Rattle.basis.specs.Quote.{utf8}
 use Rattle.records.specs.Tables.{Tables}
 use Rattle.records.specs.Views.{name_text, set_name, set_text, requirement_text, reason_text}
-use Rattle.machine.specs.Machine.{Entry, Op, requirement, candidate}
+use Rattle.machine.specs.Machine.{Entry, requirement, candidate}
 use Rattle.texts.specs.Indent.{indent, at_top}
 use Rattle.plan.specs.Fields.{tag_in, reason_in, sets_in, requirement_in, wording_in}
 use Rattle.plan.specs.Texts.{package_in}

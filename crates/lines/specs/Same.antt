@@ -1,7 +1,7 @@
 -- The lines made from the packed plan are the lines of `fmt_graph`, for the runs and packages that the plan knows.
 use Rattle.std.specs.Prelude.{◌≡◌, Bool, true, false, cond, length, eqb}
 use Rattle.std.proofs.Math.Path.{refl, ap}
-use Rattle.std.proofs.Common.{sym, ◌∙◌, inl, inr, arith}
+use Rattle.std.proofs.Common.{◌∙◌, arith}
 use mathlib.Core.List.{List, [], ◌∷◌, ◌++◌, append_assoc}
 use Prim.Native.Nat.{ℕ, zero, suc, ◌<◌}
 use borrow.Author.Tests.{ne_eqb}
@@ -12,16 +12,16 @@ use Rattle.records.specs.Tables.{Tables}
 use Rattle.records.specs.Views.{name_text, set_name, set_text, requirement_text, reason_text}
 use Rattle.store.specs.Graph.{Graph}
 use Rattle.labels.specs.Runs.{Run}
-use Rattle.machine.specs.Machine.{Entry, entry, requirement, candidate}
+use Rattle.machine.specs.Machine.{entry, requirement, candidate}
 use Rattle.texts.specs.Indent.{indent, at_top}
-use Rattle.plan.specs.Plan.{Shown, shown_of, lead_shown, run_installable, no_candidates, Kind, excluded, bare, conflicting, constraining, requiring, line_kind}
+use Rattle.plan.specs.Plan.{Shown, shown_of, lead_shown, run_installable, no_candidates}
 use Rattle.plan.specs.Display.{solvable_of, members_of, package_text}
-use Rattle.plan.specs.Fields.{solvable_in, tag_in, reason_in, sets_in, kind_in, kind_by, requirement_in, wording_in}
-use Rattle.plan.specs.Planned.{wording_of, RunIs, NodeIs, Planned}
+use Rattle.plan.specs.Fields.{solvable_in, tag_in, reason_in, sets_in, kind_in, kind_by}
+use Rattle.plan.specs.Planned.{RunIs, Planned}
 use Rattle.plan.specs.Mates.{upto_in, members_alike}
 use Rattle.plan.specs.Texts.{package_in}
 use Rattle.plan.specs.Laws.Texts.{package_agrees}
-use Rattle.lines.specs.Lines.{top_of, run_line, set_line, set_lines, package_lines, lines_of}
+use Rattle.lines.specs.Lines.{top_of, set_lines, package_lines, lines_of}
 use Rattle.lines.specs.Said.{run_lead, run_tail, run_said, package_tail, package_said, set_said, sets_said, package_all, lines_in}
 
 -- ---- a requirement's line

@@ -1,11 +1,13 @@
 -- Laws of the lines under "would constrain", and of all lines of a package.
-use Rattle.std.specs.Prelude.{◌≡◌, Bool, true, false, not, ℕ, zero, suc, ◌+◌, ◌-◌, ◌≤◌, ◌<◌, length, take, drop, eqb, leb}
+use Rattle.std.specs.Prelude.{◌≡◌, Bool, true, false, ℕ, ◌+◌, ◌-◌, ◌≤◌, ◌<◌, length, take, drop, eqb, leb, Some, None, Ok, Err}
 use Rattle.std.proofs.Math.Path.{refl}
-use Rattle.std.proofs.Common.{sym, ap, ◌∙◌, add-zero, arith, length-append, length-take, length-drop}
+use Rattle.std.proofs.Common.{ap, ◌∙◌, add-zero, arith, length-append, length-take, length-drop}
 use Rattle.std.proofs.Math.Bool.{cond}
 use mathlib.Core.List.{List, [], ◌∷◌, ◌++◌, append-nil, append_assoc}
-use borrow.Author.Tests.{eq-eqb, ne_eqb, lt-leb, le-leb, leb-true, leb-false, not-true, not-false}
+use borrow.Author.Tests.{eq-eqb, ne_eqb, lt-leb, le-leb, leb-true, leb-false}
 use borrow.Rule.Slice.PartMut.{put_mid}
+use Rattle.std.specs.declared.option.Option.{Option}
+use Rattle.std.specs.declared.result.Result.{Result}
 use Rattle.basis.specs.Lists.{is_nil}
 use Rattle.basis.specs.Members.{split}
 use Rattle.basis.specs.Quote.{utf8}
@@ -21,7 +23,7 @@ use Rattle.texts.specs.declared.Indenter.{Indenter}
 use Rattle.plan.specs.Fields.{set_at, sets_from, sets_none, sets_more, sets_in, sets_first, sets_end, tag_in}
 use Rattle.lines.specs.declared.sets.Part.{Part}
 use Rattle.lines.specs.Said.{set_said, sets_said, package_said, package_all}
-use Rattle.lines.specs.Tried.{Tried, tried_wrote, tried_full, text_all, LinesWhole, Broken, Lined}
+use Rattle.lines.specs.Tried.{Tried, LineWrote, LineFull, tried_wrote, tried_full, text_all, LinesWhole, Broken, Lined}
 
 -- ---- the line of a version set; m: its name
 
@@ -29,7 +31,7 @@ abbrev pub set_pieces : Indenter → List ℕ → List ℕ → List ℕ
 set_pieces g name set =
     indent g.top (marks_in g) ++ name ++ utf8 " " ++ set ++ utf8 ", which conflicts with any installable versions previously reported\n"
 
-pub set_tried : (T : Tables) (g : Indenter) (v m : ℕ) (name set o d : List ℕ) (r : ℕ) → Tried (set_pieces g name set) o d r → name ≡ name_text T m
+pub set_tried : (T : Tables) (g : Indenter) (v m : ℕ) (name set o d : List ℕ) (r : Option ℕ) → Tried (set_pieces g name set) o d r → name ≡ name_text T m
     → m ≡ set_name T v → set ≡ set_text T v
     → Tried (set_said T g.top (marks_in g) v) o d r
 unfolding set_said
@@ -39,17 +41,17 @@ module _ (g : Indenter) (name set : List ℕ) where
   set_size : length (set_pieces g name set) ≡ length (indent g.top (marks_in g)) + 69 + length name + length set
   set_size = rw (length-append, length-append, length-append, length-append) (omega arith)
 
-  pub set_wrote : (o d : List ℕ) (r : ℕ) → Wrote (set_pieces g name set) o d r → Tried (set_pieces g name set) o d r
+  pub set_wrote : (o d : List ℕ) (r : ℕ) → Wrote (set_pieces g name set) o d r → Tried (set_pieces g name set) o d (Some r)
   set_wrote o d r h = let l = set_size in tried_wrote h (omega arith)
 
   module _ (o : List ℕ) (a : ℕ) (ai : a ≡ length (indent g.top (marks_in g))) where
-    pub words_full : length o < a + 69 → Tried (set_pieces g name set) o o 0
+    pub words_full : length o < a + 69 → Tried (set_pieces g name set) o o None
     words_full h = let l = set_size in tried_full (set_pieces g name set) o (omega arith)
 
-    pub name_full : length o - (a + 69) < length name → Tried (set_pieces g name set) o o 0
+    pub name_full : length o - (a + 69) < length name → Tried (set_pieces g name set) o o None
     name_full h = let l = set_size in tried_full (set_pieces g name set) o (omega arith)
 
-    pub set_full : length o - (a + 69) - length name < length set → Tried (set_pieces g name set) o o 0
+    pub set_full : length o - (a + 69) - length name < length set → Tried (set_pieces g name set) o o None
     set_full h = let l = set_size in tried_full (set_pieces g name set) o (omega arith)
 
 -- ---- one level further
@@ -68,7 +70,7 @@ unfolding parents
 pushed_own g h m c = rw (pushed_is g h m c)
 
 -- the final line has the last mark, the others as it was pushed
-pub turn_last : (T : Tables) (k : List ℕ) (g h : Indenter) (v i f : ℕ) (o d : List ℕ) (r : ℕ)
+pub turn_last : (T : Tables) (k : List ℕ) (g h : Indenter) (v i f : ℕ) (o d : List ℕ) (r : Option ℕ)
     → Tried (set_said T h.top (marks_in h) v) o d r
     → marks_in h ≡ last_set (marks_in g) → h.top ≡ g.top → v ≡ set_at k i → marks_in g ≡ false ∷ parents (marks_in g) → i ≤ f
     → Tried (set_said T g.top (leb i f ∷ parents (marks_in g)) (set_at k i)) o d r
@@ -76,7 +78,7 @@ turn_last T k g h v i f o d r t m q e p l =
     let n : marks_in h ≡ true ∷ parents (marks_in g) = m ∙ ap last_set p in
     rw (le-leb i f l) (rw (n, q, e) at t)
 
-pub turn_others : (T : Tables) (k : List ℕ) (g : Indenter) (v i f : ℕ) (o d : List ℕ) (r : ℕ)
+pub turn_others : (T : Tables) (k : List ℕ) (g : Indenter) (v i f : ℕ) (o d : List ℕ) (r : Option ℕ)
     → Tried (set_said T g.top (marks_in g) v) o d r
     → v ≡ set_at k i → marks_in g ≡ false ∷ parents (marks_in g) → f < i
     → Tried (set_said T g.top (leb i f ∷ parents (marks_in g)) (set_at k i)) o d r
@@ -111,29 +113,28 @@ module _ (whole rest : List (List ℕ)) (o d : List ℕ) (n u : ℕ) (w : Done w
   pub done_end : rest ≡ [] → LinesWhole whole o d n u
   done_end e = rw (w.is, e, append-nil) w.so
 
-  module _ (line : List ℕ) (rest' : List (List ℕ)) (e : rest ≡ line ∷ rest') (x : List ℕ) (m : ℕ) (t : Tried line (take (length d - n) (drop n d)) x m) where
-    pub done_next : (m ≡ 0 → ⊥) → Done whole rest' o (put_mid n (length d - n) d x) (n + m) (u + 1)
-    done_next z =
+  module _ (line : List ℕ) (rest' : List (List ℕ)) (e : rest ≡ line ∷ rest') (x : List ℕ) where
+    pub done_next : (m : ℕ) → LineWrote line (take (length d - n) (drop n d)) x m → Done whole rest' o (put_mid n (length d - n) d x) (n + m) (u + 1)
+    done_next m t =
         record {
           lines = w.lines ++ (line ∷ []);
           so = record {
-            wrote = rw (text_more w.lines line) (behind w.so.wrote (t.wrote (omega arith)));
+            wrote = rw (text_more w.lines line) (behind w.so.wrote t.wrote);
             count = let c = w.so.count in rw length-append (omega arith);
           };
           is = rw (append_assoc, ← e) w.is;
         }
 
-    pub done_full : m ≡ 0 → Broken whole o (put_mid n (length d - n) d x) n u
-    done_full z =
-        let f = t.full (omega arith) in
+    pub done_full : LineFull line (take (length d - n) (drop n d)) x → Broken whole o (put_mid n (length d - n) d x) n u
+    done_full t =
         record {
           first = w.lines;
           line = line;
           rest = rest';
           is = rw (← e) w.is;
-          wrote = part_back x w.so.wrote f.0;
+          wrote = part_back x w.so.wrote t.same;
           count = w.so.count;
-          over = let a = part_length w.so.wrote in let b = f.1 in omega arith;
+          over = let a = part_length w.so.wrote in let b = t.over in omega arith;
         }
 
 -- ---- the version sets from the end down
@@ -155,68 +156,68 @@ module _ (T : Tables) (top : Bool) (ms : List Bool) (k : List ℕ) where
     pub sets_end_lem : e ≤ i → LinesWhole whole o d n u
     sets_end_lem h = done_end whole (sets_said T top ms (sets_from k i e)) o d n u w (sets_last i e h)
 
-    module _ (h : i < e) (x : List ℕ) (m : ℕ) (t : Tried (set_said T top (leb (e - 1) i ∷ ms) (set_at k (e - 1))) (take (length d - n) (drop n d)) x m) where
-      pub sets_next : (m ≡ 0 → ⊥) → Done whole (sets_said T top ms (sets_from k i (e - 1))) o (put_mid n (length d - n) d x) (n + m) (u + 1)
-      sets_next z =
+    module _ (h : i < e) (x : List ℕ) where
+      pub sets_next : (m : ℕ) → LineWrote (set_said T top (leb (e - 1) i ∷ ms) (set_at k (e - 1))) (take (length d - n) (drop n d)) x m
+          → Done whole (sets_said T top ms (sets_from k i (e - 1))) o (put_mid n (length d - n) d x) (n + m) (u + 1)
+      sets_next m t =
           done_next whole (sets_said T top ms (sets_from k i e)) o d n u w (set_said T top (leb (e - 1) i ∷ ms) (set_at k (e - 1)))
-          (sets_said T top ms (sets_from k i (e - 1))) (sets_first_lem i e h) x m t z
+          (sets_said T top ms (sets_from k i (e - 1))) (sets_first_lem i e h) x m t
 
-      pub sets_full : m ≡ 0 → Broken whole o (put_mid n (length d - n) d x) n u
-      sets_full z =
+      pub sets_full : LineFull (set_said T top (leb (e - 1) i ∷ ms) (set_at k (e - 1))) (take (length d - n) (drop n d)) x
+          → Broken whole o (put_mid n (length d - n) d x) n u
+      sets_full t =
           done_full whole (sets_said T top ms (sets_from k i e)) o d n u w (set_said T top (leb (e - 1) i ∷ ms) (set_at k (e - 1)))
-          (sets_said T top ms (sets_from k i (e - 1))) (sets_first_lem i e h) x m t z
+          (sets_said T top ms (sets_from k i (e - 1))) (sets_first_lem i e h) x t
 
-pub sets_of : (T : Tables) (p k : List ℕ) (g h : Indenter) (n a b : ℕ) (o d : List ℕ) (y u : ℕ) (f : Bool)
-    → Lined (sets_said T h.top (parents (marks_in h)) (sets_from k a b)) o d y u f → marks_in h ≡ pushed false (marks_in g) → h.top ≡ g.top
-    → g.count < 4160 → a ≡ sets_first p n → b ≡ sets_end p n → Lined (sets_said T g.top (marks_in g) (sets_in p k n)) o d y u f
+pub sets_of : (T : Tables) (p k : List ℕ) (g h : Indenter) (n a b : ℕ) (o d : List ℕ) (r : Result Part Part)
+    → Lined (sets_said T h.top (parents (marks_in h)) (sets_from k a b)) o d r → marks_in h ≡ pushed false (marks_in g) → h.top ≡ g.top
+    → g.count < 4160 → a ≡ sets_first p n → b ≡ sets_end p n → Lined (sets_said T g.top (marks_in g) (sets_in p k n)) o d r
 unfolding sets_in parents
-sets_of T p k g h n a b o d y u f l m t c ai bi = rw (pushed_is g h m c, t, ai, bi) at l
+sets_of T p k g h n a b o d r l m t c ai bi = rw (pushed_is g h m c, t, ai, bi) at l
 
 -- ---- all lines of a package
 
 -- b bytes of its own line, and the lines under it
 abbrev pub joined_part : ℕ → Part → Part
-joined_part b s = record { bytes = b + s.bytes; units = 1 + s.units; full = s.full }
+joined_part b s = record { bytes = b + s.bytes; units = 1 + s.units }
 
-lined_behind : (line : List ℕ) (ls : List (List ℕ)) (o d e : List ℕ) (n b u : ℕ) (f : Bool) → Wrote line o d n
-    → Lined ls (take (length d - n) (drop n d)) e b u f
-    → Lined (line ∷ ls) o (put_mid n (length d - n) d e) (n + b) (1 + u) f
-lined_behind line ls o d e n b u false w l = record { wrote = behind w l.wrote; count = let c = l.count in omega arith }
-lined_behind line ls o d e n b u true w l =
-    record {
-      first = line ∷ l.first;
-      line = l.line;
-      rest = l.rest;
-      is = ap (λ (x : List (List ℕ)). line ∷ x) l.is;
-      wrote = behind w l.wrote;
-      count = let c = l.count in omega arith;
-      over = let a = l.over in let c = part_length w in omega arith;
-    }
-
-module _ (T : Tables) (p k : List ℕ) (top : Bool) (ms : List Bool) (n : ℕ) (o d : List ℕ) (r : ℕ) (t : Tried (package_said T p top ms n) o d r) where
-  pub package_full : r < 1 → Lined (package_all T p k top ms n) o d 0 0 true
+module _ (T : Tables) (p k : List ℕ) (top : Bool) (ms : List Bool) (n : ℕ) (o d : List ℕ) where
+  pub package_full : LineFull (package_said T p top ms n) o d → Lined (package_all T p k top ms n) o d (Err (record { bytes = 0; units = 0 }))
   unfolding package_all
-  package_full z =
-      let f = t.full (omega arith) in
+  package_full t =
       record {
         first = [];
         line = package_said T p top ms n;
         rest = cond (eqb (tag_in p n) 3) (sets_said T top ms (sets_in p k n)) [];
         is = refl;
-        wrote = rw f.0 wrote_none;
+        wrote = rw t.same wrote_none;
         count = refl;
-        over = let h = f.1 in omega arith;
+        over = let h = t.over in omega arith;
       }
 
-  module _ (z : 1 ≤ r) (x : ℕ) (xi : x ≡ tag_in p n) where
-    pub package_one : (x ≡ 3 → ⊥) → Lined (package_all T p k top ms n) o d r 1 false
+  module _ (r : ℕ) (t : LineWrote (package_said T p top ms n) o d r) (x : ℕ) (xi : x ≡ tag_in p n) where
+    pub package_one : (x ≡ 3 → ⊥) → Lined (package_all T p k top ms n) o d (Ok (record { bytes = r; units = 1 }))
     unfolding package_all
-    package_one h = rw (← xi, ne_eqb x 3 h) (record { wrote = rw append-nil (t.wrote (omega arith)); count = refl })
+    package_one h = rw (← xi, ne_eqb x 3 h) (record { wrote = rw append-nil t.wrote; count = refl })
 
-    pub package_sets : x ≡ 3 → (e : List ℕ) (s a : Part) → Lined (sets_said T top ms (sets_in p k n)) (take (length d - r) (drop r d)) e s.bytes s.units
-        s.full → a ≡ joined_part r s
-        → Lined (package_all T p k top ms n) o (put_mid r (length d - r) d e) a.bytes a.units a.full
-    unfolding package_all
-    package_sets h e s a l q =
-        rw (q, ← xi, eq-eqb x 3 h) (lined_behind (package_said T p top ms n) (sets_said T top ms (sets_in p k n)) o d e r s.bytes s.units s.full
-        (t.wrote (omega arith)) l)
+    module _ (h : x ≡ 3) (e : List ℕ) (s a : Part) (q : a ≡ joined_part r s) where
+      pub package_sets : LinesWhole (sets_said T top ms (sets_in p k n)) (take (length d - r) (drop r d)) e s.bytes s.units
+          → Lined (package_all T p k top ms n) o (put_mid r (length d - r) d e) (Ok a)
+      unfolding package_all
+      package_sets l =
+          rw (q, ← xi, eq-eqb x 3 h) (record { wrote = behind t.wrote l.wrote; count = let c = l.count in omega arith })
+
+      pub package_short : Broken (sets_said T top ms (sets_in p k n)) (take (length d - r) (drop r d)) e s.bytes s.units
+          → Lined (package_all T p k top ms n) o (put_mid r (length d - r) d e) (Err a)
+      unfolding package_all
+      package_short l =
+          rw (q, ← xi, eq-eqb x 3 h)
+          (record {
+            first = package_said T p top ms n ∷ l.first;
+            line = l.line;
+            rest = l.rest;
+            is = ap (λ (x : List (List ℕ)). package_said T p top ms n ∷ x) l.is;
+            wrote = behind t.wrote l.wrote;
+            count = let c = l.count in omega arith;
+            over = let a = l.over in let c = part_length t.wrote in omega arith;
+          })

@@ -1,25 +1,33 @@
 -- One line, written whole or not at all; and the lines of an entry, of which the room may take only the first.
-use Rattle.std.specs.Prelude.{◌≡◌, refl, Bool, true, false, List, [], ◌∷◌, ◌++◌, ℕ, ◌+◌, ◌-◌, ◌≤◌, ◌<◌, length, take, drop, leb}
-use Rattle.std.proofs.Common.{sym, ap, ◌∙◌, append-nil, append_assoc, arith, length-append, leb-true, leb-false}
-use Rattle.std.proofs.lemmas.Bool.{not-true, not-false}
-use borrow.Rule.Slice.PartMut.{put_mid}
+use Rattle.std.specs.Prelude.{◌≡◌, refl, List, [], ◌∷◌, ◌++◌, ℕ, ◌+◌, ◌-◌, ◌≤◌, ◌<◌, length, Some, None, Ok, Err}
+use Rattle.std.specs.declared.option.Option.{Option}
+use Rattle.std.specs.declared.result.Result.{Result}
+use Rattle.std.proofs.Common.{sym, ap, ◌∙◌, arith, length-append}
 use Rattle.basis.specs.Lists.{concat_map}
-use Rattle.basis.specs.Members.{split}
 use Rattle.texts.specs.Wrote.{Wrote}
-use Rattle.texts.specs.Laws.Wrote.{behind, wrote_none, wrote_length, wrote_one}
+use Rattle.texts.specs.Laws.Wrote.{wrote_one}
+use Rattle.lines.specs.declared.sets.Part.{Part}
 
--- r: the line's length, or 0 where the room is too short for it
-pub record Tried (line room left : List ℕ) (r : ℕ) : Type 0 where
-  pub wrote : 0 < r → Wrote line room left r
-  pub full : r ≤ 0 → (left ≡ room) × (length room < length line)
-  pub within : r ≤ length room
+pub record LineWrote (line room left : List ℕ) (b : ℕ) : Type 0 where
+  pub wrote : Wrote line room left b
+  pub some : 0 < b
+  pub within : b ≤ length room
 
-pub tried_wrote : {line o d : List ℕ} {r : ℕ} → Wrote line o d r → 0 < length line → Tried line o d r
-tried_wrote {line} {o} {d} {r} w h =
-    record { wrote = λ q. w; full = λ q. let c = w.count in let z : ⊥ = omega arith in absurd z; within = let c = w.count in let f = w.fits in omega arith }
+pub record LineFull (line room left : List ℕ) : Type 0 where
+  pub same : left ≡ room
+  pub over : length room < length line
 
-pub tried_full : (line o : List ℕ) → length o < length line → Tried line o o 0
-tried_full line o h = record { wrote = λ q. let z : ⊥ = omega arith in absurd z; full = λ q. (refl, h); within = omega arith }
+-- the line's length, or none where the room is too short for it
+abbrev pub Tried : List ℕ → List ℕ → List ℕ → Option ℕ → Type 0
+Tried line room left (Some b) = LineWrote line room left b
+Tried line room left None = LineFull line room left
+
+pub tried_wrote : {line o d : List ℕ} {b : ℕ} → Wrote line o d b → 0 < length line → Tried line o d (Some b)
+tried_wrote {line} {o} {d} {b} w h =
+    record { wrote = w; some = let c = w.count in omega arith; within = let c = w.count in let f = w.fits in omega arith }
+
+pub tried_full : (line o : List ℕ) → length o < length line → Tried line o o None
+tried_full line o h = record { same = refl; over = h }
 
 -- ---- the lines of an entry, one behind another
 
@@ -40,34 +48,27 @@ pub record Broken (ls : List (List ℕ)) (room left : List ℕ) (bytes units : �
   pub count : units ≡ length first
   pub over : length room < bytes + length line
 
-abbrev pub Lined : List (List ℕ) → List ℕ → List ℕ → ℕ → ℕ → Bool → Type 0
-Lined ls o d b u false = LinesWhole ls o d b u
-Lined ls o d b u true = Broken ls o d b u
+-- all lines, or those before the first that does not fit
+abbrev pub Lined : List (List ℕ) → List ℕ → List ℕ → Result Part Part → Type 0
+Lined ls o d (Ok s) = LinesWhole ls o d s.bytes s.units
+Lined ls o d (Err s) = Broken ls o d s.bytes s.units
+
+-- no more bytes than the room has, and no more lines than bytes
+abbrev pub Bounded : ℕ → Result Part Part → Type 0
+Bounded n (Ok s) = (s.bytes ≤ n) × (s.units ≤ s.bytes)
+Bounded n (Err s) = (s.bytes ≤ n) × (s.units ≤ s.bytes)
 
 -- ---- two results that the relations allow are equal
 
-pub tried_one : {line o d e : List ℕ} {n m : ℕ} → Tried line o d n → Tried line o e m → (n ≡ m) × (d ≡ e)
-tried_one {line} {o} {d} {e} {n} {m} x y =
-    split (leb n 0)
-    (λ a. split (leb m 0)
-    (λ b.
-    let i = leb-true n 0 a in
-    let j = leb-true m 0 b in
-    (omega arith, (x.full i).0 ∙ sym (y.full j).0))
-    (λ b.
-    let i = leb-true n 0 a in
-    let j = y.wrote (leb-false m 0 b) in
-    let z : ⊥ = (let f = (x.full i).1 in let g = j.fits in omega arith) in
-    absurd z))
-    (λ a. split (leb m 0)
-    (λ b.
-    let i = x.wrote (leb-false n 0 a) in
-    let j = leb-true m 0 b in
-    let z : ⊥ = (let f = i.fits in let g = (y.full j).1 in omega arith) in
-    absurd z)
-    (λ b.
-    let w = wrote_one (x.wrote (leb-false n 0 a)) (y.wrote (leb-false m 0 b)) in
-    (w.1, w.0)))
+pub tried_one : (line o d e : List ℕ) (r q : Option ℕ) → Tried line o d r → Tried line o e q → (r ≡ q) × (d ≡ e)
+tried_one line o d e (Some n) (Some m) x y = let w = wrote_one x.wrote y.wrote in (ap Some w.1, w.0)
+tried_one line o d e (Some n) None x y =
+    let z : ⊥ = (let f = x.wrote.fits in let g = y.over in omega arith) in
+    absurd z
+tried_one line o d e None (Some m) x y =
+    let z : ⊥ = (let f = x.over in let g = y.wrote.fits in omega arith) in
+    absurd z
+tried_one line o d e None None x y = (refl, x.same ∙ sym y.same)
 
 text_length_lem : (l : List ℕ) (ls : List (List ℕ)) → length (text_all (l ∷ ls)) ≡ length l + length (text_all ls)
 text_length_lem l ls = length-append l (text_all ls)
@@ -114,17 +115,19 @@ whole_broken {ls} {o} {d} {e} {b} {c} {u} {v} x y =
     let h = y.over in
     omega arith
 
-pub lined_one : (ls : List (List ℕ)) (o d e : List ℕ) (b c u v : ℕ) (f g : Bool) → Lined ls o d b u f → Lined ls o e c v g → (b ≡ c) × (u ≡ v) × (f ≡ g)
-    × (d ≡ e)
-lined_one ls o d e b c u v false false x y =
-    let w = wrote_one x.wrote y.wrote in (w.1, x.count ∙ sym y.count, refl, w.0)
-lined_one ls o d e b c u v false true x y = absurd (whole_broken x y)
-lined_one ls o d e b c u v true false x y = absurd (whole_broken y x)
-lined_one ls o d e b c u v true true x y =
+part_one : (s t : Part) → s.bytes ≡ t.bytes → s.units ≡ t.units → s ≡ t
+part_one s t a b = ap (λ (n : ℕ). record { bytes = n; units = s.units }) a ∙ ap (λ (n : ℕ). record { bytes = t.bytes; units = n }) b
+
+pub lined_one : (ls : List (List ℕ)) (o d e : List ℕ) (r q : Result Part Part) → Lined ls o d r → Lined ls o e q → (r ≡ q) × (d ≡ e)
+lined_one ls o d e (Ok s) (Ok t) x y =
+    let w = wrote_one x.wrote y.wrote in (ap Ok (part_one s t w.1 (x.count ∙ sym y.count)), w.0)
+lined_one ls o d e (Ok s) (Err t) x y = absurd (whole_broken x y)
+lined_one ls o d e (Err s) (Ok t) x y = absurd (whole_broken y x)
+lined_one ls o d e (Err s) (Err t) x y =
     let p = x.wrote.count in
     let q = y.wrote.count in
-    let s : x.first ≡ y.first =
+    let f : x.first ≡ y.first =
     same_first x.first y.first x.line y.line x.rest y.rest (length o) (sym x.is ∙ y.is) x.wrote.fits (let h = x.over in
     omega arith) y.wrote.fits (let h = y.over in omega arith) in
-    let w = wrote_one x.wrote (rw (← s) at y.wrote) in
-    (w.1, x.count ∙ ap length s ∙ sym y.count, refl, w.0)
+    let w = wrote_one x.wrote (rw (← f) at y.wrote) in
+    (ap Err (part_one s t w.1 (x.count ∙ ap length f ∙ sym y.count)), w.0)

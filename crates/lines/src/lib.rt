@@ -11,8 +11,5 @@ ghost use Rattle.std.specs.Prelude.{◌≡◌, ◌+◌, leb};
 fn fits(room: usize, fixed: usize, more: usize) -> bool
     ensures { result ≡ leb (fixed + more) room }
 {
-    if room < fixed {
-        return false;
-    }
-    more <= room - fixed
+    fixed <= room && more <= room - fixed
 }

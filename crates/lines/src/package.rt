@@ -19,22 +19,17 @@ use texts::wordings;
 use texts::writers::put;
 
 // The bytes behind the package, but for a reason's own.
+// Kept: what may not change: t is the number that `plan::line_kind` promises (`tag_in`), in all functions here.
 fn tail_size(t: u64) -> usize
     ensures { (result ≡ tail_size t) × (result ≤ 52) }
 {
-    if t == 0 {
-        return 22;
+    match t {
+        0 => 22,
+        1 => 1,
+        2 => 52,
+        3 => 17,
+        _ => 15,
     }
-    if t == 1 {
-        return 1;
-    }
-    if t == 2 {
-        return 52;
-    }
-    if t == 3 {
-        return 17;
-    }
-    15
 }
 
 // Whether the room holds so many bytes and what stands behind the package.
@@ -56,9 +51,9 @@ fn put_reason(out: &mut [u8], text: &[u8]) -> usize
     requires { 22 + length text.now ≤ length out.old }
     ensures { Wrote (utf8 " is excluded because " ++ text.now ++ utf8 "\n") out.old out.new result }
 {
-    let a = wordings::excluded(out);
+    let a = put(out, wordings::EXCLUDED);
     let b = a + put(&mut out[a..], text);
-    b + wordings::newline(&mut out[b..])
+    b + put(&mut out[b..], wordings::NEWLINE)
 }
 
 // What stands behind the package.
@@ -67,20 +62,13 @@ fn put_tail(file: &[u8], ix: &Slots, out: &mut [u8], t: u64, reason: u16) -> usi
     requires reason_in_bounds { length (package_tail (tables_of file.now) t reason) ≤ length out.old }
     ensures { Wrote (package_tail (tables_of file.now) t reason) out.old out.new result }
 {
-    if t == 0 {
-        let text = views::reason_text(file, ix, reason);
-        return put_reason(out, text);
+    match t {
+        0 => put_reason(out, views::reason_text(file, ix, reason)),
+        1 => put(out, wordings::NEWLINE),
+        2 => put(out, wordings::CONFLICTS),
+        3 => put(out, wordings::WOULD_CONSTRAIN),
+        _ => put(out, wordings::WOULD_REQUIRE),
     }
-    if t == 1 {
-        return wordings::newline(out);
-    }
-    if t == 2 {
-        return wordings::conflicts(out);
-    }
-    if t == 3 {
-        return wordings::would_constrain(out);
-    }
-    wordings::would_require(out)
 }
 
 // The line, where it fits.
@@ -108,7 +96,7 @@ fn put_line(
     b + put_tail(file, ix, &mut out[b..], t, why)
 }
 
-// The line of package n under these levels: its length, or 0 where it does not fit.
+// The line of package n under these levels: its length, or none where it does not fit.
 pub fn package_line(
     file: &[u8],
     ix: &Slots,
@@ -118,7 +106,7 @@ pub fn package_line(
     count: usize,
     top: bool,
     n: usize,
-) -> usize
+) -> Option<usize>
     requires loaded { Loaded file.now ix.now }
     requires count_bound { count ≤ 4160 }
     requires n_value { text_length p.now n ≡ length (package_in (tables_of file.now) p.now n) }
@@ -129,7 +117,7 @@ pub fn package_line(
     let why = plan::reason(p, n);
     let fixed = length_of(levels, count, top) + plan::text_length(p, n);
     if !tail_fits(file, ix, out.len(), fixed, t, why) {
-        return 0;
+        return None;
     }
-    put_line(file, ix, p, out, levels, count, top, n, t, why)
+    Some(put_line(file, ix, p, out, levels, count, top, n, t, why))
 }

@@ -16,16 +16,16 @@ use texts::wordings;
 use texts::writers::put;
 
 // What stands before the requirement.
+// Kept: what may not change: w is the number that `plan::wording` promises (`wording_in`), in all functions here.
 fn put_lead(out: &mut [u8], top: bool, w: u64) -> usize
     requires { length (run_lead top w) ≤ length out.old }
     ensures { Wrote (run_lead top w) out.old out.new result }
 {
-    if w == 0 {
-        if top {
-            return wordings::none_found(out);
-        }
+    if w == 0 && top {
+        put(out, wordings::NONE_FOUND)
+    } else {
+        0
     }
-    0
 }
 
 // What stands behind it.
@@ -33,44 +33,28 @@ fn put_tail(out: &mut [u8], top: bool, w: u64) -> usize
     requires { length (run_tail top w) ≤ length out.old }
     ensures { Wrote (run_tail top w) out.old out.new result }
 {
-    if w == 0 {
-        if top {
-            return wordings::stop(out);
-        }
-        return wordings::which_none_found(out);
+    match (w, top) {
+        (0, true) => put(out, wordings::STOP),
+        (0, false) => put(out, wordings::WHICH_NONE_FOUND),
+        (1, true) => put(out, wordings::OPTIONS),
+        (1, false) => put(out, wordings::WHICH_OPTIONS),
+        (_, true) => put(out, wordings::NO_VIABLE),
+        (_, false) => put(out, wordings::WHICH_NO_VIABLE),
     }
-    if w == 1 {
-        if top {
-            return wordings::options(out);
-        }
-        return wordings::which_options(out);
-    }
-    if top {
-        return wordings::no_viable(out);
-    }
-    wordings::which_no_viable(out)
 }
 
 // The bytes of both.
 fn words_size(top: bool, w: u64) -> usize
     ensures { (result ≡ words_size top w) × (result ≤ 65) }
 {
-    if w == 0 {
-        if top {
-            return 31;
-        }
-        return 38;
+    match (w, top) {
+        (0, true) => 31,
+        (0, false) => 38,
+        (1, true) => 53,
+        (1, false) => 60,
+        (_, true) => 58,
+        (_, false) => 65,
     }
-    if w == 1 {
-        if top {
-            return 53;
-        }
-        return 60;
-    }
-    if top {
-        return 58;
-    }
-    65
 }
 
 // The line, where it fits; `first`: at the top level.
@@ -95,7 +79,7 @@ fn put_run(
     c + put_tail(&mut out[c..], first, w)
 }
 
-// The line of a run with this wording and this requirement, under these levels: its length, or 0 where it does not fit.
+// The line of a run with this wording and this requirement, under these levels: its length, or none where it does not fit.
 pub fn run_line(
     file: &[u8],
     ix: &Slots,
@@ -105,7 +89,7 @@ pub fn run_line(
     top: bool,
     w: u64,
     q: u16,
-) -> usize
+) -> Option<usize>
     requires loaded { Loaded file.now ix.now }
     requires count_bound { count ≤ 4160 }
     ensures { Tried (run_said (tables_of file.now) top (marks_at levels.now count) w q) out.old out.new result }
@@ -114,7 +98,7 @@ pub fn run_line(
     let first = count == 1;
     let fixed = length_of(levels, count, top) + words_size(first, w);
     if !fits(out.len(), fixed, text.len()) {
-        return 0;
+        return None;
     }
-    put_run(out, levels, count, top, first, w, text)
+    Some(put_run(out, levels, count, top, first, w, text))
 }

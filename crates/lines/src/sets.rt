@@ -8,7 +8,7 @@ ghost use Rattle.texts.specs.Indent.{indent};
 ghost use Rattle.plan.specs.Fields.{text_length, set_at, sets_from, sets_in};
 ghost use Rattle.plan.specs.Texts.{package_in};
 ghost use Rattle.lines.specs.Said.{set_said, sets_said, package_all};
-ghost use Rattle.lines.specs.Tried.{Tried, Lined};
+ghost use Rattle.lines.specs.Tried.{Tried, Lined, Bounded};
 ghost use Rattle.lines.specs.SetLaws.{set_pieces, parents, joined_part};
 
 use super::package::package_line;
@@ -17,12 +17,11 @@ use store::Scratch;
 use texts::writers::put;
 use texts::{Indenter, wordings};
 
-// How far the lines of an entry came: bytes and lines written, and whether the next did not fit.
+// How far the lines of an entry came: bytes and lines written. `Ok` holds it where they are all, `Err` where the next did not fit.
 #[derive(Clone, Copy)]
 pub struct Part {
     pub bytes: usize,
     pub units: usize,
-    pub full: bool,
 }
 
 fn put_set(out: &mut [u8], g: Indenter, name: &[u8], set: &[u8]) -> usize
@@ -32,33 +31,33 @@ fn put_set(out: &mut [u8], g: Indenter, name: &[u8], set: &[u8]) -> usize
 {
     let a = g.get_indent(out);
     let b = a + put(&mut out[a..], name);
-    let c = b + wordings::space(&mut out[b..]);
+    let c = b + put(&mut out[b..], wordings::SPACE);
     let d = c + put(&mut out[c..], set);
-    d + wordings::conflicts_any(&mut out[d..])
+    d + put(&mut out[d..], wordings::CONFLICTS_ANY)
 }
 
-// The line where it fits: its length, or 0.
-fn try_set(out: &mut [u8], g: Indenter, name: &[u8], set: &[u8]) -> usize
+// The line where it fits: its length.
+fn try_set(out: &mut [u8], g: Indenter, name: &[u8], set: &[u8]) -> Option<usize>
     requires { g.count ≤ 4160 }
     ensures { Tried (set_pieces g name.now set.now) out.old out.new result }
 {
     let fixed = g.indent_length() + 69;
     let room = out.len();
     if room < fixed {
-        return 0;
+        return None;
     }
     let left = room - fixed;
     if left < name.len() {
-        return 0;
+        return None;
     }
     if left - name.len() < set.len() {
-        return 0;
+        return None;
     }
-    put_set(out, g, name, set)
+    Some(put_set(out, g, name, set))
 }
 
-// The line of version set v: its length, or 0 where it does not fit.
-fn set_line(file: &[u8], ix: &Slots, out: &mut [u8], g: Indenter, v: u16) -> usize
+// The line of version set v: its length, or none where it does not fit.
+fn set_line(file: &[u8], ix: &Slots, out: &mut [u8], g: Indenter, v: u16) -> Option<usize>
     requires loaded { Loaded file.now ix.now }
     requires count_bound { g.count ≤ 4160 }
     ensures { Tried (set_said (tables_of file.now) g.top (marks_in g) v) out.old out.new result }
@@ -77,7 +76,7 @@ fn set_turn(
     g: Indenter,
     first: usize,
     i: usize,
-) -> usize
+) -> Option<usize>
     requires loaded { Loaded file.now ix.now }
     requires count_bound { (g.count ≤ 4160) × (marks_in g ≡ false ∷ parents (marks_in g)) }
     ensures { Tried (set_said (tables_of file.now) g.top (leb i first ∷ parents (marks_in g)) (set_at k.now i)) out.old
@@ -100,35 +99,22 @@ fn set_lines(
     g: Indenter,
     first: usize,
     end: usize,
-) -> Part
+) -> Result<Part, Part>
     requires loaded { Loaded file.now ix.now }
     requires count_bound { (g.count ≤ 4160) × (marks_in g ≡ false ∷ parents (marks_in g)) }
-    ensures lined { Lined (sets_said (tables_of file.now) g.top (parents (marks_in g)) (sets_from k.now first end)) out.old
-        out.new result.bytes result.units result.full }
-    ensures fact { (result.bytes ≤ length out.old) × (result.units ≤ result.bytes) }
+    ensures lined { Lined (sets_said (tables_of file.now) g.top (parents (marks_in g)) (sets_from k.now first end)) out.old out.new result }
+    ensures fact { Bounded (length out.old) result }
 {
-    let mut e = end;
-    let mut at: usize = 0;
+    let mut bytes: usize = 0;
     let mut units: usize = 0;
-    while first < e {
-        let i = e - 1;
-        let b = set_turn(file, ix, k, &mut out[at..], g, first, i);
-        if b == 0 {
-            return Part {
-                bytes: at,
-                units,
-                full: true,
-            };
-        }
-        at += b;
+    for i in (first..end).rev() {
+        let Some(b) = set_turn(file, ix, k, &mut out[bytes..], g, first, i) else {
+            return Err(Part { bytes, units });
+        };
+        bytes += b;
         units += 1;
-        e = i;
     }
-    Part {
-        bytes: at,
-        units,
-        full: false,
-    }
+    Ok(Part { bytes, units })
 }
 
 // The lines under package n, which "would constrain": one level is pushed for all of them (lines 1130 to 1144).
@@ -140,12 +126,11 @@ fn sets_of(
     out: &mut [u8],
     g: Indenter,
     n: usize,
-) -> Part
+) -> Result<Part, Part>
     requires loaded { Loaded file.now ix.now }
     requires count_bound { g.count < 4160 }
-    ensures lined { Lined (sets_said (tables_of file.now) g.top (marks_in g) (sets_in p.now k.now n)) out.old
-        out.new result.bytes result.units result.full }
-    ensures fact { (result.bytes ≤ length out.old) × (result.units ≤ result.bytes) }
+    ensures lined { Lined (sets_said (tables_of file.now) g.top (marks_in g) (sets_in p.now k.now n)) out.old out.new result }
+    ensures fact { Bounded (length out.old) result }
 {
     let first = plan::sets_first(p, n);
     let end = plan::sets_end(p, n);
@@ -162,7 +147,6 @@ fn behind_line(b: usize, s: Part) -> Part
     Part {
         bytes: b + s.bytes,
         units: 1 + s.units,
-        full: s.full,
     }
 }
 
@@ -177,36 +161,27 @@ pub fn package_lines(
     count: usize,
     top: bool,
     n: usize,
-) -> Part
+) -> Result<Part, Part>
     requires loaded { Loaded file.now ix.now }
     requires count_bound { count < 4160 }
     requires n_value { text_length p.now n ≡ length (package_in (tables_of file.now) p.now n) }
-    ensures lined { Lined (package_all (tables_of file.now) p.now k.now top (marks_at levels.now count) n)
-        out.old out.new result.bytes result.units result.full }
-    ensures fact { (result.bytes ≤ length out.old) × (result.units ≤ result.bytes) }
+    ensures lined { Lined (package_all (tables_of file.now) p.now k.now top (marks_at levels.now count) n) out.old out.new result }
+    ensures fact { Bounded (length out.old) result }
 {
-    let b = package_line(file, ix, p, out, levels, count, top, n);
-    if b < 1 {
-        return Part {
-            bytes: 0,
-            units: 0,
-            full: true,
-        };
+    let Some(b) = package_line(file, ix, p, out, levels, count, top, n) else {
+        return Err(Part { bytes: 0, units: 0 });
+    };
+    if plan::line_kind(p, n) != 3 {
+        return Ok(Part { bytes: b, units: 1 });
     }
-    let t = plan::line_kind(p, n);
-    if t == 3 {
-        let own = *levels;
-        let g = Indenter {
-            levels: own,
-            count,
-            top,
-        };
-        let s = sets_of(file, ix, p, k, &mut out[b..], g, n);
-        return behind_line(b, s);
-    }
-    Part {
-        bytes: b,
-        units: 1,
-        full: false,
+    let own = *levels;
+    let g = Indenter {
+        levels: own,
+        count,
+        top,
+    };
+    match sets_of(file, ix, p, k, &mut out[b..], g, n) {
+        Ok(s) => Ok(behind_line(b, s)),
+        Err(s) => Err(behind_line(b, s)),
     }
 }

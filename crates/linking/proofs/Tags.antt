@@ -4,6 +4,7 @@ use mathlib.Core.List.{List, [], ◌∷◌}
 use mathlib.Core.Logic.{◌⊎◌, inl, inr}
 use Prim.Native.Nat.{ℕ}
 use native.Mathlib.Omega.{arith}
+use Rattle.std.specs.declared.option.Option.TheVariants.{None}
 use types.Run.{OneOf}
 use denote.Enum.Declared.{tag_of}
 use Rattle.records.specs.declared.Origin.{Origin}
@@ -13,8 +14,6 @@ use Rattle.records.specs.declared.Clause.TheVariants as C
 use Rattle.records.specs.Tables.{Tables}
 use Rattle.records.specs.contracts.Origin as Origins
 use Rattle.records.specs.contracts.Clause as Clauses
-use Rattle.linking.specs.declared.Party.{Party}
-use Rattle.linking.specs.declared.Party.TheVariants.{Neither}
 use Rattle.linking.specs.Links.{solvable_in, name_forbidden, any_of_in, parent_in, excluded_in}
 
 -- a number is none of those that it should be one of
@@ -53,7 +52,7 @@ nine n a b c d e f g h i (inr (inr (inr (inr (inr (inr (inl z))))))) p0 p1 p2 p3
 nine n a b c d e f g h i (inr (inr (inr (inr (inr (inr (inr (inl z)))))))) p0 p1 p2 p3 p4 p5 p6 p7 p8 = absurd (p7 z)
 nine n a b c d e f g h i (inr (inr (inr (inr (inr (inr (inr (inr z)))))))) p0 p1 p2 p3 p4 p5 p6 p7 p8 = absurd (p8 z)
 
-pub not_any_of : (T : Tables) (c : Clause) → OneOf (0 ∷ 1 ∷ 2 ∷ 3 ∷ 4 ∷ 5 ∷ 6 ∷ 7 ∷ 8 ∷ []) (tag_of Clauses.the_type c) → any_of_in T c ≡ Neither
+pub not_any_of : (T : Tables) (c : Clause) → OneOf (0 ∷ 1 ∷ 2 ∷ 3 ∷ 4 ∷ 5 ∷ 6 ∷ 7 ∷ 8 ∷ []) (tag_of Clauses.the_type c) → any_of_in T c ≡ None
 not_any_of T C.InstallRoot h = refl
 not_any_of T (C.Excluded a b) h = refl
 not_any_of T C.Learnt h = refl
@@ -67,7 +66,7 @@ not_any_of T (C.AnyOf a b) h =
     nine 9 0 1 2 3 4 5 6 7 8 h (λ z. omega arith) (λ z. omega arith) (λ z. omega arith) (λ z. omega arith) (λ z. omega arith) (λ z. omega arith) (λ z.
     omega arith) (λ z. omega arith) (λ z. omega arith)
 
-pub not_parent : (T : Tables) (c : Clause) → OneOf (0 ∷ 1 ∷ 2 ∷ 3 ∷ 4 ∷ 5 ∷ 6 ∷ 8 ∷ 9 ∷ []) (tag_of Clauses.the_type c) → parent_in T c ≡ Neither
+pub not_parent : (T : Tables) (c : Clause) → OneOf (0 ∷ 1 ∷ 2 ∷ 3 ∷ 4 ∷ 5 ∷ 6 ∷ 8 ∷ 9 ∷ []) (tag_of Clauses.the_type c) → parent_in T c ≡ None
 not_parent T C.InstallRoot h = refl
 not_parent T (C.Excluded a b) h = refl
 not_parent T C.Learnt h = refl
@@ -81,7 +80,7 @@ not_parent T (C.ConstrainsParent a b v) h =
 not_parent T (C.ConstrainsExcluded a b v) h = refl
 not_parent T (C.AnyOf a b) h = refl
 
-pub not_excluded : (T : Tables) (c : Clause) → OneOf (0 ∷ 1 ∷ 2 ∷ 3 ∷ 4 ∷ 5 ∷ 6 ∷ 7 ∷ 9 ∷ []) (tag_of Clauses.the_type c) → excluded_in T c ≡ Neither
+pub not_excluded : (T : Tables) (c : Clause) → OneOf (0 ∷ 1 ∷ 2 ∷ 3 ∷ 4 ∷ 5 ∷ 6 ∷ 7 ∷ 9 ∷ []) (tag_of Clauses.the_type c) → excluded_in T c ≡ None
 not_excluded T C.InstallRoot h = refl
 not_excluded T (C.Excluded a b) h = refl
 not_excluded T C.Learnt h = refl

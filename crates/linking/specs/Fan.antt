@@ -1,5 +1,5 @@
 -- The edges of one requirer to its candidates, where its node is found once: each link is the second half of `add_link_in`, `add_target`.
-use Rattle.std.specs.Prelude.{◌≡◌, List, [], ◌∷◌, map, ℕ, ◌-◌, ◌<◌, ◌≤◌}
+use Rattle.std.specs.Prelude.{◌≡◌, List, [], ◌∷◌, map, ℕ, ◌-◌, ◌<◌, ◌≤◌, Result, Ok, Err}
 use Rattle.std.proofs.Math.Path.{refl, sym, ap}
 use Rattle.std.proofs.Common.{◌∙◌, arith}
 use Rattle.records.specs.Tables.{Tables}
@@ -9,15 +9,13 @@ use Rattle.store.specs.declared.ConflictNode.TheVariants as N
 use Rattle.store.specs.declared.ConflictEdge.TheVariants as E
 use Rattle.store.specs.declared.Size.{Size}
 use Rattle.store.specs.declared.Put.{Put}
-use Rattle.store.specs.declared.Put.TheVariants.{At, Full}
 use Rattle.store.specs.Graph.{Graph}
 use Rattle.store.specs.Working.{AddedSoFar, added_to, full_at, add_node_in, add_link_in}
 use Rattle.store.specs.Table.{graph_in, Growing, added_in, size_of, place_of}
 use Rattle.store.specs.Adding.{add_target}
 use Rattle.store.specs.Fan.{linked_by}
 use Rattle.store.specs.Laws.Fan.{linked_stops, linked_goes, known_self, known_keeps, known_link}
-use Rattle.linking.specs.declared.Grown.{Grown}
-use Rattle.linking.specs.declared.Grown.TheVariants as G
+use Rattle.store.specs.declared.Full.{Full}
 use Rattle.linking.specs.Links.{Link, require_link}
 use Rattle.linking.specs.Working.{LinkedSoFar, more_to, short_at, link_all_in}
 use Rattle.linking.specs.Growth.{Grew, grew_none}
@@ -55,42 +53,42 @@ fan_first q i p c cs g h k =
     ∙ sym (known_link h h p (N.Solvable c) (E.Requires q) i a) in
     rw (b, link_all_in) (fan_known q i p (c ∷ cs) h a)
 
-module _ (T : Tables) (q : ℕ) (p : ConflictNode) (g h : List ℕ) (s t : Size) (a : Put) (x : ℕ) where
-  pub fan_full : added_in h a ≡ add_node_in (graph_in g s) p → a ≡ Full t → Growing h (size_of a) → 0 < x
-      → Grew (link_all_in (candidate_links T q p x) (graph_in g s)) h (G.Full t)
+module _ (T : Tables) (q : ℕ) (p : ConflictNode) (g h : List ℕ) (s : Size) (a : Result Put Full) (x : ℕ) where
+  pub fan_full : (b : Full) → added_in h a ≡ add_node_in (graph_in g s) p → a ≡ Err b → Growing h (size_of a) → 0 < x
+      → Grew (link_all_in (candidate_links T q p x) (graph_in g s)) h (Err b)
   unfolding candidate_links link_all_in add_link_in
-  fan_full e f P l =
-      let z : add_node_in (graph_in g s) p ≡ full_at (graph_in h t) = sym e ∙ ap (added_in h) f in
+  fan_full b e f P l =
+      let z : add_node_in (graph_in g s) p ≡ full_at (graph_in h b.size) = sym e ∙ ap (added_in h) f in
       let y : candidates_from T x ≡ candidate_at T (x - 1) ∷ candidates_from T (next_candidate T (x - 1)) =
       candidates_step T x (candidate_at T (x - 1)) (next_candidate T (x - 1)) l refl refl in
       record { is = rw (y, link_all_in, z, add_link_in); growing = rw f at P }
 
   -- j is the number as a byte
-  pub fan_on : (i j : ℕ) (m : List ℕ) (r : Grown) → added_in h a ≡ add_node_in (graph_in g s) p → a ≡ At i t → j ≡ i
-      → Grew (fan_all q j (candidates_from T x) (graph_in h t)) m r → 0 < x → Grew (link_all_in (candidate_links T q p x) (graph_in g s)) m r
+  pub fan_on : (i : Put) (j : ℕ) (m : List ℕ) (r : Result Size Full) → added_in h a ≡ add_node_in (graph_in g s) p → a ≡ Ok i → j ≡ i.place
+      → Grew (fan_all q j (candidates_from T x) (graph_in h i.size)) m r → 0 < x → Grew (link_all_in (candidate_links T q p x) (graph_in g s)) m r
   unfolding candidate_links
   fan_on i j m r e f b R l =
-      let z : add_node_in (graph_in g s) p ≡ added_to i (graph_in h t) = sym e ∙ ap (added_in h) f in
+      let z : add_node_in (graph_in g s) p ≡ added_to i.place (graph_in h i.size) = sym e ∙ ap (added_in h) f in
       let y : candidates_from T x ≡ candidate_at T (x - 1) ∷ candidates_from T (next_candidate T (x - 1)) =
       candidates_step T x (candidate_at T (x - 1)) (next_candidate T (x - 1)) l refl refl in
-      let u : link_all_in (map (require_link q p) (candidates_from T x)) (graph_in g s) ≡ fan_all q i (candidates_from T x) (graph_in h t) =
-      rw y (fan_first q i p (candidate_at T (x - 1)) (candidates_from T (next_candidate T (x - 1))) (graph_in g s) (graph_in h t) z) in
+      let u : link_all_in (map (require_link q p) (candidates_from T x)) (graph_in g s) ≡ fan_all q i.place (candidates_from T x) (graph_in h i.size) =
+      rw y (fan_first q i.place p (candidate_at T (x - 1)) (candidates_from T (next_candidate T (x - 1))) (graph_in g s) (graph_in h i.size) z) in
       rw u (rw b at R)
 
 pub ruleset fans = (fan_full, fan_on)
 
 pub fan_none : (T : Tables) (q : ℕ) (p : ConflictNode) (x : ℕ) (g : List ℕ) (s : Size) → x ≡ 0 → Growing g s
-    → Grew (link_all_in (candidate_links T q p x) (graph_in g s)) g (G.On s)
+    → Grew (link_all_in (candidate_links T q p x) (graph_in g s)) g (Ok s)
 unfolding candidate_links
 fan_none T q p x g s e P = grew_none (candidate_links T q p x) g s (ap (map (require_link q p)) (candidates_end T x (omega arith))) P
 
 pub not_none : (x : ℕ) → (x ≡ 0 → ⊥) → 0 < x
 not_none x e = omega (arith, e)
 
-pub at_small : (h : List ℕ) (a : Put) (i : ℕ) (t : Size) → a ≡ At i t → Growing h (size_of a) → place_of a < (size_of a).nodes → i < 128
-at_small h a i t e P l =
-    let Q : Growing h t = rw e at P in
-    let m : i < t.nodes = rw e at l in
+pub at_small : (h : List ℕ) (a : Result Put Full) (i : Put) → a ≡ Ok i → Growing h (size_of a) → place_of a < (size_of a).nodes → i.place < 128
+at_small h a i e P l =
+    let Q : Growing h i.size = rw e at P in
+    let m : i.place < i.size.nodes = rw e at l in
     omega (arith, Q.stored.nodes_most)
 
 -- ---- the loop: the edges to cs that are left give W
@@ -115,14 +113,14 @@ module _ (T : Tables) (W : LinkedSoFar) (q i x c n : ℕ) (g h : List ℕ) (s u 
 
   pub fan_stop : Fanning W q i (candidates_from T x) g s → 0 < x → c ≡ candidate_at T (x - 1)
       → added_in h (linked_by s n) ≡ add_target (graph_in g s) i (N.Solvable c) (E.Requires q) → Growing h (size_of (linked_by s n)) → u ≡ size_of (linked_by s n)
-      → 2 ≤ n → Grew W h (G.Full u)
+      → 2 ≤ n → Grew W h (Err (record { size = u }))
   unfolding fan_all
   fan_stop F l e o P z b =
       let k : add_target (graph_in g s) i (N.Solvable c) (E.Requires q) ≡ full_at (graph_in h u) = sym o ∙ ap (added_in h) (linked_stops s u n b z) in
       let v : candidates_from T x ≡ c ∷ candidates_from T (next_candidate T (x - 1)) = candidates_step T x c (next_candidate T (x - 1)) l e refl in
       record { is = rw (v, fan_all, k) at F.left; growing = rw (← z) at P }
 
-pub fan_end : (T : Tables) (W : LinkedSoFar) (q i x : ℕ) (g : List ℕ) (s : Size) → Fanning W q i (candidates_from T x) g s → x ≤ 0 → Grew W g (G.On s)
+pub fan_end : (T : Tables) (W : LinkedSoFar) (q i x : ℕ) (g : List ℕ) (s : Size) → Fanning W q i (candidates_from T x) g s → x ≤ 0 → Grew W g (Ok s)
 unfolding fan_all
 fan_end T W q i x g s F h = record { is = rw (candidates_end T x h, fan_all) at F.left; growing = F.growing }
 

@@ -1,5 +1,5 @@
 -- Links added one after another to a table that holds the graph: what an answer means, what is left to add, and how the two meet.
-use Rattle.std.specs.Prelude.{◌≡◌, refl, length, ltb}
+use Rattle.std.specs.Prelude.{◌≡◌, refl, length, ltb, Result, Ok, Err}
 use Rattle.std.proofs.Math.Path.{sym, ap}
 use Rattle.std.proofs.Common.{◌∙◌, add-one, sub-one, not-suc-le-zero, arith, length-append, ltb-true, ltb-false, lt-ltb, le-ltb}
 use mathlib.Core.List.{List, [], ◌∷◌, ◌++◌, append-nil}
@@ -15,27 +15,25 @@ use Rattle.store.specs.declared.ConflictEdge.TheVariants as W
 use Rattle.store.specs.declared.Edge.{Edge}
 use Rattle.store.specs.declared.Size.{Size}
 use Rattle.store.specs.declared.Put.{Put}
-use Rattle.store.specs.declared.Put.TheVariants.{At, Full}
 use Rattle.store.specs.Graph.{Graph, same_node, with_node, with_edge}
 use Rattle.store.specs.Working.{AddedSoFar, added_to, full_at, add_node_in, add_edge_in, add_link_in}
 use Rattle.store.specs.Table.{graph_in, Stored, Growing, added_in, size_of, place_of, edges_count}
-use Rattle.linking.specs.declared.Grown.{Grown}
-use Rattle.linking.specs.declared.Grown.TheVariants as G
+use Rattle.store.specs.declared.Full.{Full}
 use Rattle.linking.specs.Links.{Link, link, previous_links}
 use Rattle.linking.specs.Working.{LinkedSoFar, more_to, short_at, link_all_in, forbid_all_in, last_by}
 
 -- ---- what an answer means
 
-abbrev pub grown_in : List ℕ → Grown → LinkedSoFar
-grown_in g (G.On s) = more_to (graph_in g s)
-grown_in g (G.Full s) = short_at (graph_in g s)
+abbrev pub grown_in : List ℕ → Result Size Full → LinkedSoFar
+grown_in g (Ok s) = more_to (graph_in g s)
+grown_in g (Err e) = short_at (graph_in g e.size)
 
-abbrev pub grown_size : Grown → Size
-grown_size (G.On s) = s
-grown_size (G.Full s) = s
+abbrev pub grown_size : Result Size Full → Size
+grown_size (Ok s) = s
+grown_size (Err e) = e.size
 
 -- table h and answer r hold W, and the graph can grow on
-pub record Grew (W : LinkedSoFar) (h : List ℕ) (r : Grown) : Type 0 where
+pub record Grew (W : LinkedSoFar) (h : List ℕ) (r : Result Size Full) : Type 0 where
   pub is : grown_in h r ≡ W
   pub growing : Growing h (grown_size r)
 
@@ -62,9 +60,9 @@ link_append (x ∷ xs) ys g = after (add_link_in g x.source x.target x.weight) x
 
 -- ---- the ways of a loop: r is what adding the first part xs gave
 
-module _ (W : LinkedSoFar) (ls xs ys : List Link) (g h : List ℕ) (s t : Size) (r : Grown) where
-  pub left_next : LinksLeft W ls g s → Grew (link_all_in xs (graph_in g s)) h r → r ≡ G.On t → ls ≡ xs ++ ys → LinksLeft W ys h t
-  left_next L R q e =
+module _ (W : LinkedSoFar) (ls xs ys : List Link) (g h : List ℕ) (s : Size) (r : Result Size Full) where
+  pub left_next : (t : Size) → LinksLeft W ls g s → Grew (link_all_in xs (graph_in g s)) h r → r ≡ Ok t → ls ≡ xs ++ ys → LinksLeft W ys h t
+  left_next t L R q e =
       let z : link_all_in xs (graph_in g s) ≡ more_to (graph_in h t) = sym R.is ∙ ap (grown_in h) q in
       record {
         left =
@@ -73,12 +71,12 @@ module _ (W : LinkedSoFar) (ls xs ys : List Link) (g h : List ℕ) (s t : Size) 
         growing = rw q at R.growing;
       }
 
-  pub left_stop : LinksLeft W ls g s → Grew (link_all_in xs (graph_in g s)) h r → r ≡ G.Full t → ls ≡ xs ++ ys → Grew W h (G.Full t)
-  left_stop L R q e =
-      let z : link_all_in xs (graph_in g s) ≡ short_at (graph_in h t) = sym R.is ∙ ap (grown_in h) q in
+  pub left_stop : (e : Full) → LinksLeft W ls g s → Grew (link_all_in xs (graph_in g s)) h r → r ≡ Err e → ls ≡ xs ++ ys → Grew W h (Err e)
+  left_stop e L R q f =
+      let z : link_all_in xs (graph_in g s) ≡ short_at (graph_in h e.size) = sym R.is ∙ ap (grown_in h) q in
       record {
         is =
-            sym (ap (λ (l : LinkedSoFar). and_then l ys) z) ∙ sym (link_append xs ys (graph_in g s)) ∙ ap (λ (l : List Link). link_all_in l (graph_in g s)) (sym e)
+            sym (ap (λ (l : LinkedSoFar). and_then l ys) z) ∙ sym (link_append xs ys (graph_in g s)) ∙ ap (λ (l : List Link). link_all_in l (graph_in g s)) (sym f)
             ∙ L.left;
         growing = rw q at R.growing;
       }
@@ -86,33 +84,34 @@ module _ (W : LinkedSoFar) (ls xs ys : List Link) (g h : List ℕ) (s t : Size) 
 pub left_start : (ls : List Link) (g : List ℕ) (s : Size) → Growing g s → LinksLeft (link_all_in ls (graph_in g s)) ls g s
 left_start ls g s P = record { left = refl; growing = P }
 
-pub left_end : (W : LinkedSoFar) (ls : List Link) (g : List ℕ) (s : Size) → LinksLeft W ls g s → ls ≡ [] → Grew W g (G.On s)
+pub left_end : (W : LinkedSoFar) (ls : List Link) (g : List ℕ) (s : Size) → LinksLeft W ls g s → ls ≡ [] → Grew W g (Ok s)
 unfolding link_all_in
 left_end W ls g s L e = record { is = ap (λ (l : List Link). link_all_in l (graph_in g s)) (sym e) ∙ L.left; growing = L.growing }
 
 -- no link at all
-pub grew_none : (ls : List Link) (g : List ℕ) (s : Size) → ls ≡ [] → Growing g s → Grew (link_all_in ls (graph_in g s)) g (G.On s)
+pub grew_none : (ls : List Link) (g : List ℕ) (s : Size) → ls ≡ [] → Growing g s → Grew (link_all_in ls (graph_in g s)) g (Ok s)
 grew_none ls g s e P = left_end (link_all_in ls (graph_in g s)) ls g s (left_start ls g s P) e
 
 -- the same links, told another way
-pub grew_as : (ls ms : List Link) (g h : List ℕ) (s : Size) (r : Grown) → Grew (link_all_in ms (graph_in g s)) h r → ls ≡ ms
+pub grew_as : (ls ms : List Link) (g h : List ℕ) (s : Size) (r : Result Size Full) → Grew (link_all_in ms (graph_in g s)) h r → ls ≡ ms
     → Grew (link_all_in ls (graph_in g s)) h r
 grew_as ls ms g h s r R e = rw e R
 
 -- ---- one link, by `store::link`
 
-module _ (g h : List ℕ) (s t : Size) (x y : ConflictNode) (w : ConflictEdge) (a : Put) where
-  pub one_on : (i : ℕ) → added_in h a ≡ add_link_in (graph_in g s) x y w → a ≡ At i t → Growing h (size_of a)
-      → Grew (link_all_in (link x y w ∷ []) (graph_in g s)) h (G.On t)
+module _ (g h : List ℕ) (s : Size) (x y : ConflictNode) (w : ConflictEdge) (a : Result Put Full) where
+  pub one_on : (i : Put) → added_in h a ≡ add_link_in (graph_in g s) x y w → a ≡ Ok i → Growing h (size_of a)
+      → Grew (link_all_in (link x y w ∷ []) (graph_in g s)) h (Ok i.size)
   unfolding link_all_in
   one_on i p q P =
-      let z : add_link_in (graph_in g s) x y w ≡ added_to i (graph_in h t) = sym p ∙ ap (added_in h) q in
+      let z : add_link_in (graph_in g s) x y w ≡ added_to i.place (graph_in h i.size) = sym p ∙ ap (added_in h) q in
       record { is = rw (z, link_all_in); growing = rw q at P }
 
-  pub one_full : added_in h a ≡ add_link_in (graph_in g s) x y w → a ≡ Full t → Growing h (size_of a) → Grew (link_all_in (link x y w ∷ []) (graph_in g s)) h (G.Full t)
+  pub one_full : (e : Full) → added_in h a ≡ add_link_in (graph_in g s) x y w → a ≡ Err e → Growing h (size_of a)
+      → Grew (link_all_in (link x y w ∷ []) (graph_in g s)) h (Err e)
   unfolding link_all_in
-  one_full p q P =
-      let z : add_link_in (graph_in g s) x y w ≡ full_at (graph_in h t) = sym p ∙ ap (added_in h) q in
+  one_full e p q P =
+      let z : add_link_in (graph_in g s) x y w ≡ full_at (graph_in h e.size) = sym p ∙ ap (added_in h) q in
       record { is = rw (z, link_all_in); growing = rw q at P }
 
 pub ruleset ones = (one_on, one_full)
@@ -172,32 +171,32 @@ edges_all (l ∷ ls) g h e = edges_one l ls g h (λ k z. edges_all ls k h z) (ad
 
 -- ---- a node of its own, then the link from the previous one: p is that one as the table holds it
 
-module _ (g h : List ℕ) (s t : Size) (p n : ℕ) (a : Put) where
-  pub forbid_full : added_in h a ≡ add_node_in (graph_in g s) (N.Solvable n) → a ≡ Full t → Growing h (size_of a)
-      → Grew (forbid_all_in (graph_in g s) (last_by p) n) h (G.Full t)
+module _ (g h : List ℕ) (s : Size) (p n : ℕ) (a : Result Put Full) where
+  pub forbid_full : (e : Full) → added_in h a ≡ add_node_in (graph_in g s) (N.Solvable n) → a ≡ Err e → Growing h (size_of a)
+      → Grew (forbid_all_in (graph_in g s) (last_by p) n) h (Err e)
   unfolding forbid_all_in
-  forbid_full q e P =
-      let z : add_node_in (graph_in g s) (N.Solvable n) ≡ full_at (graph_in h t) = sym q ∙ ap (added_in h) e in
-      record { is = rw (z, forbid_all_in); growing = rw e at P }
+  forbid_full e q f P =
+      let z : add_node_in (graph_in g s) (N.Solvable n) ≡ full_at (graph_in h e.size) = sym q ∙ ap (added_in h) f in
+      record { is = rw (z, forbid_all_in); growing = rw f at P }
 
-  pub forbid_first : (i : ℕ) → added_in h a ≡ add_node_in (graph_in g s) (N.Solvable n) → a ≡ At i t → Growing h (size_of a) → p ≡ 0
-      → Grew (forbid_all_in (graph_in g s) (last_by p) n) h (G.On t)
+  pub forbid_first : (i : Put) → added_in h a ≡ add_node_in (graph_in g s) (N.Solvable n) → a ≡ Ok i → Growing h (size_of a) → p ≡ 0
+      → Grew (forbid_all_in (graph_in g s) (last_by p) n) h (Ok i.size)
   unfolding forbid_all_in link_all_in
   forbid_first i q e P f =
-      let z : add_node_in (graph_in g s) (N.Solvable n) ≡ added_to i (graph_in h t) = sym q ∙ ap (added_in h) e in
+      let z : add_node_in (graph_in g s) (N.Solvable n) ≡ added_to i.place (graph_in h i.size) = sym q ∙ ap (added_in h) e in
       let u : previous_links (last_by p) n ≡ [] = ap (λ (k : ℕ). previous_links (last_by k) n) f in
-      record { is = ap (λ (l : List Link). link_all_in l (graph_in h t)) (sym u) ∙ rw (z, forbid_all_in); growing = rw e at P }
+      record { is = ap (λ (l : List Link). link_all_in l (graph_in h i.size)) (sym u) ∙ rw (z, forbid_all_in); growing = rw e at P }
 
-  pub forbid_next : (m : List ℕ) (r : Grown) (i : ℕ) → added_in h a ≡ add_node_in (graph_in g s) (N.Solvable n) → a ≡ At i t → (p ≡ 0 → ⊥)
-      → Grew (link_all_in (link (N.Solvable (p - 1)) (N.Solvable n) (W.Conflict K.ForbidMultipleInstances) ∷ []) (graph_in h t)) m r
+  pub forbid_next : (m : List ℕ) (r : Result Size Full) (i : Put) → added_in h a ≡ add_node_in (graph_in g s) (N.Solvable n) → a ≡ Ok i → (p ≡ 0 → ⊥)
+      → Grew (link_all_in (link (N.Solvable (p - 1)) (N.Solvable n) (W.Conflict K.ForbidMultipleInstances) ∷ []) (graph_in h i.size)) m r
       → Grew (forbid_all_in (graph_in g s) (last_by p) n) m r
   unfolding forbid_all_in
   forbid_next m r i q e f R =
-      let z : add_node_in (graph_in g s) (N.Solvable n) ≡ added_to i (graph_in h t) = sym q ∙ ap (added_in h) e in
+      let z : add_node_in (graph_in g s) (N.Solvable n) ≡ added_to i.place (graph_in h i.size) = sym q ∙ ap (added_in h) e in
       let y : p ≡ suc (p - 1) = omega (arith, f) in
       let u : previous_links (last_by p) n ≡ link (N.Solvable (p - 1)) (N.Solvable n) (W.Conflict K.ForbidMultipleInstances) ∷ [] =
       ap (λ (k : ℕ). previous_links (last_by k) n) y in
-      record { is = R.is ∙ ap (λ (l : List Link). link_all_in l (graph_in h t)) (sym u) ∙ rw (z, forbid_all_in); growing = R.growing }
+      record { is = R.is ∙ ap (λ (l : List Link). link_all_in l (graph_in h i.size)) (sym u) ∙ rw (z, forbid_all_in); growing = R.growing }
 
 pub edges_forbid : (g h : Graph) (p : Option ℕ) (n : ℕ) → forbid_all_in g p n ≡ more_to h → length g.edges ≤ length h.edges
 unfolding forbid_all_in
@@ -210,7 +209,7 @@ edges_forbid g h p n e = go (add_node_in g (N.Solvable n)) refl
         rw (← y) (edges_all (previous_links p n) k h z)
     go (full_at k) q = let z : short_at k ≡ more_to h = rw (q, forbid_all_in) at e in clash (cc)
 
-pub held_on : (h : List ℕ) (a : Put) (i : ℕ) (t : Size) → a ≡ At i t → Growing h (size_of a) → Growing h t
-held_on h a i t e P = rw e at P
+pub held_on : (h : List ℕ) (a : Result Put Full) (i : Put) → a ≡ Ok i → Growing h (size_of a) → Growing h i.size
+held_on h a i e P = rw e at P
 
 pub ruleset forbids = (forbid_full, forbid_first, forbid_next)

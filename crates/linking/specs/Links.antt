@@ -1,7 +1,7 @@
 -- What a clause of the core links (conflict.rs: `Conflict::graph`; document 01, "Graph rules"): the nodes that its variables name, and its
 -- edges in order.
-use Rattle.std.specs.Prelude.{List, [], ◌∷◌, ◌++◌, map, ℕ}
-use Rattle.std.proofs.Math.Option.{Option, none, some}
+use Rattle.std.specs.Prelude.{List, [], ◌∷◌, ◌++◌, map, ℕ, Option, Some, None}
+use Rattle.std.proofs.Math.Option.{Option as Maybe, none, some}
 use Rattle.basis.specs.Lists.{concat_map, or_else}
 use Rattle.records.specs.declared.Origin.{Origin}
 use Rattle.records.specs.declared.Origin.TheVariants as O
@@ -15,29 +15,27 @@ use Rattle.store.specs.declared.ConflictCause.TheVariants as K
 use Rattle.store.specs.declared.ConflictEdge.{ConflictEdge}
 use Rattle.store.specs.declared.ConflictEdge.TheVariants as W
 use Rattle.store.specs.Graph.{Graph, Added, added, full, add_node, add_edge, add_link}
-use Rattle.linking.specs.declared.Party.{Party}
-use Rattle.linking.specs.declared.Party.TheVariants.{Node, Neither}
 
 -- ---- variables as nodes
 
 -- conflict.rs, `as_solvable_or_root`: the other origins name neither
-abbrev pub party_by : Origin → Party
-party_by O.Root = Node N.Root
-party_by (O.Solvable s) = Node (N.Solvable s)
-party_by (O.ForbidMultiple n) = Neither
-party_by O.RequiresGate = Neither
-party_by O.ConstrainsAuxiliary = Neither
-party_by O.Other = Neither
+abbrev pub party_by : Origin → Option ConflictNode
+party_by O.Root = Some N.Root
+party_by (O.Solvable s) = Some (N.Solvable s)
+party_by (O.ForbidMultiple n) = None
+party_by O.RequiresGate = None
+party_by O.ConstrainsAuxiliary = None
+party_by O.Other = None
 
 -- the node that variable v names, if it does (conflict.rs, `as_solvable_or_root`)
-unfoldable pub party_of : Tables → ℕ → Party
+unfoldable pub party_of : Tables → ℕ → Option ConflictNode
 unfolding origin_of
 party_of T v = party_by (origin_of T v)
 
 -- `Option::into_iter`: the node, or none
-abbrev pub as_list : Party → List ConflictNode
-as_list (Node n) = n ∷ []
-as_list Neither = []
+abbrev pub as_list : Option ConflictNode → List ConflictNode
+as_list (Some n) = n ∷ []
+as_list None = []
 
 -- a variable's node, or none: "Partners neither root nor solvable are skipped."
 abbrev pub nodes_named : Tables → ℕ → List ConflictNode
@@ -64,61 +62,61 @@ name_forbidden O.Other = []
 -- ---- recovery: the clause that assigned a variable (conflict.rs: `reason_clause`), by its kind, "whatever its own auxiliary"
 
 -- "b of the gate's assigned-by clause if that is AnyOf, whatever its a"
-abbrev pub any_of_in : Tables → Clause → Party
-any_of_in T C.InstallRoot = Neither
-any_of_in T (C.Excluded a b) = Neither
-any_of_in T C.Learnt = Neither
-any_of_in T (C.Requires a b) = Neither
-any_of_in T (C.Lock a b) = Neither
-any_of_in T (C.ForbidMultipleInstances a b) = Neither
-any_of_in T (C.Constrains a b c) = Neither
-any_of_in T (C.ConstrainsParent a b c) = Neither
-any_of_in T (C.ConstrainsExcluded a b c) = Neither
+abbrev pub any_of_in : Tables → Clause → Option ConflictNode
+any_of_in T C.InstallRoot = None
+any_of_in T (C.Excluded a b) = None
+any_of_in T C.Learnt = None
+any_of_in T (C.Requires a b) = None
+any_of_in T (C.Lock a b) = None
+any_of_in T (C.ForbidMultipleInstances a b) = None
+any_of_in T (C.Constrains a b c) = None
+any_of_in T (C.ConstrainsParent a b c) = None
+any_of_in T (C.ConstrainsExcluded a b c) = None
 any_of_in T (C.AnyOf a b) = party_of T b
 
 -- the parent, "if that is of the other kind, whatever its own auxiliary" (conflict.rs, line 113)
-abbrev pub parent_in : Tables → Clause → Party
-parent_in T C.InstallRoot = Neither
-parent_in T (C.Excluded a b) = Neither
-parent_in T C.Learnt = Neither
-parent_in T (C.Requires a b) = Neither
-parent_in T (C.Lock a b) = Neither
-parent_in T (C.ForbidMultipleInstances a b) = Neither
-parent_in T (C.Constrains a b c) = Neither
+abbrev pub parent_in : Tables → Clause → Option ConflictNode
+parent_in T C.InstallRoot = None
+parent_in T (C.Excluded a b) = None
+parent_in T C.Learnt = None
+parent_in T (C.Requires a b) = None
+parent_in T (C.Lock a b) = None
+parent_in T (C.ForbidMultipleInstances a b) = None
+parent_in T (C.Constrains a b c) = None
 parent_in T (C.ConstrainsParent a b c) = party_of T a
-parent_in T (C.ConstrainsExcluded a b c) = Neither
-parent_in T (C.AnyOf a b) = Neither
+parent_in T (C.ConstrainsExcluded a b c) = None
+parent_in T (C.AnyOf a b) = None
 
 -- the candidate, "if that is of the other kind, whatever its own auxiliary" (conflict.rs, line 102)
-abbrev pub excluded_in : Tables → Clause → Party
-excluded_in T C.InstallRoot = Neither
-excluded_in T (C.Excluded a b) = Neither
-excluded_in T C.Learnt = Neither
-excluded_in T (C.Requires a b) = Neither
-excluded_in T (C.Lock a b) = Neither
-excluded_in T (C.ForbidMultipleInstances a b) = Neither
-excluded_in T (C.Constrains a b c) = Neither
-excluded_in T (C.ConstrainsParent a b c) = Neither
+abbrev pub excluded_in : Tables → Clause → Option ConflictNode
+excluded_in T C.InstallRoot = None
+excluded_in T (C.Excluded a b) = None
+excluded_in T C.Learnt = None
+excluded_in T (C.Requires a b) = None
+excluded_in T (C.Lock a b) = None
+excluded_in T (C.ForbidMultipleInstances a b) = None
+excluded_in T (C.Constrains a b c) = None
+excluded_in T (C.ConstrainsParent a b c) = None
 excluded_in T (C.ConstrainsExcluded a b c) = party_of T a
-excluded_in T (C.AnyOf a b) = Neither
+excluded_in T (C.AnyOf a b) = None
 
 -- by "the gate's assigned-by clause" (conflict.rs, line 152)
-unfoldable pub gate_reason : Tables → ℕ → Party
+unfoldable pub gate_reason : Tables → ℕ → Option ConflictNode
 unfolding assigned_by clause_of clause_in party_of
-gate_reason T v = elim (assigned_by T v) [ none ↦ Neither | some i ↦ any_of_in T (clause_of T i) ]
+gate_reason T v = elim (assigned_by T v) [ none ↦ None | some i ↦ any_of_in T (clause_of T i) ]
 
 -- by "the assigned-by clause of the auxiliary" (conflict.rs, lines 109 to 119)
-unfoldable pub parent_reason : Tables → ℕ → Party
+unfoldable pub parent_reason : Tables → ℕ → Option ConflictNode
 unfolding assigned_by clause_of clause_in party_of
-parent_reason T v = elim (assigned_by T v) [ none ↦ Neither | some i ↦ parent_in T (clause_of T i) ]
+parent_reason T v = elim (assigned_by T v) [ none ↦ None | some i ↦ parent_in T (clause_of T i) ]
 
 -- by "the assigned-by clause of the auxiliary" (conflict.rs, lines 98 to 108)
-unfoldable pub excluded_reason : Tables → ℕ → Party
+unfoldable pub excluded_reason : Tables → ℕ → Option ConflictNode
 unfolding assigned_by clause_of clause_in party_of
-excluded_reason T v = elim (assigned_by T v) [ none ↦ Neither | some i ↦ excluded_in T (clause_of T i) ]
+excluded_reason T v = elim (assigned_by T v) [ none ↦ None | some i ↦ excluded_in T (clause_of T i) ]
 
 -- the nodes of the partners in the core; "If none is left", the recovered one
-unfoldable pub partners_or : Tables → List ℕ → Party → List ConflictNode
+unfoldable pub partners_or : Tables → List ℕ → Option ConflictNode → List ConflictNode
 unfolding party_of
 partners_or T vs p = or_else (concat_map (nodes_named T) vs) (as_list p)
 
@@ -190,11 +188,11 @@ unfolding party_of
 constrains_links T a b v = concat_map (λ n. map (λ m. link n m (W.Conflict (K.Constrains v))) (nodes_named T b)) (nodes_named T a)
 
 -- "links the previous solvable under that forbidden name to this one", if there is one
-abbrev pub previous_links : Option ℕ → ℕ → List Link
+abbrev pub previous_links : Maybe ℕ → ℕ → List Link
 previous_links none s = []
 previous_links (some p) s = link (N.Solvable p) (N.Solvable s) (W.Conflict K.ForbidMultipleInstances) ∷ []
 
 -- the node is added even where there is no link (conflict.rs, line 247)
-unfoldable pub forbid_all : Graph → Option ℕ → ℕ → Linked
+unfoldable pub forbid_all : Graph → Maybe ℕ → ℕ → Linked
 unfolding add_node link_all
 forbid_all g p s = elim (add_node g (N.Solvable s)) [ full ↦ short | added i h ↦ link_all (previous_links p s) h ]

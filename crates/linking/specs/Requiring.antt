@@ -1,6 +1,6 @@
 -- Requires: the links of one requirer to its candidates, of all requirers of a gate, of the whole clause. Each law is one way out of a
 -- function: what the code did gives a graph that grew by these links.
-use Rattle.std.specs.Prelude.{◌≡◌, Bool, ℕ, ◌-◌, ◌<◌, ◌≤◌}
+use Rattle.std.specs.Prelude.{◌≡◌, Bool, ℕ, ◌-◌, ◌<◌, ◌≤◌, Result, Ok, Err, Option, Some, None}
 use Rattle.std.proofs.Math.Path.{refl, sym, ap}
 use Rattle.std.proofs.Common.{◌∙◌, arith}
 use Rattle.std.proofs.Math.Bool.{true, false}
@@ -20,10 +20,7 @@ use Rattle.store.specs.declared.ConflictNode.TheVariants as N
 use Rattle.store.specs.declared.ConflictEdge.TheVariants as E
 use Rattle.store.specs.declared.Size.{Size}
 use Rattle.store.specs.Table.{graph_in, Growing}
-use Rattle.linking.specs.declared.Party.{Party}
-use Rattle.linking.specs.declared.Party.TheVariants.{Node, Neither}
-use Rattle.linking.specs.declared.Grown.{Grown}
-use Rattle.linking.specs.declared.Grown.TheVariants as G
+use Rattle.store.specs.declared.Full.{Full}
 use Rattle.linking.specs.Links.{party_of, as_list, nodes_named, gate_reason, partners_or, requirers, requirers_by}
 use Rattle.linking.specs.Links.{Link, link, require_link, require_links, requires_of}
 use Rattle.linking.specs.Working.{LinkedSoFar, link_all_in}
@@ -33,7 +30,7 @@ use Rattle.linking.specs.Parties.{is_node, any_node, any_hit, any_miss, any_none
 -- ---- the links that are spoken of
 
 -- adding the links ls to the graph in table g led to table h and answer r
-abbrev pub GrewBy : List Link → List ℕ → Size → List ℕ → Grown → Type 0
+abbrev pub GrewBy : List Link → List ℕ → Size → List ℕ → Result Size Full → Type 0
 GrewBy ls g s h r = Grew (link_all_in ls (graph_in g s)) h r
 
 -- of requirer p to the candidates from the stored value x on
@@ -55,7 +52,7 @@ gate_of T v = partners_or T (gate_partners T v) (gate_reason T v)
 -- ---- one requirer p of requirement q: x is the first candidate plus one, 0 where there is none
 
 module _ (file ix : List ℕ) (L : Loaded file ix) (q x : ℕ) (f : x ≡ first_candidate (tables_of file) q)
-    (p : ConflictNode) (g k : List ℕ) (s : Size) (r : Grown) where
+    (p : ConflictNode) (g k : List ℕ) (s : Size) (r : Result Size Full) where
   abbrev T : Tables
   T = tables_of file
 
@@ -88,14 +85,14 @@ module _ (T : Tables) (q : ℕ) (g k : List ℕ) (s : Size) where
   unfolding requires_of require_of
   one_require p = append-nil (require_links q (candidates_of T q) p)
 
-  pub party_none : (r : Party) → r ≡ Neither → Growing g s → GrewBy (requires_of T q (as_list r)) g s g (G.On s)
+  pub party_none : (r : Option ConflictNode) → r ≡ None → Growing g s → GrewBy (requires_of T q (as_list r)) g s g (Ok s)
   unfolding requires_of
   party_none r e P = grew_none (requires_of T q (as_list r)) g s (rw e) P
 
-  pub party_some : (r : Party) (p : ConflictNode) (d : Grown) → GrewBy (require_of T q p) g s k d → r ≡ Node p
+  pub party_some : (r : Option ConflictNode) (p : ConflictNode) (d : Result Size Full) → GrewBy (require_of T q p) g s k d → r ≡ Some p
       → GrewBy (requires_of T q (as_list r)) g s k d
   party_some r p d R e =
-      grew_as (requires_of T q (as_list r)) (require_of T q p) g k s d R (ap (λ (z : Party). requires_of T q (as_list z)) e ∙ one_require p)
+      grew_as (requires_of T q (as_list r)) (require_of T q p) g k s d R (ap (λ (z : Option ConflictNode). requires_of T q (as_list z)) e ∙ one_require p)
 
 -- ---- whether a gate keeps some partner, from the stored value x on: v is the partner at hand, b whether it names a node, W the answer
 
@@ -130,23 +127,23 @@ module _ (T : Tables) (q : ℕ) where
           ap (λ (l : List _). f x ++ l) (concat_append f xs ys) ∙ sym (append_assoc (f x) (concat_map f xs) (concat_map f ys))
 
   -- there was room: what is left is the rest
-  pub gate_next : (W : LinkedSoFar) (g k : List ℕ) (s t : Size) (r : Party) (d : Grown) (x v y : ℕ) → LinksLeft W (gate_links T q x) g s → 0 < x
-      → v ≡ gate_at T (x - 1) → r ≡ party_of T v → GrewBy (requires_of T q (as_list r)) g s k d → d ≡ G.On t → y ≡ next_partner T (x - 1)
+  pub gate_next : (W : LinkedSoFar) (g k : List ℕ) (s t : Size) (r : Option ConflictNode) (d : Result Size Full) (x v y : ℕ) → LinksLeft W (gate_links T q x) g s → 0 < x
+      → v ≡ gate_at T (x - 1) → r ≡ party_of T v → GrewBy (requires_of T q (as_list r)) g s k d → d ≡ Ok t → y ≡ next_partner T (x - 1)
       → LinksLeft W (gate_links T q y) k t
   gate_next W g k s t r d x v y L h e p R o z =
-      left_next W (gate_links T q x) (requires_of T q (as_list r)) (gate_links T q y) g k s t d L R o
-      (gate_step x v y h e z ∙ ap (λ (u : Party). requires_of T q (as_list u) ++ gate_links T q y) (sym p))
+      left_next W (gate_links T q x) (requires_of T q (as_list r)) (gate_links T q y) g k s d t L R o
+      (gate_step x v y h e z ∙ ap (λ (u : Option ConflictNode). requires_of T q (as_list u) ++ gate_links T q y) (sym p))
 
   -- there was none: that is the answer
-  pub gate_stop : (W : LinkedSoFar) (g k : List ℕ) (s t : Size) (r : Party) (d : Grown) (x v : ℕ) → LinksLeft W (gate_links T q x) g s → 0 < x
-      → v ≡ gate_at T (x - 1) → r ≡ party_of T v → GrewBy (requires_of T q (as_list r)) g s k d → d ≡ G.Full t → Grew W k (G.Full t)
-  gate_stop W g k s t r d x v L h e p R o =
-      left_stop W (gate_links T q x) (requires_of T q (as_list r)) (gate_links T q (next_partner T (x - 1))) g k s t d L R o
+  pub gate_stop : (W : LinkedSoFar) (g k : List ℕ) (s : Size) (b : Full) (r : Option ConflictNode) (d : Result Size Full) (x v : ℕ) → LinksLeft W (gate_links T q x) g s
+      → 0 < x → v ≡ gate_at T (x - 1) → r ≡ party_of T v → GrewBy (requires_of T q (as_list r)) g s k d → d ≡ Err b → Grew W k (Err b)
+  gate_stop W g k s b r d x v L h e p R o =
+      left_stop W (gate_links T q x) (requires_of T q (as_list r)) (gate_links T q (next_partner T (x - 1))) g k s d b L R o
       (gate_step x v (next_partner T (x - 1)) h e refl
-      ∙ ap (λ (u : Party). requires_of T q (as_list u) ++ gate_links T q (next_partner T (x - 1))) (sym p))
+      ∙ ap (λ (u : Option ConflictNode). requires_of T q (as_list u) ++ gate_links T q (next_partner T (x - 1))) (sym p))
 
   -- no partner is left
-  pub gate_end : (W : LinkedSoFar) (g : List ℕ) (s : Size) (x : ℕ) → LinksLeft W (gate_links T q x) g s → x ≤ 0 → Grew W g (G.On s)
+  pub gate_end : (W : LinkedSoFar) (g : List ℕ) (s : Size) (x : ℕ) → LinksLeft W (gate_links T q x) g s → x ≤ 0 → Grew W g (Ok s)
   unfolding gate_links requires_of
   gate_end W g s x L h =
       left_end W (gate_links T q x) g s L
@@ -157,7 +154,7 @@ pub ruleset gates = (left_start, gate_next, gate_stop, gate_end)
 -- ---- gate v: x is its first partner plus one, b whether some partner is kept
 
 module _ (file ix : List ℕ) (L : Loaded file ix) (v x : ℕ) (f : x ≡ first_gate (tables_of file) v) (b : Bool)
-    (e : b ≡ any_node (tables_of file) (gates_from (tables_of file) x)) (q : ℕ) (g k : List ℕ) (s : Size) (r : Grown) where
+    (e : b ≡ any_node (tables_of file) (gates_from (tables_of file) x)) (q : ℕ) (g k : List ℕ) (s : Size) (r : Result Size Full) where
   all_gates : gates_from (tables_of file) x ≡ gate_partners (tables_of file) v
   all_gates = gates_start (tables_of file) v x (loaded_valid file ix L) f
 
@@ -170,7 +167,7 @@ module _ (file ix : List ℕ) (L : Loaded file ix) (v x : ℕ) (f : x ≡ first_
       rw (or_kept (tables_of file) (gate_partners (tables_of file) v) (gate_reason (tables_of file) v) a) (rw all_gates at R)
 
   -- those of the recovered party p are
-  pub gate_recovered : (p : Party) → b ≡ false → p ≡ gate_reason (tables_of file) v → GrewBy (requires_of (tables_of file) q (as_list p)) g s k r
+  pub gate_recovered : (p : Option ConflictNode) → b ≡ false → p ≡ gate_reason (tables_of file) v → GrewBy (requires_of (tables_of file) q (as_list p)) g s k r
       → GrewBy (requires_of (tables_of file) q (gate_of (tables_of file) v)) g s k r
   unfolding gate_of
   gate_recovered p t z R =
@@ -186,35 +183,35 @@ module _ (T : Tables) (a q : ℕ) (o : Origin) (z : o ≡ origin_of T a) (g : Li
   unfolding requirers
   by_origin p e = ap (requirers_by T a) (sym z ∙ e)
 
-  pub requires_root : (k : List ℕ) (r : Grown) → o ≡ O.Root → GrewBy (require_of T q N.Root) g s k r
+  pub requires_root : (k : List ℕ) (r : Result Size Full) → o ≡ O.Root → GrewBy (require_of T q N.Root) g s k r
       → GrewBy (requires_of T q (requirers T a)) g s k r
   requires_root k r e R =
       grew_as (requires_of T q (requirers T a)) (require_of T q N.Root) g k s r R
       (ap (requires_of T q) (by_origin O.Root e) ∙ one_require T q g k s N.Root)
 
-  pub requires_solvable : (k : List ℕ) (r : Grown) (n : ℕ) → o ≡ O.Solvable n → GrewBy (require_of T q (N.Solvable n)) g s k r
+  pub requires_solvable : (k : List ℕ) (r : Result Size Full) (n : ℕ) → o ≡ O.Solvable n → GrewBy (require_of T q (N.Solvable n)) g s k r
       → GrewBy (requires_of T q (requirers T a)) g s k r
   requires_solvable k r n e R =
       grew_as (requires_of T q (requirers T a)) (require_of T q (N.Solvable n)) g k s r R
       (ap (requires_of T q) (by_origin (O.Solvable n) e) ∙ one_require T q g k s (N.Solvable n))
 
-  pub requires_gate : (k : List ℕ) (r : Grown) → o ≡ O.RequiresGate → GrewBy (requires_of T q (gate_of T a)) g s k r
+  pub requires_gate : (k : List ℕ) (r : Result Size Full) → o ≡ O.RequiresGate → GrewBy (requires_of T q (gate_of T a)) g s k r
       → GrewBy (requires_of T q (requirers T a)) g s k r
   unfolding gate_of
   requires_gate k r e R =
       grew_as (requires_of T q (requirers T a)) (requires_of T q (gate_of T a)) g k s r R (ap (requires_of T q) (by_origin O.RequiresGate e))
 
-  no_requirers : requirers T a ≡ [] → Growing g s → GrewBy (requires_of T q (requirers T a)) g s g (G.On s)
+  no_requirers : requirers T a ≡ [] → Growing g s → GrewBy (requires_of T q (requirers T a)) g s g (Ok s)
   unfolding requires_of
   no_requirers e P = grew_none (requires_of T q (requirers T a)) g s (ap (requires_of T q) e) P
 
-  pub requires_forbid : (n : ℕ) → o ≡ O.ForbidMultiple n → Growing g s → GrewBy (requires_of T q (requirers T a)) g s g (G.On s)
+  pub requires_forbid : (n : ℕ) → o ≡ O.ForbidMultiple n → Growing g s → GrewBy (requires_of T q (requirers T a)) g s g (Ok s)
   requires_forbid n e P = no_requirers (by_origin (O.ForbidMultiple n) e) P
 
-  pub requires_auxiliary : o ≡ O.ConstrainsAuxiliary → Growing g s → GrewBy (requires_of T q (requirers T a)) g s g (G.On s)
+  pub requires_auxiliary : o ≡ O.ConstrainsAuxiliary → Growing g s → GrewBy (requires_of T q (requirers T a)) g s g (Ok s)
   requires_auxiliary e P = no_requirers (by_origin O.ConstrainsAuxiliary e) P
 
-  pub requires_other : o ≡ O.Other → Growing g s → GrewBy (requires_of T q (requirers T a)) g s g (G.On s)
+  pub requires_other : o ≡ O.Other → Growing g s → GrewBy (requires_of T q (requirers T a)) g s g (Ok s)
   requires_other e P = no_requirers (by_origin O.Other e) P
 
 pub ruleset requirings = (requires_root, requires_solvable, requires_gate, requires_forbid, requires_auxiliary, requires_other)

@@ -1,4 +1,5 @@
 // What a clause of the core links in the graph (conflict.rs: `Conflict::graph`), where the graph is all that it touches.
+// Kept: what may not change. `Loaded` ties file and index in each contract, and callers' theorems speak of the two as they are lent.
 #![tactic(auto)]
 
 ghost use Rattle.std.specs.Prelude.{◌≡◌, ◌∷◌, [], ◌<◌, ◌≤◌};
@@ -15,65 +16,49 @@ ghost use Rattle.linking.specs.Requiring.{candidate_links, require_of, gate_link
 
 use index::Slots;
 use records::{Clause, Origin};
-use store::{ConflictCause, ConflictEdge, ConflictNode, GraphWords, Put, Size};
+use store::{ConflictCause, ConflictEdge, ConflictNode, Full, GraphWords, Size};
 
-// What a variable names (conflict.rs: `as_solvable_or_root`): a node, or neither the root nor a solvable.
-#[derive(Clone, Copy)]
-pub enum Party {
-    Node(ConflictNode),
-    Neither,
-}
-
-// How linking went; without room, how much the table holds.
-#[derive(Clone, Copy)]
-pub enum Grown {
-    On(Size),
-    Full(Size),
-}
-
-fn link_one(g: &mut GraphWords, s: Size, x: ConflictNode, y: ConflictNode, w: ConflictEdge) -> Grown
+fn link_one(
+    g: &mut GraphWords,
+    s: Size,
+    x: ConflictNode,
+    y: ConflictNode,
+    w: ConflictEdge,
+) -> Result<Size, Full>
     requires { Growing g.old s }
     ensures { Grew (link_all_in (link x y w ∷ []) (graph_in g.old s)) g.new result }
 {
-    let a = store::link(g, s, x, y, w);
-    match a {
-        Put::Full(t) => Grown::Full(t),
-        Put::At(_, t) => Grown::On(t),
-    }
+    let a = store::link(g, s, x, y, w)?;
+    Ok(a.size)
 }
 
 // The node of solvable n, and the link from the one before it under its name: p is one more than that, or 0.
-pub fn add_forbidden(g: &mut GraphWords, s: Size, p: u16, n: u16) -> Grown
+pub fn add_forbidden(g: &mut GraphWords, s: Size, p: u16, n: u16) -> Result<Size, Full>
     requires { Growing g.old s }
     ensures { Grew (forbid_all_in (graph_in g.old s) (last_by p) n) g.new result }
 {
-    let a = store::add_node(g, s, ConflictNode::Solvable(n));
-    match a {
-        Put::Full(t) => Grown::Full(t),
-        Put::At(_, t) => {
-            if p == 0 {
-                return Grown::On(t);
-            }
-            let x = ConflictNode::Solvable(p - 1);
-            let w = ConflictEdge::Conflict(ConflictCause::ForbidMultipleInstances);
-            link_one(g, t, x, ConflictNode::Solvable(n), w)
-        }
+    let a = store::add_node(g, s, ConflictNode::Solvable(n))?;
+    if p == 0 {
+        return Ok(a.size);
     }
+    let x = ConflictNode::Solvable(p - 1);
+    let w = ConflictEdge::Conflict(ConflictCause::ForbidMultipleInstances);
+    link_one(g, a.size, x, ConflictNode::Solvable(n), w)
 }
 
-// What variable v names.
-pub fn named(file: &[u8], ix: &Slots, v: u16) -> Party
+// The node that variable v names (conflict.rs: `as_solvable_or_root`), if that is the root or a solvable.
+pub fn named(file: &[u8], ix: &Slots, v: u16) -> Option<ConflictNode>
     requires { Loaded file.now ix.now }
     ensures { result ≡ party_of (tables_of file.now) v }
 {
     let o = views::origin(file, ix, v);
     match o {
-        Origin::Root => Party::Node(ConflictNode::Root),
-        Origin::Solvable(s) => Party::Node(ConflictNode::Solvable(s)),
-        Origin::ForbidMultiple(_) => Party::Neither,
-        Origin::RequiresGate => Party::Neither,
-        Origin::ConstrainsAuxiliary => Party::Neither,
-        Origin::Other => Party::Neither,
+        Origin::Root => Some(ConflictNode::Root),
+        Origin::Solvable(s) => Some(ConflictNode::Solvable(s)),
+        Origin::ForbidMultiple(_) => None,
+        Origin::RequiresGate => None,
+        Origin::ConstrainsAuxiliary => None,
+        Origin::Other => None,
     }
 }
 
@@ -81,11 +66,7 @@ pub fn is_party(file: &[u8], ix: &Slots, v: u16) -> bool
     requires { Loaded file.now ix.now }
     ensures { result ≡ is_node (party_of (tables_of file.now) v) }
 {
-    let r = named(file, ix, v);
-    match r {
-        Party::Node(_) => true,
-        Party::Neither => false,
-    }
+    named(file, ix, v).is_some()
 }
 
 // An edge per candidate from the stored value x on, from node `source`.
@@ -97,7 +78,7 @@ fn link_each(
     source: u8,
     q: u16,
     x: usize,
-) -> Grown
+) -> Result<Size, Full>
     requires loaded { Loaded file.now ix.now }
     requires growing { Growing g.old s }
     requires source_bound { source < 128 }
@@ -111,12 +92,12 @@ fn link_each(
         let n = store::fan::link_from(g, t, source, c, q);
         let u = store::fan::size_after(t, n);
         if 2 <= n {
-            return Grown::Full(u);
+            return Err(Full { size: u });
         }
         t = u;
         y = views::next_candidate(file, ix, k);
     }
-    Grown::On(t)
+    Ok(t)
 }
 
 // An edge per candidate from the stored value x on, which is one: the requirer's node is found once.
@@ -128,20 +109,14 @@ fn link_some(
     p: ConflictNode,
     q: u16,
     x: usize,
-) -> Grown
+) -> Result<Size, Full>
     requires loaded { Loaded file.now ix.now }
     requires growing { Growing g.old s }
     requires x_nonzero { 0 < x }
     ensures { Grew (link_all_in (candidate_links (tables_of file.now) q p x) (graph_in g.old s)) g.new result }
 {
-    let a = store::add_node(g, s, p);
-    match a {
-        Put::Full(t) => Grown::Full(t),
-        Put::At(i, t) => {
-            let source = store::fan::source_of(i);
-            link_each(file, ix, g, t, source, q, x)
-        }
-    }
+    let a = store::add_node(g, s, p)?;
+    link_each(file, ix, g, a.size, a.place as u8, q, x)
 }
 
 // An edge per candidate from the stored value x on.
@@ -153,19 +128,26 @@ fn link_candidates(
     p: ConflictNode,
     q: u16,
     x: usize,
-) -> Grown
+) -> Result<Size, Full>
     requires loaded { Loaded file.now ix.now }
     requires growing { Growing g.old s }
     ensures { Grew (link_all_in (candidate_links (tables_of file.now) q p x) (graph_in g.old s)) g.new result }
 {
     if x == 0 {
-        return Grown::On(s);
+        return Ok(s);
     }
     link_some(file, ix, g, s, p, q, x)
 }
 
 // All edges of one requirer.
-fn require(file: &[u8], ix: &Slots, g: &mut GraphWords, s: Size, p: ConflictNode, q: u16) -> Grown
+fn require(
+    file: &[u8],
+    ix: &Slots,
+    g: &mut GraphWords,
+    s: Size,
+    p: ConflictNode,
+    q: u16,
+) -> Result<Size, Full>
     requires loaded { Loaded file.now ix.now }
     requires growing { Growing g.old s }
     ensures { Grew (link_all_in (require_of (tables_of file.now) q p) (graph_in g.old s)) g.new result }
@@ -184,13 +166,20 @@ fn require(file: &[u8], ix: &Slots, g: &mut GraphWords, s: Size, p: ConflictNode
 }
 
 // All edges of a party, none where it names neither.
-fn require_party(file: &[u8], ix: &Slots, g: &mut GraphWords, s: Size, r: Party, q: u16) -> Grown
+fn require_party(
+    file: &[u8],
+    ix: &Slots,
+    g: &mut GraphWords,
+    s: Size,
+    r: Option<ConflictNode>,
+    q: u16,
+) -> Result<Size, Full>
     requires loaded { Loaded file.now ix.now }
     requires growing { Growing g.old s }
     ensures { Grew (link_all_in (requires_of (tables_of file.now) q (as_list r)) (graph_in g.old s)) g.new result }
 {
-    let Party::Node(p) = r else {
-        return Grown::On(s);
+    let Some(p) = r else {
+        return Ok(s);
     };
     require(file, ix, g, s, p, q)
 }
@@ -213,7 +202,14 @@ fn gate_kept(file: &[u8], ix: &Slots, x: usize) -> bool
 }
 
 // The edges of a gate's partners from the stored value x on.
-fn link_gate(file: &[u8], ix: &Slots, g: &mut GraphWords, s: Size, q: u16, x: usize) -> Grown
+fn link_gate(
+    file: &[u8],
+    ix: &Slots,
+    g: &mut GraphWords,
+    s: Size,
+    q: u16,
+    x: usize,
+) -> Result<Size, Full>
     requires loaded { Loaded file.now ix.now }
     requires growing { Growing g.old s }
     ensures { Grew (link_all_in (gate_links (tables_of file.now) q x) (graph_in g.old s)) g.new result }
@@ -224,36 +220,37 @@ fn link_gate(file: &[u8], ix: &Slots, g: &mut GraphWords, s: Size, q: u16, x: us
         let k = y - 1;
         let v = views::gate_partner(file, ix, k);
         let r = named(file, ix, v);
-        let d = require_party(file, ix, g, t, r, q);
-        match d {
-            Grown::Full(u) => return Grown::Full(u),
-            Grown::On(u) => {
-                t = u;
-                y = views::next_partner(file, ix, k);
-            }
-        }
+        t = require_party(file, ix, g, t, r, q)?;
+        y = views::next_partner(file, ix, k);
     }
-    Grown::On(t)
+    Ok(t)
 }
 
 // The b of the clause that assigned gate v, if that is AnyOf.
-fn recover_gate(file: &[u8], ix: &Slots, v: u16) -> Party
+fn recover_gate(file: &[u8], ix: &Slots, v: u16) -> Option<ConflictNode>
     requires { Loaded file.now ix.now }
     ensures { result ≡ gate_reason (tables_of file.now) v }
 {
     let i = views::assigned_by(file, ix, v);
     if i == 0 {
-        return Party::Neither;
+        return None;
     }
     let c = views::clause(file, ix, i - 1);
     let Clause::AnyOf(_, b) = c else {
-        return Party::Neither;
+        return None;
     };
     named(file, ix, b)
 }
 
 // The edges of all requirers of gate v.
-fn expand_gate(file: &[u8], ix: &Slots, g: &mut GraphWords, s: Size, v: u16, q: u16) -> Grown
+fn expand_gate(
+    file: &[u8],
+    ix: &Slots,
+    g: &mut GraphWords,
+    s: Size,
+    v: u16,
+    q: u16,
+) -> Result<Size, Full>
     requires loaded { Loaded file.now ix.now }
     requires growing { Growing g.old s }
     ensures { Grew (link_all_in (requires_of (tables_of file.now) q (gate_of (tables_of file.now) v)) (graph_in g.old s))
@@ -274,7 +271,7 @@ pub fn expand_requires(
     s: Size,
     a: u16,
     q: u16,
-) -> Grown
+) -> Result<Size, Full>
     requires loaded { Loaded file.now ix.now }
     requires growing { Growing g.old s }
     ensures { Grew (link_all_in (requires_of (tables_of file.now) q (requirers (tables_of file.now) a)) (graph_in g.old s))
@@ -284,10 +281,10 @@ pub fn expand_requires(
     match o {
         Origin::Root => require(file, ix, g, s, ConflictNode::Root, q),
         Origin::Solvable(n) => require(file, ix, g, s, ConflictNode::Solvable(n), q),
-        Origin::ForbidMultiple(_) => Grown::On(s),
+        Origin::ForbidMultiple(_) => Ok(s),
         Origin::RequiresGate => expand_gate(file, ix, g, s, a, q),
-        Origin::ConstrainsAuxiliary => Grown::On(s),
-        Origin::Other => Grown::On(s),
+        Origin::ConstrainsAuxiliary => Ok(s),
+        Origin::Other => Ok(s),
     }
 }
 
@@ -298,14 +295,14 @@ pub fn expand_excluded(
     s: Size,
     a: u16,
     r: u16,
-) -> Grown
+) -> Result<Size, Full>
     requires loaded { Loaded file.now ix.now }
     requires growing { Growing g.old s }
     ensures { Grew (link_all_in (excluded_links (tables_of file.now) a r) (graph_in g.old s)) g.new result }
 {
     let o = views::origin(file, ix, a);
     let Origin::Solvable(n) = o else {
-        return Grown::On(s);
+        return Ok(s);
     };
     let w = ConflictEdge::Conflict(ConflictCause::Excluded);
     link_one(
@@ -317,18 +314,25 @@ pub fn expand_excluded(
     )
 }
 
-pub fn expand_lock(file: &[u8], ix: &Slots, g: &mut GraphWords, s: Size, a: u16, b: u16) -> Grown
+pub fn expand_lock(
+    file: &[u8],
+    ix: &Slots,
+    g: &mut GraphWords,
+    s: Size,
+    a: u16,
+    b: u16,
+) -> Result<Size, Full>
     requires loaded { Loaded file.now ix.now }
     requires growing { Growing g.old s }
     ensures { Grew (link_all_in (lock_links (tables_of file.now) a b) (graph_in g.old s)) g.new result }
 {
     let o = views::origin(file, ix, a);
     let Origin::Solvable(locked) = o else {
-        return Grown::On(s);
+        return Ok(s);
     };
     let p = views::origin(file, ix, b);
     let Origin::Solvable(forbidden) = p else {
-        return Grown::On(s);
+        return Ok(s);
     };
     let w = ConflictEdge::Conflict(ConflictCause::Locked(locked));
     link_one(
@@ -349,18 +353,18 @@ pub fn expand_constrains(
     a: u16,
     b: u16,
     v: u16,
-) -> Grown
+) -> Result<Size, Full>
     requires loaded { Loaded file.now ix.now }
     requires growing { Growing g.old s }
     ensures { Grew (link_all_in (constrains_links (tables_of file.now) a b v) (graph_in g.old s)) g.new result }
 {
     let x = named(file, ix, a);
-    let Party::Node(n) = x else {
-        return Grown::On(s);
+    let Some(n) = x else {
+        return Ok(s);
     };
     let y = named(file, ix, b);
-    let Party::Node(m) = y else {
-        return Grown::On(s);
+    let Some(m) = y else {
+        return Ok(s);
     };
     let w = ConflictEdge::Conflict(ConflictCause::Constrains(v));
     link_one(g, s, n, m, w)

@@ -5,7 +5,7 @@ use Rattle.std.proofs.Common.{sym, ◌∙◌}
 use Prim.Native.Nat.{ℕ, zero, suc, ◌+◌, ◌-◌, ◌<◌, ◌≤◌}
 use Rattle.std.proofs.Math.Numerals.{add-one}
 use native.Mathlib.Omega.{arith}
-use Rattle.std.proofs.Math.ListN.{set}
+use Rattle.std.proofs.Math.ListN.{set, get_or}
 use Rattle.basis.specs.Chains.{Layout, Fits, fits_before, slot, Chained, Risen, linked, Beside, beside_high, Only, only_none, only_twice, only_head, only_next}
 use Rattle.basis.specs.Chains.{only_prev, Cleared, clear_none, clear_next, chain_clear, rise_clear, chain_next, rise_next, chain_only, chain_only_two}
 use Rattle.store.specs.declared.Size.{Size}
@@ -21,6 +21,10 @@ in_lay = record { links = 1152; items = 1024; heads = 2176; keys = 128; size = 3
 
 abbrev pub old_lay : Layout
 old_lay = record { links = 2304; items = 1024; heads = 3328; keys = 128; size = 3456 }
+
+-- the part of a chain that begins at b
+abbrev pub part_at : ℕ → Layout
+part_at b = record { links = b; items = 1024; heads = b + 1024; keys = 128; size = 3456 }
 
 -- an edge's key: the node whose chain it is in
 unfoldable pub source_of : List ℕ → ℕ → ℕ
@@ -100,6 +104,14 @@ fall_next L key ls l k m j n q r e h jm =
 pub fall_all : (L : Layout) (key : ℕ → ℕ) (ls l : List ℕ) (m j : ℕ) → l ≡ linked_down L key ls m (m - j) → j ≤ 0 → l ≡ linked_down L key ls m m
 fall_all L key ls l m j q h = let z : m ≡ m - j = omega arith in q ∙ ap (linked_down L key ls m) (sym z)
 
+-- a place as code writes it
+pub slot_at : (b i : ℕ) → slot b i ≡ b + i
+slot_at zero i = omega arith
+slot_at (suc b) i = refl
+
+pub linked_part : (ls : List ℕ) (b i n : ℕ) → set (set ls (b + i) (get_or ls (b + 1024 + n) 0)) (b + 1024 + n) (i + 1) ≡ linked (part_at b) ls i n
+linked_part ls b i n = rw (slot_at b i, slot_at (b + 1024) n)
+
 pub ruleset wipes = (wiped_none, wiped_next, wiped_all)
 
 pub ruleset fills = (fill_none, fill_next, fill_all)
@@ -133,23 +145,15 @@ module _ (L : Layout) (ls : List ℕ) (F : Fits L) where
   wiped_cleared zero w h = clear_none L ls F w
   wiped_cleared (suc k) w h =
       let z : set (wiped ls L.heads k) (L.heads + k) 0 ≡ set (wiped ls L.heads k) (slot L.heads k) 0 =
-      ap (λ (a : ℕ). set (wiped ls L.heads k) a 0) (sym (slot_sum L.heads k)) in
+      ap (λ (a : ℕ). set (wiped ls L.heads k) a 0) (sym (slot_at L.heads k)) in
       rw (← add-one k) (clear_next L (wiped ls L.heads k) (set (wiped ls L.heads k) (L.heads + k) 0) k (wiped_cleared k w (omega arith)) z (omega arith))
-    where
-      slot_sum : (b i : ℕ) → slot b i ≡ b + i
-      slot_sum zero i = omega arith
-      slot_sum (suc b) i = refl
 
   wiped_only : (k : ℕ) → k ≤ L.keys → Only L ls (wiped ls L.heads k)
   unfolding wiped
   wiped_only zero h = only_none L ls
   wiped_only (suc k) h =
       only_head L ls (wiped ls L.heads k) (set (wiped ls L.heads k) (L.heads + k) 0) k 0 (wiped_only k (omega arith))
-      (ap (λ (a : ℕ). set (wiped ls L.heads k) a 0) (sym (slot_sum L.heads k))) (omega arith)
-    where
-      slot_sum : (b i : ℕ) → slot b i ≡ b + i
-      slot_sum zero i = omega arith
-      slot_sum (suc b) i = refl
+      (ap (λ (a : ℕ). set (wiped ls L.heads k) a 0) (sym (slot_at L.heads k))) (omega arith)
 
 module _ (L : Layout) (key : ℕ → ℕ) (ls : List ℕ) (m : ℕ) (fits : m ≤ L.items) (known : (e : ℕ) → e < m → key e < L.keys) where
   up_chained : (i : ℕ) → i ≤ m → Chained L key ls 0 → Chained L key (linked_up L key ls i) i

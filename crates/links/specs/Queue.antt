@@ -1,10 +1,10 @@
 -- The queue by which the nodes are found that paths reach from node a: a work table of 256 numbers, the queue below 128, a mark for
 -- each node from 128 on.
 -- Every node that was ever put in stays in the queue; those before place h have been looked at.
-use Rattle.std.specs.Prelude.{◌≡◌, refl, ◌⊎◌, Bool, true, false, cond, not, List, [], ◌∷◌, ◌++◌, reverse, length, get_or, take, set, replicate, eqb}
+use Rattle.std.specs.Prelude.{◌≡◌, refl, ◌⊎◌, Bool, true, false, cond, not, List, [], ◌∷◌, ◌++◌, reverse, length, get_or, take, set, replicate, eqb, Option, Some, None}
 use Rattle.std.proofs.Math.Path.{sym}
 use Rattle.std.proofs.Common.{ap, ◌∙◌, inl, inr, not-suc-le-zero, add-one, length-set, take-suc-set, get_or-set_same, get_or-set_other, length-take-le, eqb-true, eq-eqb, ne_eqb}
-use Rattle.std.proofs.Math.Option.{Option, none, some}
+use Rattle.std.proofs.Math.Option.{Option as Maybe, none, some}
 use Rattle.std.proofs.lemmas.List.{reverse-reverse, length-replicate, take-set-le}
 use Prim.Native.Nat.{ℕ, zero, suc, ◌+◌, ◌-◌, ◌<◌, ◌≤◌}
 use native.Mathlib.Omega.{arith}
@@ -430,35 +430,40 @@ root_there g s ls C = C.stored.some
 -- ---- the lowest node without a mark
 
 -- its number plus one, or 0
-abbrev pub lowest_of : Option ℕ → ℕ
+abbrev pub lowest_of : Maybe ℕ → ℕ
 lowest_of none = 0
 lowest_of (some n) = n + 1
 
-unfoldable pub lowest_in : List ℕ → ℕ → ℕ
-lowest_in w k = lowest_of (first (unmarked w) (upto k 0))
+-- its number, if there is one
+abbrev pub lowest_node : Maybe ℕ → Option ℕ
+lowest_node none = None
+lowest_node (some n) = Some n
+
+unfoldable pub lowest_in : List ℕ → ℕ → Option ℕ
+lowest_in w k = lowest_node (first (unmarked w) (upto k 0))
 
 -- what is left to look through from i on
-unfoldable pub lowest_left : List ℕ → ℕ → ℕ → ℕ
-lowest_left w k i = lowest_of (first (unmarked w) (upto (k - i) i))
+unfoldable pub lowest_left : List ℕ → ℕ → ℕ → Option ℕ
+lowest_left w k i = lowest_node (first (unmarked w) (upto (k - i) i))
 
 module _ (w : List ℕ) (k : ℕ) where
   pub lowest_start : lowest_left w k 0 ≡ lowest_in w k
   unfolding lowest_left lowest_in
   lowest_start = let z : k - 0 ≡ k = omega arith in rw z
 
-  opened : (i : ℕ) → i < k → lowest_left w k i ≡ lowest_of (elim (unmarked w i) [ true ↦ some i | false ↦ first (unmarked w) (upto (k - suc i) (suc i)) ])
+  opened : (i : ℕ) → i < k → lowest_left w k i ≡ lowest_node (elim (unmarked w i) [ true ↦ some i | false ↦ first (unmarked w) (upto (k - suc i) (suc i)) ])
   unfolding lowest_left
   opened i l = let z : k - i ≡ suc (k - suc i) = omega arith in rw z
 
-  pub lowest_hit : (i W : ℕ) → lowest_left w k i ≡ W → i < k → get_or w (128 + i) 0 ≡ 0 → i + 1 ≡ W
+  pub lowest_hit : (i : ℕ) (W : Option ℕ) → lowest_left w k i ≡ W → i < k → get_or w (128 + i) 0 ≡ 0 → Some i ≡ W
   unfolding unmarked
   lowest_hit i W q l e = sym (opened i l ∙ rw (eq-eqb (get_or w (128 + i) 0) 0 e)) ∙ q
 
-  pub lowest_next : (i W : ℕ) → lowest_left w k i ≡ W → i < k → (get_or w (128 + i) 0 ≡ 0 → ⊥) → lowest_left w k (i + 1) ≡ W
+  pub lowest_next : (i : ℕ) (W : Option ℕ) → lowest_left w k i ≡ W → i < k → (get_or w (128 + i) 0 ≡ 0 → ⊥) → lowest_left w k (i + 1) ≡ W
   unfolding unmarked lowest_left
   lowest_next i W q l d = rw (add-one i) (sym (opened i l ∙ rw (ne_eqb (get_or w (128 + i) 0) 0 d)) ∙ q)
 
-  pub lowest_end : (i W : ℕ) → lowest_left w k i ≡ W → k ≤ i → 0 ≡ W
+  pub lowest_end : (i : ℕ) (W : Option ℕ) → lowest_left w k i ≡ W → k ≤ i → None ≡ W
   unfolding lowest_left
   lowest_end i W q l = let z : k - i ≡ 0 = omega arith in rw z at q
 
@@ -472,9 +477,9 @@ first_same p q (n ∷ l) f =
     (λ t. let u : p n ≡ true = e ∙ t in rw (u, t, first))
     (λ t. let u : p n ≡ false = e ∙ t in rw (u, t, first) (first_same p q l (λ m i. f m (inr i))))
 
-pub lowest_unreached : (g : List ℕ) (s : Size) (w : List ℕ) (r : ℕ) → Marked g s 0 w → r ≡ lowest_in w s.nodes → r ≡ lowest_of (unreached (graph_in g s))
+pub lowest_unreached : (g : List ℕ) (s : Size) (w : List ℕ) (r : Option ℕ) → Marked g s 0 w → r ≡ lowest_in w s.nodes → r ≡ lowest_node (unreached (graph_in g s))
 unfolding lowest_in unreached
 lowest_unreached g s w r M q =
-    q ∙ ap lowest_of
+    q ∙ ap lowest_node
     (first_same (unmarked w) (λ n. not (has n (reached (graph_in g s)))) (upto s.nodes 0) (λ n i. marks_reached g s w M n)
     ∙ ap (λ (k : ℕ). first (λ n. not (has n (reached (graph_in g s)))) (upto k 0)) (sym (nodes_count g s M.stored)))

@@ -3,7 +3,7 @@
 -- another order a node may lack its mark, and the queue decides.
 use Rattle.std.proofs.Math.Path.{◌≡◌, refl}
 use Rattle.std.proofs.Common.{sym, ◌∙◌, inl, inr, add-one, get_or-set_other}
-use Rattle.std.specs.Prelude.{Bool, cond, List, [], ◌∷◌, length, get_or, set, replicate, eqb}
+use Rattle.std.specs.Prelude.{Bool, cond, List, [], ◌∷◌, length, get_or, set, replicate, eqb, None}
 use Rattle.std.proofs.Math.Bool.{true, false, not}
 use Rattle.std.proofs.Math.Option.{none}
 use Prim.Native.Nat.{ℕ, zero, suc, ◌+◌, ◌<◌, ◌≤◌}
@@ -17,7 +17,7 @@ use Rattle.store.specs.Graph.{reached, unreached}
 use Rattle.store.specs.Table.{graph_in, edge_in, Stored, nodes_count}
 use Rattle.links.specs.Build.{Chains}
 use Rattle.links.specs.Paths.{Path, here, along, upto_in, path_reached}
-use Rattle.links.specs.Queue.{edge_there, whole, zeros, lowest_of}
+use Rattle.links.specs.Queue.{edge_there, whole, zeros, lowest_node}
 
 -- ---- the definitions
 
@@ -127,5 +127,5 @@ module _ (g : List ℕ) (s : Size) (S : Stored g s) where
           rw (path_reached (graph_in g s) (whole g s S) n (sweep_path s.edges (omega arith) n (has_mark_lem (passed_to g root_mark s.edges) n h)))
 
 -- b is what the pass gave
-pub swept_lowest : (g : List ℕ) (s : Size) (ls : List ℕ) (b : Bool) → b ≡ true → b ≡ swept_in g s → Chains g s ls → 0 ≡ lowest_of (unreached (graph_in g s))
+pub swept_lowest : (g : List ℕ) (s : Size) (ls : List ℕ) (b : Bool) → b ≡ true → b ≡ swept_in g s → Chains g s ls → None ≡ lowest_node (unreached (graph_in g s))
 swept_lowest g s ls b t q C = rw (swept_whole g s C.stored (sym q ∙ t))

@@ -1,6 +1,6 @@
 -- Walking the chains: what is left to walk at a stored value, as edges of the graph. The loop is
 -- `let mut e = first(n); while 0 < e { .. edge e - 1 ..; e = next(e - 1); }`. Crates above use these laws and no layout.
-use Rattle.std.specs.Prelude.{◌≡◌, refl, Bool, ℕ, ◌-◌, ◌<◌, ◌≤◌, length, take, ltb}
+use Rattle.std.specs.Prelude.{◌≡◌, refl, Bool, ℕ, ◌+◌, ◌-◌, ◌<◌, ◌≤◌, length, take, ltb}
 use Rattle.std.proofs.Math.Path.{sym, ap}
 use Rattle.std.proofs.Common.{◌∙◌, inl, inr, arith, lt-ltb, le-ltb}
 use mathlib.Core.List.{List, [], ◌∷◌, ◌++◌, map, reverse, reverse-cons, reverse-reverse}
@@ -17,7 +17,7 @@ use Rattle.store.specs.declared.Edge.{Edge}
 use Rattle.store.specs.declared.Size.{Size}
 use Rattle.store.specs.Graph.{out, into}
 use Rattle.store.specs.Table.{graph_in, edge_in, no_edge, Stored, edge_in_lem, edges_count, source_below, target_below}
-use Rattle.links.specs.Build.{out_lay, in_lay, old_lay, source_of, target_of, Chains}
+use Rattle.links.specs.Build.{part_at, slot_at, out_lay, in_lay, old_lay, source_of, target_of, Chains}
 
 -- ---- the reads: an edge's number plus one, or 0 where there is none
 
@@ -71,6 +71,15 @@ module _ (L : Layout) (ls : List ℕ) (n r : ℕ) where
   link_is : n < L.items → r ≡ link_at L ls n → r ≡ get_or ls (slot L.links n) 0
   unfolding link_at guard
   link_is h q = rw (lt-ltb n L.items h, guard) at q
+
+-- in the part that begins at b
+pub part_head : (ls : List ℕ) (b n r : ℕ) → n < 128 → r ≡ get_or ls (b + 1024 + n) 0 → r ≡ head_at (part_at b) ls n
+part_head ls b n r h q = head_read (part_at b) ls n r h (rw (slot_at (b + 1024) n) q)
+
+pub part_link : (ls : List ℕ) (b n r : ℕ) → n < 1024 → r ≡ get_or ls (b + n) 0 → r ≡ link_at (part_at b) ls n
+part_link ls b n r h q = link_read (part_at b) ls n r h (rw (slot_at b n) q)
+
+pub ruleset parts = (part_head, part_link, head_none, link_none)
 
 pub ruleset reads = (head_read, head_none, link_read, link_none)
 

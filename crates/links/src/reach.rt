@@ -6,7 +6,7 @@ ghost use Rattle.store.specs.Table.{graph_in, edge_in, Stored};
 ghost use Rattle.links.specs.Build.{Chains};
 ghost use Rattle.basis.specs.Below.{all_below};
 ghost use Rattle.links.specs.Sweep.{passed_on, passed_to, has_mark, swept_in};
-ghost use Rattle.links.specs.Queue.{Seen, Marked, noted_in, noted_to, lowest_in, lowest_of};
+ghost use Rattle.links.specs.Queue.{Seen, Marked, noted_in, noted_to, lowest_in, lowest_node};
 
 use store::{ChainWords, GraphWords};
 
@@ -49,7 +49,7 @@ fn visit(
     requires h_lt_t { h < t }
     ensures { Seen g.now s a w.new (h + 1) result }
 {
-    let n = basis::wide16(w[h]);
+    let n = usize::from(w[h]);
     let mut e = crate::first_out(ls, n);
     let mut k: usize = t;
     while 0 < e {
@@ -60,6 +60,7 @@ fn visit(
 }
 
 // Marks node a and every node that a path reaches from it, node n at 128 + n.
+// Kept: the new form is no plainer: a queue, whose end moves while its beginning is walked.
 pub fn mark(g: &GraphWords, s: store::Size, ls: &ChainWords, w: &mut [u16; 256], a: usize)
     requires chains { Chains g.now s ls.now }
     requires a_lt_nodes { a < s.nodes }
@@ -76,19 +77,17 @@ pub fn mark(g: &GraphWords, s: store::Size, ls: &ChainWords, w: &mut [u16; 256],
     }
 }
 
-// One more than the lowest of k nodes that has no mark, or 0.
-fn lowest(w: &[u16; 256], k: usize) -> usize
+// The lowest of k nodes that has no mark.
+fn lowest(w: &[u16; 256], k: usize) -> Option<usize>
     requires { k ≤ 128 }
     ensures { result ≡ lowest_in w.now k }
 {
-    let mut i: usize = 0;
-    while i < k {
+    for i in 0..k {
         if w[128 + i] == 0 {
-            return i + 1;
+            return Some(i);
         }
-        i += 1;
     }
-    0
+    None
 }
 
 // The target of edge i gets a mark if its source has one.
@@ -96,12 +95,11 @@ fn pass_on(g: &GraphWords, w: &mut [u16; 256], i: usize)
     requires { i < 1024 }
     ensures { w.new ≡ passed_on g.now w.old i }
 {
-    let a = store::source_there(g, i);
-    let b = store::target_there(g, i);
-    if w[a] == 0 {
-        return;
+    let a = store::source_at(g, i);
+    let b = store::target_at(g, i);
+    if w[a] != 0 {
+        w[b] = 1;
     }
-    w[b] = 1;
 }
 
 // The first m edges, in their order.
@@ -109,10 +107,8 @@ fn sweep(g: &GraphWords, w: &mut [u16; 256], m: usize)
     requires { m ≤ 1024 }
     ensures { w.new ≡ passed_to g.now w.old m }
 {
-    let mut i: usize = 0;
-    while i < m {
+    for i in 0..m {
         pass_on(g, w, i);
-        i += 1;
     }
 }
 
@@ -121,12 +117,10 @@ fn marked(w: &[u16; 256], n: usize) -> bool
     requires { n ≤ 128 }
     ensures { result ≡ all_below (has_mark w.now) n }
 {
-    let mut i: usize = 0;
-    while i < n {
+    for i in 0..n {
         if w[i] == 0 {
             return false;
         }
-        i += 1;
     }
     true
 }
@@ -142,13 +136,13 @@ pub fn swept(g: &GraphWords, s: store::Size) -> bool
     marked(&w, s.nodes)
 }
 
-// One more than the lowest node that is not reached, or 0.
-pub fn lowest_unreached(g: &GraphWords, s: store::Size, ls: &ChainWords) -> usize
+// The lowest node that is not reached.
+pub fn lowest_unreached(g: &GraphWords, s: store::Size, ls: &ChainWords) -> Option<usize>
     requires { Chains g.now s ls.now }
-    ensures { result ≡ lowest_of (unreached (graph_in g.now s)) }
+    ensures { result ≡ lowest_node (unreached (graph_in g.now s)) }
 {
     if swept(g, s) {
-        return 0;
+        return None;
     }
     let mut w = [0u16; 256];
     mark(g, s, ls, &mut w, 0);

@@ -1,5 +1,5 @@
 -- The ways through the code, each with what it leaves.
-use Rattle.std.specs.Prelude.{◌≡◌, refl, Bool, true, false, cond, set, ltb}
+use Rattle.std.specs.Prelude.{◌≡◌, refl, Bool, true, false, cond, set, ltb, Ok, Err}
 use Rattle.std.proofs.Math.Path.{sym, ap}
 use Rattle.std.proofs.Common.{◌∙◌, arith, drop-cons, lt-ltb, le-ltb}
 use mathlib.Core.List.{List, [], ◌∷◌, ◌++◌, map}
@@ -16,9 +16,7 @@ use Rattle.store.specs.declared.Size.{Size}
 use Rattle.store.specs.Graph.{Graph, node_at, first_at}
 use Rattle.store.specs.Table.{graph_in, Stored, nodes_count, number_fits, first_in, first_in_lem}
 use Rattle.links.specs.Build.{Chains}
-use Rattle.graph.specs.declared.Made.{Made}
-use Rattle.graph.specs.declared.Made.TheVariants as M
-use Rattle.graph.specs.Files.{Makes}
+use Rattle.graph.specs.Files.{Made, Makes}
 use Rattle.graph.specs.Laws.Files.{makes_good, makes_graph, makes_refused}
 use Rattle.labels.specs.Labels.{installable, missing}
 use Rattle.labels.specs.Marks.{bits_of, label_bits, marks_at_lem}
@@ -194,14 +192,14 @@ denied_listed X room l r k p e q = rw e (record { counted = q; written = refl; f
 
 -- m is what the file makes
 module _ (file ix g w : List ℕ) (m : Made) (R : Makes file ix g w m) (room : ℕ) (l : List ℕ) (r : Counted) where
-  pub listed_refused : (k p : ℕ) → m ≡ M.Refused k p → r ≡ refusal_of k p → Listed (nodes_of file) room l r l
+  pub listed_refused : (k p : ℕ) → m ≡ Err (record { number = k; place = p }) → r ≡ refusal_of k p → Listed (nodes_of file) room l r l
   unfolding nodes_of
   listed_refused k p e h =
       denied_listed (nodes_of file) room l r k p
       (makes_refused file ix g w m R nodes_read denied (λ i j. refl) (λ T i j z. ap (nodes_drawn T) z) k p e)
       h
 
-  pub listed_drawn : (ws : List ℕ) (s : Size) → m ≡ M.Whole s → Listed (entered (node_entries (tables_of file) (graph_in g s))) room l r ws
+  pub listed_drawn : (ws : List ℕ) (s : Size) → m ≡ Ok s → Listed (entered (node_entries (tables_of file) (graph_in g s))) room l r ws
       → Listed (nodes_of file) room l r ws
   unfolding nodes_of
   listed_drawn ws s e L =

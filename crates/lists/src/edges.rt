@@ -23,8 +23,7 @@ fn cause_number(c: ConflictCause) -> u16
     match c {
         ConflictCause::Locked(s) => s,
         ConflictCause::Constrains(v) => v,
-        ConflictCause::ForbidMultipleInstances => 0,
-        ConflictCause::Excluded => 0,
+        ConflictCause::ForbidMultipleInstances | ConflictCause::Excluded => 0,
     }
 }
 
@@ -53,17 +52,13 @@ fn put_edge(list: &mut [u16], a: usize, e: Edge)
     requires { a + 4 < length list.old }
     ensures { list.new ≡ put list.old a e }
 {
-    let w = e.weight;
-    let k = kind_of(w);
-    let n = number_of(w);
-    let s = e.source as u16;
-    let t = e.target as u16;
-    let c = e.clause;
-    list[a] = s;
-    list[a + 1] = t;
+    let k = kind_of(e.weight);
+    let n = number_of(e.weight);
+    list[a] = u16::from(e.source);
+    list[a + 1] = u16::from(e.target);
     list[a + 2] = k;
     list[a + 3] = n;
-    list[a + 4] = c;
+    list[a + 4] = e.clause;
 }
 
 // Five numbers an edge; numbers past the last edge stay.
@@ -72,11 +67,7 @@ pub fn put_edges(g: &GraphWords, s: Size, list: &mut [u16])
     requires edges_in_bounds { 5 * s.edges ≤ length list.old }
     ensures { list.new ≡ edges_over (graph_in g.now s) list.old }
 {
-    let m = s.edges;
-    let mut i: usize = 0;
-    while i < m {
-        let e = store::edge_at(g, i);
-        put_edge(list, 5 * i, e);
-        i += 1;
+    for i in 0..s.edges {
+        put_edge(list, 5 * i, store::edge_at(g, i));
     }
 }

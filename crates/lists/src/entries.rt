@@ -5,6 +5,7 @@ ghost use Rattle.std.specs.Prelude.{◌≡◌, ◌<◌, ◌≤◌, length};
 ghost use Rattle.lists.specs.Entry.{entry_in, fill_to};
 
 // One node as a host sees it, laid out as the C header's `urzulempa_node`.
+// Kept: the C interface: a node's entry as C reads it.
 #[repr(C)]
 #[derive(Clone, Copy)]
 pub struct NodeEntry {
@@ -37,9 +38,7 @@ pub fn fill(list: &mut [NodeEntry], words: &[u64; 128], n: usize)
     requires { (n ≤ length list.old) × (n ≤ 128) }
     ensures { list.new ≡ fill_to words.now n list.old }
 {
-    let mut i = 0;
-    while i < n {
+    for i in 0..n {
         list[i] = entry_at(words, i);
-        i = i + 1;
     }
 }

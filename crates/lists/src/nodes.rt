@@ -1,18 +1,19 @@
 // The nodes of a file as packed words (document 01, "Graph rules", last paragraph): refusals 1 to 9, 10 where the list has no room
 // for them, else one word a node with its kind, number, group and both labels.
-ghost use Rattle.std.specs.Prelude.{◌≡◌, length, replicate};
+ghost use Rattle.std.specs.Prelude.{◌≡◌, length};
 ghost use Rattle.records.specs.Read.{tables_of};
-ghost use Rattle.index.specs.Index.{Blank, Loaded};
+ghost use Rattle.index.specs.Index.{Loaded};
 ghost use Rattle.store.specs.Table.{graph_in};
 ghost use Rattle.links.specs.Build.{Chains};
+ghost use Rattle.labels.specs.Marks.{label_bits};
 ghost use Rattle.lists.specs.Nodes.{node_entries, entered, nodes_of, refusal_of};
 ghost use Rattle.lists.specs.Listed.{Listed};
 
-use graph::Made;
 use index::Slots;
-use store::{ChainWords, GraphWords, PerNode, Scratch, Size};
+use store::{ChainWords, GraphWords, PerNode, Size};
 
 // An answer about the node list, and how many entries it fills: none on every refusal.
+// Kept: the C interface: number, place and units are those of the answer that C gets, on a refusal too (`answer_of` of calls/specs).
 #[derive(Clone, Copy)]
 pub struct Counted {
     pub number: u64,
@@ -21,7 +22,7 @@ pub struct Counted {
     pub count: usize,
 }
 
-fn refusal(number: u64, place: u64) -> Counted
+pub(crate) fn refusal(number: u64, place: u64) -> Counted
     ensures { result ≡ refusal_of number place }
 {
     Counted {
@@ -32,22 +33,21 @@ fn refusal(number: u64, place: u64) -> Counted
     }
 }
 
-// The nodes of a graph that is drawn, over fresh arrays.
-fn list_in(
+// The nodes of a graph whose labels are known; "Groups are worked out afresh".
+pub(crate) fn list_marked(
     file: &[u8],
     ix: &Slots,
     g: &GraphWords,
     s: Size,
     ls: &ChainWords,
-    marks: &mut PerNode,
-    leads: &mut PerNode,
+    marks: &PerNode,
     words: &mut [u64; 128],
     room: usize,
 ) -> Counted
     requires loaded { Loaded file.now ix.now }
     requires chains { Chains g.now s ls.now }
-    requires marks_value { marks.old ≡ replicate 128 0 }
-    requires leads_len { (length leads.old ≡ 128) × (length words.old ≡ 128) }
+    requires marks_value { marks.now ≡ label_bits (graph_in g.now s) }
+    requires words_len { length words.old ≡ 128 }
     ensures { Listed (entered (node_entries (tables_of file.now) (graph_in g.now s))) room words.old result
         words.new }
 {
@@ -55,9 +55,9 @@ fn list_in(
     if room < n {
         return refusal(10, 0);
     }
-    labels::label(g, s, ls, marks);
-    groups::naming::group_named(file, ix, g, s, ls, leads);
-    crate::words::list(g, s, marks, leads, words);
+    let mut leads = [0u16; 128];
+    groups::naming::group_named(file, ix, g, s, ls, &mut leads);
+    crate::words::list(g, s, marks, &leads, words);
     Counted {
         number: 0,
         place: 0,
@@ -66,7 +66,7 @@ fn list_in(
     }
 }
 
-// The same, with the arrays of its own.
+// The nodes of a graph that is drawn.
 fn list_drawn(
     file: &[u8],
     ix: &Slots,
@@ -83,34 +83,12 @@ fn list_drawn(
         words.new }
 {
     let mut marks = [0u16; 128];
-    let mut leads = [0u16; 128];
-    list_in(file, ix, g, s, ls, &mut marks, &mut leads, words, room)
-}
-
-fn words_in(
-    file: &[u8],
-    words: &mut [u64; 128],
-    room: usize,
-    ix: &mut Slots,
-    g: &mut GraphWords,
-    tr: &mut Scratch,
-    ls: &mut ChainWords,
-) -> Counted
-    requires blank { Blank ix.old }
-    requires g_value { g.old ≡ replicate 1152 0 }
-    requires tr_len { length tr.old ≡ 1280 }
-    requires ls_value { ls.old ≡ replicate 3456 0 }
-    requires words_len { length words.old ≡ 128 }
-    ensures { Listed (nodes_of file.now) room words.old result words.new }
-{
-    let m = graph::of_file(file, ix, g, tr, ls);
-    match m {
-        Made::Refused(k, p) => refusal(k, p),
-        Made::Whole(s) => list_drawn(file, ix, g, s, ls, words, room),
-    }
+    labels::label(g, s, ls, &mut marks);
+    list_marked(file, ix, g, s, ls, &marks, words, room)
 }
 
 // The entries' words in a list of `room` entries; the words behind them stay.
+// Kept: the new form is no plainer: each call has its own arrays and hands them to one function, its own.
 pub fn node_words(file: &[u8], words: &mut [u64; 128], room: usize) -> Counted
     requires { length words.old ≡ 128 }
     ensures { Listed (nodes_of file.now) room words.old result words.new }
@@ -119,5 +97,8 @@ pub fn node_words(file: &[u8], words: &mut [u64; 128], room: usize) -> Counted
     let mut g = [0u64; 1152];
     let mut tr = [0u64; 1280];
     let mut ls = [0u16; 3456];
-    words_in(file, words, room, &mut ix, &mut g, &mut tr, &mut ls)
+    match graph::of_file(file, &mut ix, &mut g, &mut tr, &mut ls) {
+        Err(e) => refusal(e.number, e.place),
+        Ok(s) => list_drawn(file, &ix, &g, s, &ls, words, room),
+    }
 }

@@ -6,20 +6,15 @@ ghost use Rattle.lists.specs.Listing.{node_part, node_word, entries_to};
 
 use store::{ConflictNode, GraphWords, PerNode, Size};
 
-fn wide64(x: u16) -> u64
-    ensures { (result ≡ x) × (result < 65536) }
-{
-    x as u64
-}
-
+// Kept: the new form is no plainer: a match on the four kinds of node, whose arms are what C reads.
 fn node_part(x: ConflictNode) -> u64
     ensures { (result ≡ node_part x) × (result < 16777216) }
 {
     match x {
         ConflictNode::Root => 0,
-        ConflictNode::Solvable(s) => 1 + 256 * wide64(s),
+        ConflictNode::Solvable(s) => 1 + 256 * u64::from(s),
         ConflictNode::UnresolvedDependency => 2,
-        ConflictNode::Excluded(r) => 3 + 256 * wide64(r),
+        ConflictNode::Excluded(r) => 3 + 256 * u64::from(r),
     }
 }
 
@@ -27,15 +22,14 @@ fn entry(g: &GraphWords, marks: &PerNode, leads: &PerNode, n: usize) -> u64
     requires { n < 128 }
     ensures { result ≡ node_word (node_in g.now n) (get_or marks.now n 0) (get_or leads.now n 0) (first_in g.now n) }
 {
-    let x = store::node_at(g, n);
-    let p = node_part(x);
-    let m = wide64(marks[n]);
-    let l = wide64(leads[n]) % 256;
+    let p = node_part(store::node_at(g, n));
+    let m = u64::from(marks[n]);
+    let l = u64::from(leads[n]) % 256;
     let c = store::first_at(g, n);
     p + 16777216 * l
         + 4294967296 * (m % 2)
         + 1099511627776 * (m / 2 % 2)
-        + 281474976710656 * wide64(c)
+        + 281474976710656 * u64::from(c)
 }
 
 // Each node's entry; words past the last node stay.
@@ -43,10 +37,7 @@ pub fn list(g: &GraphWords, s: Size, marks: &PerNode, leads: &PerNode, words: &m
     requires { Stored g.now s }
     ensures { words.new ≡ entries_to (graph_in g.now s) marks.now leads.now s.nodes words.old }
 {
-    let mut n: usize = 0;
-    while n < s.nodes {
-        let v = entry(g, marks, leads, n);
-        words[n] = v;
-        n += 1;
+    for n in 0..s.nodes {
+        words[n] = entry(g, marks, leads, n);
     }
 }

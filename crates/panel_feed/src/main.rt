@@ -2,7 +2,7 @@
 // bytes, the whole lines that fit, each cut to the panel's width, and below them whether there is more.
 #![tactic(auto)]
 
-ghost use Rattle.std.specs.Prelude.{◌≡◌, ◌≢◌, ℕ, ◌-◌, ◌<◌, ◌≤◌, min, length, slice_index, IfSome};
+ghost use Rattle.std.specs.Prelude.{◌≡◌, ◌≤◌, min, length, IfSome};
 ghost use Rattle.panel_feed.specs.Cut.{starts, over, after, cut_at};
 
 use calls::Answer;
@@ -12,48 +12,32 @@ use std::rt::{Env, Files};
 use std::{fs, io, str};
 use urzulempa::urzulempa_explain;
 
-fn say<W: Write>(out: &mut W, text: &[u8]) -> io::Result<()> {
-    out.write_all(text)
-}
-
-fn say_number<W: Write>(out: &mut W, n: u64) -> io::Result<()> {
-    write!(out, "{n}")
-}
-
 // The byte starts a character.
+#[tactic(auto, unfolding(crate::specs::Cut::starts))]
 fn is_start(b: u8) -> bool
     ensures { result ≡ starts b }
 {
-    if b < 128 {
-        return true;
-    }
-    b > 191
+    b < 128 || b > 191
 }
 
 // The byte starts a character for which no column is left.
+#[tactic(auto, unfolding(crate::specs::Cut::over))]
 fn is_over(columns: usize, b: u8) -> bool
     ensures { result ≡ over columns b }
 {
-    if is_start(b) {
-        return columns == 0;
-    }
-    false
-}
-
-fn one_less(columns: usize) -> usize
-    ensures { result ≡ columns - 1 }
-{
-    if columns == 0 { 0 } else { columns - 1 }
+    is_start(b) && columns == 0
 }
 
 // The columns that are left behind the byte.
+#[tactic(auto, unfolding(crate::specs::Cut::after))]
 fn left_after(columns: usize, b: u8) -> usize
     ensures { result ≡ after columns b }
 {
     if is_start(b) {
-        return one_less(columns);
+        columns.saturating_sub(1)
+    } else {
+        columns
     }
-    columns
 }
 
 // The bytes of the line that the columns hold, whole characters.
@@ -61,89 +45,50 @@ fn cut(line: &[u8], columns: usize) -> usize
     ensures { (result ≡ cut_at columns line.now) × (result ≤ length line.now) }
 {
     let mut left = columns;
-    let mut i: usize = 0;
-    while i < line.len() {
-        let b = line[i];
-        if is_over(left, b) {
+    for (i, b) in line.iter().enumerate() {
+        if is_over(left, *b) {
             return i;
         }
-        left = left_after(left, b);
-        i = i + 1;
+        left = left_after(left, *b);
     }
-    i
+    line.len()
 }
 
 // A line of the panel; one that is too long ends with a mark in the last column.
 fn say_line<W: Write>(out: &mut W, line: &[u8]) -> io::Result<()> {
-    say(out, b"| ")?;
-    let n = cut(line, 40);
-    if n == line.len() {
-        say(out, line)?;
-        return say(out, b"\n");
+    write!(out, "| ")?;
+    if cut(line, 40) == line.len() {
+        out.write_all(line)?;
+        return writeln!(out);
     }
-    let m = cut(line, 39);
-    say(out, &line[..m])?;
-    say(out, b">\n")
+    out.write_all(&line[..cut(line, 39)])?;
+    writeln!(out, ">")
 }
 
-// Where the line at `at` ends, without its line end.
-fn line_end(text: &[u8], at: usize) -> usize
-    requires { at ≤ length text.now }
-    ensures within { (at ≤ result) × (result ≤ length text.now) }
-    ensures before { (k : ℕ) → at ≤ k → k < result → slice_index text.now k ≢ 10 }
-    ensures found { result < length text.now → slice_index text.now result ≡ 10 }
-{
-    let mut e = at;
-    while e < text.len() {
-        if text[e] == b'\n' {
-            return e;
-        }
-        e += 1;
-    }
-    e
-}
-
+// Each line without its line end.
 fn say_lines<W: Write>(out: &mut W, text: &[u8]) -> io::Result<()> {
-    let mut at: usize = 0;
-    while at < text.len() {
-        let e = line_end(text, at);
-        say_line(out, &text[at..e])?;
-        at = e + 1;
+    for line in text.split_inclusive(|b| *b == b'\n') {
+        say_line(out, line.strip_suffix(b"\n").unwrap_or(line))?;
     }
     Ok(())
 }
 
 // What stands below the lines.
 fn say_status<W: Write>(out: &mut W, a: Answer) -> io::Result<()> {
-    if a.number == 0 {
-        return say(out, b"= end\n");
+    match a.number {
+        0 => writeln!(out, "= end"),
+        10 => writeln!(out, "= more, shown so far: {}", a.units),
+        11 => writeln!(out, "= endless: solvable {} needs itself", a.place),
+        number => writeln!(out, "= no text: refusal {number} at {}", a.place),
     }
-    if a.number == 10 {
-        say(out, b"= more, shown so far: ")?;
-        say_number(out, a.units)?;
-        return say(out, b"\n");
-    }
-    if a.number == 11 {
-        say(out, b"= endless: solvable ")?;
-        say_number(out, a.place)?;
-        return say(out, b" needs itself\n");
-    }
-    say(out, b"= no text: refusal ")?;
-    say_number(out, a.number)?;
-    say(out, b" at ")?;
-    say_number(out, a.place)?;
-    say(out, b"\n")
 }
 
+// Kept: no plainer: this program and `shift_log` share this, `read_full` and `argument`, too little for a crate between them.
 // The bytes of a room that a text of that many takes.
 fn within(bytes: u64, room: usize) -> usize
     ensures { (result ≡ min bytes room) × (result ≤ room) }
 {
-    if bytes < room as u64 {
-        bytes as usize
-    } else {
-        room
-    }
+    (bytes as usize).min(room)
 }
 
 fn say_text<W: Write>(out: &mut W, room: &[u8], bytes: u64) -> io::Result<()> {
@@ -158,6 +103,7 @@ fn feed<W: Write>(out: &mut W, file: &[u8]) -> io::Result<()> {
     say_status(out, a)
 }
 
+// Kept: what may not change, nothing new is assumed: `read_to_end` into a Vec reaches three more calls of libc.
 // Reads until buf is full, the file ends or a read fails; answers how many bytes of buf it filled.
 fn read_full<F: Read>(file: &mut F, buf: &mut [u8]) -> usize
     ensures { result ≤ length buf.new }
@@ -181,13 +127,13 @@ fn read_and_feed<W: Write, F: Read>(out: &mut W, opened: &mut F) -> io::Result<(
 }
 
 fn cannot<W: Write>(out: &mut W) -> io::Result<()> {
-    say(out, b"= cannot be read\n")
+    writeln!(out, "= cannot be read")
 }
 
 // The file of that name.
 fn show<W: Write, R: Files>(out: &mut W, rt: &R, name: &[u8]) -> io::Result<()> {
-    say(out, name)?;
-    say(out, b"\n")?;
+    out.write_all(name)?;
+    writeln!(out)?;
     let Ok(path) = str::from_utf8(name) else {
         return cannot(out);
     };
@@ -197,6 +143,7 @@ fn show<W: Write, R: Files>(out: &mut W, rt: &R, name: &[u8]) -> io::Result<()> 
     read_and_feed(out, &mut file)
 }
 
+// Kept: what may not change, what the programs do: `env::args` fails on a name that is not UTF-8, which is shown here as it stands.
 // Puts argument i at the start of `buf`, and answers its length, which is 0 for one that is longer than `buf`.
 fn argument<R: Env>(rt: &R, i: usize, buf: &mut [u8]) -> Option<usize>
     ensures { IfSome result (λ n. n ≤ length buf.new) }

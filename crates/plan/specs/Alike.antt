@@ -1,16 +1,12 @@
 -- From the packed tables to the plan of S: they are alike but for how they name their runs.
-use Rattle.std.specs.Prelude.{◌≡◌, refl, Bool, List, [], ◌∷◌, ℕ, ◌<◌, length}
+use Rattle.std.specs.Prelude.{refl, List, [], ◌∷◌, ℕ, ◌<◌, length}
 use Rattle.std.proofs.Common.{sym, ◌∙◌, inl, inr}
 use Rattle.std.proofs.Math.Path.{ap}
 use Rattle.basis.specs.Members.{In, All}
-use Rattle.labels.specs.Runs.{Run}
-use Rattle.machine.specs.Machine.{Entry, entry, requirement, candidate}
-use Rattle.machine.specs.Units.{Result}
-use Rattle.machine.specs.Explained.{Explained}
-use Rattle.plan.specs.Plan.{Shown, popped, is_requiring, plan_of, start_of}
-use Rattle.plan.specs.Fields.{runs_in, kids_in, plan_in, start_in, opens_kind}
-use Rattle.plan.specs.Planned.{RunIs, NodeIs, Planned}
-use Rattle.plan.specs.Like.{PlansAlike, SameEntry, same_run, same_kid, explained_same}
+use Rattle.plan.specs.Plan.{Shown, is_requiring, plan_of}
+use Rattle.plan.specs.Fields.{kids_in, plan_in, opens_kind}
+use Rattle.plan.specs.Planned.{RunIs, Planned}
+use Rattle.plan.specs.Like.{PlansAlike}
 
 all_of : {A : Type 0} (N : A → Type 0) (xs : List A) → ((x : A) → In x xs → N x) → All N xs
 all_of N [] f = tt

@@ -1,8 +1,8 @@
 -- What demand 3 asks of a graph's groups: they are named after members and have two or more, and the kids of any run are solvable nodes.
-use Rattle.std.specs.Prelude.{◌≡◌, refl, Bool, true, false, cond, not, List, [], ◌∷◌, ◌++◌, reverse, ℕ, zero, suc, ◌≤◌, ◌<◌, length, get_or, eqb}
-use Rattle.std.proofs.Common.{sym, ap, ◌∙◌, inl, inr, arith, eqb-true, ne_eqb}
+use Rattle.std.specs.Prelude.{◌≡◌, true, cond, List, [], ◌∷◌, ◌++◌, ℕ, zero, suc, ◌<◌, length, get_or, eqb}
+use Rattle.std.proofs.Common.{sym, ◌∙◌, inl, inr, arith, eqb-true, ne_eqb}
 use Rattle.std.proofs.lemmas.Bool.{false≢true}
-use Rattle.basis.specs.Lists.{any, all, filter, has, upto}
+use Rattle.basis.specs.Lists.{filter, has, upto}
 use Rattle.basis.specs.Members.{In, Distinct, split, either, in_filter, filter_in, in_reverse, and_true}
 use Rattle.records.specs.Tables.{Tables}
 use Rattle.store.specs.declared.ConflictNode.{ConflictNode}
@@ -11,7 +11,7 @@ use Rattle.store.specs.Graph.{Graph, node_at, is_solvable}
 use Rattle.groups.specs.Counts.{solvables}
 use Rattle.labels.specs.Runs.{Run}
 use Rattle.machine.specs.Machine.{Plan}
-use Rattle.machine.specs.Count.{Grouped, leading, following}
+use Rattle.machine.specs.Count.{Grouped}
 use Rattle.plan.specs.Plan.{Shown, shown_of, merged_shown, lead_shown, offered, dedup, kids_of, no_candidates, run_installable, is_installable, group_of}
 use Rattle.plan.specs.Mates.{in_upto, upto_in, upto_distinct, filter_distinct, named_lead, another_mate}
 

@@ -4,9 +4,9 @@
 -- of its group + 1 or 0 (8), number of its solvable (16). A tail: first place in k of its version sets (11), their end (11),
 -- number of its reason (16), length of its display text (16). A run: first place in k of its kids (11), their end (11), number
 -- of its requirement (16), wording (2).
-use Rattle.std.specs.Prelude.{◌≡◌, refl, Bool, true, false, cond, List, [], ◌∷◌, map, ℕ, zero, suc, ◌+◌, ◌*◌, ◌-◌, ◌/◌, ◌%◌, ◌≤◌, ◌<◌, length, get_or, eqb, ltb}
+use Rattle.std.specs.Prelude.{◌≡◌, refl, Option, Some, None, Bool, cond, List, [], ◌∷◌, map, ℕ, zero, suc, ◌+◌, ◌-◌, ◌/◌, ◌%◌, ◌≤◌, ◌<◌, length, get_or, eqb, ltb}
 use Rattle.std.proofs.Common.{sym, ap, ◌∙◌, not-suc-le-zero, add-one, sub-one, arith}
-use borrow.Author.Tests.{lt-ltb, le-ltb, ltb-true, ltb-false}
+use borrow.Author.Tests.{lt-ltb, le-ltb, ltb-true}
 use Rattle.basis.specs.Lists.{upto}
 use Rattle.basis.specs.Members.{split}
 use Rattle.machine.specs.Machine.{Plan, State, start}
@@ -68,7 +68,7 @@ merged_in p n = eqb (head_in p n / 33554432 % 2) 1
 unfoldable pub lead_in : List ℕ → ℕ → ℕ
 lead_in p n = head_in p n / 67108864 % 128
 
--- as stored: one more than the next member's number, or 0
+-- as one_more: one more than the next member's number, or 0
 unfoldable pub mate_field : List ℕ → ℕ → ℕ
 mate_field p n = head_in p n / 8589934592 % 256
 
@@ -167,6 +167,11 @@ sets_more k i e h =
     rw (z, y)
 
 -- ---- the members of a group, by their numbers plus one, 0 at the end: the next has a greater number, or there is none
+
+-- a member that there may be, as it is one_more
+abbrev pub one_more : Option ℕ → ℕ
+one_more None = 0
+one_more (Some n) = n + 1
 
 unfoldable pub mate_in : List ℕ → ℕ → ℕ
 mate_in p n = cond (ltb (n + 1) (mate_field p n)) (mate_field p n) 0

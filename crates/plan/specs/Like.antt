@@ -1,15 +1,14 @@
 -- Two plans that are alike but for how they name their runs tell the same, entry by entry. General: nothing here is of a graph.
-use Rattle.std.specs.Prelude.{◌≡◌, refl, Bool, true, false, cond, not, ◌&&◌, List, [], ◌∷◌, ◌++◌, map, ℕ, zero, suc, ◌+◌, length}
+use Rattle.std.specs.Prelude.{◌≡◌, refl, Bool, not, List, [], ◌∷◌, ◌++◌, ℕ, zero, suc}
 use Rattle.std.proofs.Common.{sym, ap, ◌∙◌}
-use Rattle.std.proofs.Math.Option.{Option, none, some}
-use Rattle.basis.specs.Lists.{has, is_nil, take_while, concat_map}
+use Rattle.basis.specs.Lists.{is_nil, take_while}
 use Rattle.basis.specs.Members.{All, split, clash}
-use Rattle.machine.specs.Machine.{Plan, Op, requirement, candidate, Entry, entry, State, state, start, level, skipped, report, under, repeats, stop_of, Stop}
-use Rattle.machine.specs.Machine.{going, done, loops, next, says, Told, tell, openings}
+use Rattle.machine.specs.Machine.{Plan, requirement, candidate, Entry, entry, state, start, level, skipped, report, under, repeats, stop_of, Stop}
+use Rattle.machine.specs.Machine.{going, done, loops, next, says, Told, tell}
 use Rattle.machine.specs.Halts.{stop_on, stop_loop}
 use Rattle.machine.specs.Never.{by_stop}
 use Rattle.machine.specs.Units.{TextUnit, Result}
-use Rattle.machine.specs.Explained.{Explained, explain, units_for, units_of, finish}
+use Rattle.machine.specs.Explained.{Explained, units_for, units_of, finish}
 
 -- two lists of the same length, whose elements are related one by one
 abbrev pub Each : {A B : Type 0} → (A → B → Type 0) → List A → List B → Type 0

@@ -1,6 +1,6 @@
 -- What the groups of a graph are to one who knows each node's lead only: its members are the nodes of the same lead.
 use Rattle.std.specs.Prelude.{◌≡◌, refl, Bool, true, false, cond, ℕ, zero, suc, ◌+◌, ◌<◌, ◌≤◌, length, get_or, ltb}
-use Rattle.std.proofs.Common.{sym, ◌∙◌, inl, inr, true≢false, not-suc-le-zero, eqb-true, eq-eqb, ne_eqb, lt-ltb}
+use Rattle.std.proofs.Common.{sym, ◌∙◌, inl, inr, true≢false, not-suc-le-zero, eqb-true, eq-eqb, lt-ltb}
 use Rattle.std.proofs.Math.Path.{ap}
 use Rattle.std.proofs.lemmas.Bool.{false≢true, eqb-false}
 use mathlib.Core.List.{List, [], ◌∷◌, map}
@@ -14,7 +14,7 @@ use Rattle.store.specs.Graph.{Graph, node_at, is_solvable}
 use Rattle.groups.specs.Groups.{sort, out_keys, in_keys, merges_by, title_of, mates_by, mates}
 use Rattle.groups.specs.Small.{eq_refl, keys_refl}
 use Rattle.groups.specs.Counts.{same_mates}
-use Rattle.plan.specs.Plan.{Shown, shown_of, group_of, merged_shown, lead_shown}
+use Rattle.plan.specs.Plan.{shown_of, group_of, merged_shown, lead_shown}
 use Rattle.plan.specs.Display.{members_of}
 
 -- ---- small laws

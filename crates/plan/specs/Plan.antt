@@ -1,7 +1,6 @@
 -- What `fmt_graph` shows of a labelled graph is fixed but for `reported`: the runs of each package, the kids of each run and the
 -- kind of line of each package. Line numbers are conflict.rs's.
-use Rattle.std.specs.Prelude.{Bool, true, false, cond, ◌&&◌, not, List, [], ◌∷◌, ◌++◌, map, reverse, ℕ, zero, suc, length, get_or, ltb, eqb}
-use Rattle.std.proofs.Math.Option.{Option, none, some}
+use Rattle.std.specs.Prelude.{Bool, true, false, cond, ◌&&◌, not, List, [], ◌∷◌, ◌++◌, map, reverse, ℕ, length, get_or, ltb, eqb}
 use Rattle.basis.specs.Lists.{any, all, filter, has, is_nil, concat_map, upto}
 use Rattle.records.specs.Tables.{Tables}
 use Rattle.records.specs.Views.{name_text, solvable_name}

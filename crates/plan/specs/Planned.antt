@@ -1,7 +1,7 @@
 -- What the packed tables promise: they are the plan of S.
-use Rattle.std.specs.Prelude.{◌≡◌, Bool, true, cond, List, ℕ, ◌<◌, length}
+use Rattle.std.specs.Prelude.{◌≡◌, true, cond, List, ℕ, ◌<◌, length}
 use Rattle.basis.specs.Members.{In}
-use Rattle.store.specs.Graph.{Graph, node_at, is_solvable}
+use Rattle.store.specs.Graph.{node_at, is_solvable}
 use Rattle.labels.specs.Runs.{Run}
 use Rattle.plan.specs.Plan.{Shown, popped, no_candidates, run_installable, kids_of, line_kind, merged_shown, lead_shown}
 use Rattle.plan.specs.Display.{solvable_of, members_of, package_text}

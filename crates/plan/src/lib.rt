@@ -6,34 +6,34 @@ pub mod reading;
 
 ghost use Rattle.std.specs.Prelude.{◌≡◌, ◌<◌};
 ghost use Rattle.plan.specs.Fields.{head_in, tail_in, run_in, run_first, run_end, tag_in, merged_in, lead_in, mate_field, mate_in, solvable_in, sets_first, sets_end};
-ghost use Rattle.plan.specs.Fields.{reason_in, text_length, opens_in, kid_first, kid_end, requirement_in, wording_in, kid_at, set_at, mates_from};
+ghost use Rattle.plan.specs.Fields.{reason_in, text_length, opens_in, kid_first, kid_end, requirement_in, wording_in, kid_at, set_at, one_more, mates_from};
 ghost use Rattle.plan.specs.Texts.{last_of_many};
 
 use store::Scratch;
 
+#[tactic(auto, unfolding(crate::specs::Fields::head_in))]
 fn head(p: &Scratch, n: usize) -> u64
     ensures { result ≡ head_in p.now n }
 {
-    if n < 128 { basis::get64(p, n) } else { 0 }
+    if n < 128 { basis::get(p, n) } else { 0 }
 }
 
+#[tactic(auto, unfolding(crate::specs::Fields::tail_in))]
 fn tail(p: &Scratch, n: usize) -> u64
     ensures { result ≡ tail_in p.now n }
 {
-    if n < 128 { basis::get64(p, 128 + n) } else { 0 }
+    if n < 128 { basis::get(p, 128 + n) } else { 0 }
 }
 
+#[tactic(auto, unfolding(crate::specs::Fields::run_in))]
 fn run(p: &Scratch, r: usize) -> u64
     ensures { result ≡ run_in p.now r }
 {
-    if r < 1024 {
-        basis::get64(p, 256 + r)
-    } else {
-        0
-    }
+    if r < 1024 { basis::get(p, 256 + r) } else { 0 }
 }
 
 // The first of node n's runs.
+#[tactic(auto, unfolding(crate::specs::Fields::run_first))]
 pub fn run_first(p: &Scratch, n: usize) -> usize
     ensures { (result ≡ run_first p.now n) × (result < 2048) }
 {
@@ -41,6 +41,7 @@ pub fn run_first(p: &Scratch, n: usize) -> usize
 }
 
 // The number past node n's last run.
+#[tactic(auto, unfolding(crate::specs::Fields::run_end))]
 pub fn run_end(p: &Scratch, n: usize) -> usize
     ensures { (result ≡ run_end p.now n) × (result < 2048) }
 {
@@ -48,6 +49,8 @@ pub fn run_end(p: &Scratch, n: usize) -> usize
 }
 
 // Which line a package has: 0 excluded, 1 bare, 2 conflicting, 3 constraining, else requiring.
+// Kept: what may not change: `line_kind` promises the tag of any table, 0 to 7 (`tag_in`), of which an enum would lose 5 to 7.
+#[tactic(auto, unfolding(crate::specs::Fields::tag_in))]
 pub fn line_kind(p: &Scratch, n: usize) -> u64
     ensures { (result ≡ tag_in p.now n) × (result < 8) }
 {
@@ -55,12 +58,14 @@ pub fn line_kind(p: &Scratch, n: usize) -> u64
 }
 
 // The line says "would require".
+#[tactic(auto, unfolding(crate::specs::Fields::opens_in))]
 pub fn opens(p: &Scratch, n: usize) -> bool
     ensures { result ≡ opens_in p.now n }
 {
     3 < line_kind(p, n)
 }
 
+#[tactic(auto, unfolding(crate::specs::Fields::merged_in))]
 pub fn merged(p: &Scratch, n: usize) -> bool
     ensures { result ≡ merged_in p.now n }
 {
@@ -68,49 +73,51 @@ pub fn merged(p: &Scratch, n: usize) -> bool
 }
 
 // The first member of node n's group, n itself if it is unmerged.
+#[tactic(auto, unfolding(crate::specs::Fields::lead_in))]
 pub fn lead(p: &Scratch, n: usize) -> usize
     ensures { (result ≡ lead_in p.now n) × (result < 128) }
 {
     (head(p, n) / 67108864 % 128) as usize
 }
 
+#[tactic(auto, unfolding(crate::specs::Fields::mate_field))]
 fn mate(p: &Scratch, n: usize) -> usize
     ensures { (result ≡ mate_field p.now n) × (result < 256) }
 {
     (head(p, n) / 8589934592 % 256) as usize
 }
 
-// One more than the number of the next member of node n's group, or 0.
-pub fn next_mate(p: &Scratch, n: usize) -> usize
-    ensures { (result ≡ mate_in p.now n) × (result < 256) }
+// The next member of node n's group, where there is one.
+pub fn next_mate(p: &Scratch, n: usize) -> Option<usize>
+    ensures { (one_more result ≡ mate_in p.now n) × (one_more result < 256) }
 {
     let m = mate(p, n);
     if n < 128 {
         if n + 1 < m {
-            return m;
+            return Some(m - 1);
         }
     }
-    0
+    None
 }
 
-// One more than the number of the last of a group's members behind its first, where the group has more than six; else 0.
-// x1: one more than the number of the second, or 0.
-pub fn last_of_many(p: &Scratch, x1: usize) -> usize
-    requires { x1 < 256 }
-    ensures { (result ≡ last_of_many (mates_from p.now x1)) × (result < 256) }
+// The last of a group's members behind its first, where the group has more than six. x1: the second, where there is one.
+pub fn last_of_many(p: &Scratch, x1: Option<usize>) -> Option<usize>
+    requires { one_more x1 < 256 }
+    ensures { (one_more result ≡ last_of_many (mates_from p.now (one_more x1))) × (one_more result < 256) }
 {
     let mut x = x1;
     let mut c: usize = 0;
-    let mut l: usize = 0;
-    while 0 < x {
+    let mut l = None;
+    while let Some(m) = x {
         l = x;
         c += 1;
-        x = next_mate(p, x - 1);
+        x = next_mate(p, m);
     }
-    if 5 < c { l } else { 0 }
+    if 5 < c { l } else { None }
 }
 
 // The number of node n's solvable.
+#[tactic(auto, unfolding(crate::specs::Fields::solvable_in))]
 pub fn solvable(p: &Scratch, n: usize) -> u16
     ensures { result ≡ solvable_in p.now n }
 {
@@ -118,12 +125,14 @@ pub fn solvable(p: &Scratch, n: usize) -> u16
 }
 
 // The first place of node n's version sets. Their lines come from the end down to it.
+#[tactic(auto, unfolding(crate::specs::Fields::sets_first))]
 pub fn sets_first(p: &Scratch, n: usize) -> usize
     ensures { (result ≡ sets_first p.now n) × (result < 2048) }
 {
     (tail(p, n) % 2048) as usize
 }
 
+#[tactic(auto, unfolding(crate::specs::Fields::sets_end))]
 pub fn sets_end(p: &Scratch, n: usize) -> usize
     ensures { (result ≡ sets_end p.now n) × (result < 2048) }
 {
@@ -131,6 +140,7 @@ pub fn sets_end(p: &Scratch, n: usize) -> usize
 }
 
 // The number of the reason why node n is excluded.
+#[tactic(auto, unfolding(crate::specs::Fields::reason_in))]
 pub fn reason(p: &Scratch, n: usize) -> u16
     ensures { result ≡ reason_in p.now n }
 {
@@ -138,6 +148,7 @@ pub fn reason(p: &Scratch, n: usize) -> u16
 }
 
 // The length of a package's display text.
+#[tactic(auto, unfolding(crate::specs::Fields::text_length))]
 pub fn text_length(p: &Scratch, n: usize) -> usize
     ensures { (result ≡ text_length p.now n) × (result < 65536) }
 {
@@ -145,12 +156,14 @@ pub fn text_length(p: &Scratch, n: usize) -> usize
 }
 
 // The first place of run r's kids.
+#[tactic(auto, unfolding(crate::specs::Fields::kid_first))]
 pub fn kid_first(p: &Scratch, r: usize) -> usize
     ensures { (result ≡ kid_first p.now r) × (result < 2048) }
 {
     (run(p, r) % 2048) as usize
 }
 
+#[tactic(auto, unfolding(crate::specs::Fields::kid_end))]
 pub fn kid_end(p: &Scratch, r: usize) -> usize
     ensures { (result ≡ kid_end p.now r) × (result < 2048) }
 {
@@ -158,6 +171,7 @@ pub fn kid_end(p: &Scratch, r: usize) -> usize
 }
 
 // The number of run r's requirement.
+#[tactic(auto, unfolding(crate::specs::Fields::requirement_in))]
 pub fn requirement(p: &Scratch, r: usize) -> u16
     ensures { result ≡ requirement_in p.now r }
 {
@@ -165,6 +179,8 @@ pub fn requirement(p: &Scratch, r: usize) -> u16
 }
 
 // How run r's line goes on: 0 no candidates, 1 installable, else no viable options.
+// Kept: what may not change: `wording` promises the number of any table, 0 to 3 (`wording_in`), of which an enum would lose 3.
+#[tactic(auto, unfolding(crate::specs::Fields::wording_in))]
 pub fn wording(p: &Scratch, r: usize) -> u64
     ensures { (result ≡ wording_in p.now r) × (result < 4) }
 {
@@ -172,15 +188,17 @@ pub fn wording(p: &Scratch, r: usize) -> u64
 }
 
 // The kid at place i.
+#[tactic(auto, unfolding(crate::specs::Fields::kid_at))]
 pub fn kid_at(k: &[u16; 1024], i: usize) -> usize
     ensures { (result ≡ kid_at k.now i) × (result < 128) }
 {
-    basis::wide16(basis::get16(k, i)) % 128
+    usize::from(basis::get(k, i)) % 128
 }
 
 // The version set at place i.
+#[tactic(auto, unfolding(crate::specs::Fields::set_at))]
 pub fn set_at(k: &[u16; 1024], i: usize) -> u16
     ensures { result ≡ set_at k.now i }
 {
-    basis::get16(k, i)
+    basis::get(k, i)
 }

@@ -5,6 +5,7 @@ ghost use Rattle.plan.specs.Marking.{marked, mark_to, read_as};
 use store::Scratch;
 
 // A head with its bit "merged" set.
+#[tactic(auto, unfolding(crate::specs::Marking::marked))]
 fn mark(w: u64) -> u64
     ensures { result ≡ marked w }
 {
@@ -19,15 +20,13 @@ fn mark(w: u64) -> u64
 fn report_all(p: &mut Scratch)
     ensures { p.new ≡ mark_to 128 p.old }
 {
-    let mut n: usize = 0;
-    while n < 128 {
-        let w = mark(basis::get64(p, n));
-        basis::put64(p, n, w);
-        n += 1;
+    for n in 0..128 {
+        p[n] = mark(p[n]);
     }
 }
 
 // "In edition 2 every package, merged or not, is reported when first shown"; else the plan stays as it is.
+#[tactic(auto, unfolding(crate::specs::Marking::read_as))]
 pub fn read_as(p: &mut Scratch, every: bool)
     ensures { p.new ≡ read_as every p.old }
 {

@@ -1,7 +1,7 @@
 -- The two loops along a run: finding where it ends, and writing its kids.
-use Rattle.std.specs.Prelude.{◌≡◌, Bool, true, false, not, ◌&&◌, ◌||◌, ℕ, zero, suc, ◌+◌, ◌-◌, ◌%◌, ◌<◌, ◌≤◌, length, get_or, set, eqb, ltb}
+use Rattle.std.specs.Prelude.{◌≡◌, Bool, true, false, not, ◌||◌, ℕ, zero, suc, ◌+◌, ◌-◌, ◌%◌, ◌<◌, ◌≤◌, length, get_or, set, eqb, ltb}
 use Rattle.std.proofs.Math.Path.{refl, sym}
-use Rattle.std.proofs.Common.{ap, ◌∙◌, not-suc-le-zero, mod-eq_of_lt, add-one, length-set, length-append, get_or-set_same, get_or-set_other}
+use Rattle.std.proofs.Common.{ap, ◌∙◌, mod-eq_of_lt, length-set, length-append, get_or-set_same, get_or-set_other}
 use mathlib.Core.List.{List, [], ◌∷◌, ◌++◌, map}
 use native.Mathlib.Omega.{arith}
 use borrow.Author.Tests.{eq-eqb, ne_eqb, ltb-true, ltb-false}
@@ -70,7 +70,7 @@ module _ (ms : List ℕ) (o : Found) (k : ℕ) (e : Edge) (is : k ≡ key_of e) 
   found_skip h = rw (target_skip k e is h)
 
   pub found_one : (t : ℕ) (m i : Bool) → (k ≡ 0 → ⊥) → t ≡ e.target → m ≡ marked_in ms t → i ≡ o.installable || m
-      → record { some = true; many = o.some; installable = i } ≡ found ms o (target_of e)
+      → record { many = true; installable = i } ≡ found ms o (target_of e)
   unfolding found
   found_one t m i h q mm ii = rw (target_is k t e is h q, ii, mm)
 

@@ -1,19 +1,19 @@
 -- From the parts to the promise.
-use Rattle.std.specs.Prelude.{◌≡◌, Bool, true, false, cond, List, [], ◌∷◌, ◌++◌, ℕ, zero, suc, ◌+◌, ◌-◌, ◌*◌, ◌%◌, ◌<◌, ◌≤◌, replicate, eqb, ltb}
+use Rattle.std.specs.Prelude.{◌≡◌, Bool, true, false, List, [], ◌∷◌, ℕ, suc, ◌+◌, ◌*◌, ◌%◌, ◌<◌, replicate, eqb, ltb}
 use Rattle.std.proofs.Math.Path.{refl, ap}
-use Rattle.std.proofs.Common.{sym, ◌∙◌, inl, inr, arith, length-append, lt-ltb, ltb-true}
+use Rattle.std.proofs.Common.{◌∙◌, inl, arith, lt-ltb, ltb-true}
 use Rattle.std.proofs.Math.ListN.{length, get_or}
 use Rattle.std.proofs.lemmas.List.{length-replicate, get_or-replicate}
-use Rattle.basis.specs.Lists.{filter, has, upto}
-use Rattle.basis.specs.Members.{In, All, split, in_filter}
+use Rattle.basis.specs.Lists.{upto}
+use Rattle.basis.specs.Members.{In, split, in_filter}
 use Rattle.basis.specs.Chains.{oldest}
 use Rattle.records.specs.Tables.{Tables}
 use Rattle.records.specs.Views.{name_text, solvable_name}
 use Rattle.store.specs.declared.Size.{Size}
-use Rattle.store.specs.Graph.{Graph, node_at}
-use Rattle.store.specs.Table.{graph_in, node_in, node_in_lem, nodes_count}
+use Rattle.store.specs.Graph.{Graph}
+use Rattle.store.specs.Table.{graph_in, node_in_lem, nodes_count}
 use Rattle.links.specs.Build.{Chains}
-use Rattle.labels.specs.Labels.{installable, missing, installables}
+use Rattle.labels.specs.Labels.{installable, missing}
 use Rattle.labels.specs.Marks.{bits_of, label_bits}
 use Rattle.groups.specs.Groups as Groups
 use Rattle.groups.specs.Groups.{head_or, mates}
@@ -27,9 +27,8 @@ use Rattle.planning.specs.Kids.{marked_in, next_at}
 use Rattle.planning.specs.Truth.{Given}
 use Rattle.planning.specs.Grouping.{GroupsDone, LeadsOk}
 use Rattle.planning.specs.Giving.{given, given_nexts}
-use Rattle.planning.specs.Node.{NodeFor}
 use Rattle.planning.specs.Building.{FreshPlan, NodesDone}
-use Rattle.planning.specs.Final.{Sized, built_members, planned}
+use Rattle.planning.specs.Final.{built_members, planned}
 use Rattle.display.specs.PackageLengths.{size_in}
 use Rattle.planning.specs.Sizes.{Short, SizesDone}
 use Rattle.planning.specs.Exact.{PlanMade}

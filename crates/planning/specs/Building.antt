@@ -1,24 +1,23 @@
 -- The loop over all nodes, and what it leaves.
-use Rattle.std.specs.Prelude.{◌≡◌, refl, ◌⊎◌, Bool, true, false, cond, ◌&&◌, not, List, [], ◌∷◌, ◌++◌, ℕ, zero, suc, ◌+◌, ◌-◌, ◌/◌, ◌%◌, ◌<◌, ◌≤◌, length, get_or, replicate, ltb, eqb}
-use Rattle.std.proofs.Common.{sym, ap, ◌∙◌, inl, inr, arith, add-one, lt-ltb, le-ltb, ltb-true, ltb-false, eqb-true}
+use Rattle.std.specs.Prelude.{◌≡◌, refl, ◌⊎◌, Bool, true, false, ◌&&◌, List, [], ◌∷◌, ℕ, zero, suc, ◌+◌, ◌-◌, ◌<◌, ◌≤◌, length, get_or, ltb, eqb}
+use Rattle.std.proofs.Common.{sym, ap, ◌∙◌, inl, inr, arith, add-one, ltb-true, ltb-false, eqb-true}
 use Rattle.std.proofs.lemmas.Bool.{false≢true, eqb-false}
-use Rattle.std.proofs.lemmas.List.{length-replicate}
 use Rattle.basis.specs.Lists.{any, upto}
 use Rattle.basis.specs.Members.{In, All, all_in, split, either}
 use Rattle.store.specs.declared.Edge.{Edge}
 use Rattle.store.specs.declared.Size.{Size}
 use Rattle.store.specs.Graph.{is_solvable}
 use Rattle.store.specs.Table.{node_in}
-use Rattle.labels.specs.Runs.{Run, runs_of}
+use Rattle.labels.specs.Runs.{Run}
 use Rattle.links.specs.Build.{Chains}
 use Rattle.links.specs.Walk.{out_left, first_out}
 use Rattle.plan.specs.Like.{Each}
-use Rattle.plan.specs.Fields.{run_in, run_first, run_end, runs_in, runs_from, kids_in, kids_from, kids_none, kid_first, kid_end}
+use Rattle.plan.specs.Fields.{run_in, run_first, run_end, runs_in, runs_from, kids_in, kids_none, kid_first, kid_end}
 use Rattle.planning.specs.Kids.{marked_in, takes, kids_by, kids_for, lone_by}
-use Rattle.planning.specs.Along.{Way, way_start, Only}
+use Rattle.planning.specs.Along.{way_start}
 use Rattle.planning.specs.Written.{RunFor}
 use Rattle.planning.specs.Passing.{each_runs}
-use Rattle.planning.specs.Node.{NodeReady, NodeFor, Touched, NodeDone, popping}
+use Rattle.planning.specs.Node.{NodeReady, NodeFor, NodeDone, popping}
 use Rattle.planning.specs.Stacked.{Stacked, stacked_keep}
 use Rattle.planning.specs.Nodes.{edges_of, ahead, ahead_most, target_node, Small, small_runs, small_popping, run_under, node_under}
 

@@ -1,8 +1,7 @@
 -- Cutting a list of edges into runs by going along it: where the first run ends, and what its targets are.
-use Rattle.std.specs.Prelude.{◌≡◌, refl, Bool, true, false, cond, ◌&&◌, ◌||◌, not, List, [], ◌∷◌, ◌++◌, reverse, ℕ, zero, suc, ◌+◌, ◌-◌, ◌<◌, ◌≤◌, length, eqb, ltb}
-use Rattle.std.proofs.Common.{sym, ap, ◌∙◌, arith, not-suc-le-zero, length-append, eqb-true, eq-eqb, ne_eqb, lt-ltb}
+use Rattle.std.specs.Prelude.{◌≡◌, refl, Bool, true, false, ◌&&◌, not, List, [], ◌∷◌, ◌++◌, ℕ, zero, suc, ◌-◌, ◌<◌, ◌≤◌, eqb}
+use Rattle.std.proofs.Common.{sym, ap, ◌∙◌, arith, not-suc-le-zero, eqb-true, eq-eqb, ne_eqb}
 use Rattle.std.proofs.lemmas.Bool.{eqb-false}
-use Rattle.basis.specs.Lists.{any, filter}
 use Rattle.basis.specs.Members.{split, clash}
 use Rattle.store.specs.declared.ConflictEdge.{ConflictEdge}
 use Rattle.store.specs.declared.ConflictEdge.TheVariants as W

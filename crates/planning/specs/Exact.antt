@@ -1,12 +1,11 @@
 -- How the plan's tables were made. That determines every word of the tables that were lent.
-use Rattle.std.specs.Prelude.{◌≡◌, refl, List, ℕ, ◌+◌, ◌-◌, ◌*◌, ◌<◌, ◌≤◌, length, get_or, ltb}
-use Rattle.std.proofs.Common.{sym, ap, ◌∙◌, arith, ext_get_or, ltb-true, ltb-false}
+use Rattle.std.specs.Prelude.{◌≡◌, List, ℕ, ◌+◌, ◌-◌, ◌<◌, ◌≤◌, get_or, ltb}
+use Rattle.std.proofs.Common.{sym, ◌∙◌, arith, ext_get_or, ltb-true, ltb-false}
 use Rattle.basis.specs.Members.{split}
 use Rattle.records.specs.Tables.{Tables}
 use Rattle.planning.specs.Grouping.{GroupsDone}
 use Rattle.planning.specs.Building.{NodesDone}
 use Rattle.planning.specs.NodesExact.{groups_done_one, nodes_done_one}
-use Rattle.display.specs.PackageLengths.{size_in}
 use Rattle.planning.specs.Sizes.{SizesDone}
 
 -- tables t, p₀ and k₀ became gr, p and k: the groups, then the nodes, then the lengths of their texts

@@ -1,10 +1,10 @@
 -- From what the loop over the nodes leaves, and the lengths of the display texts, to the promise.
-use Rattle.std.specs.Prelude.{◌≡◌, refl, Bool, true, false, cond}
+use Rattle.std.specs.Prelude.{◌≡◌, refl, Bool}
 use Rattle.std.proofs.Math.Path.{sym, ap}
 use Rattle.std.proofs.Common.{◌∙◌, inl, inr, arith, eq-eqb}
 use Rattle.std.proofs.Math.Bool.{not}
 use mathlib.Core.List.{List, [], ◌∷◌, ◌++◌, reverse}
-use Prim.Native.Nat.{ℕ, zero, suc, ◌+◌, ◌*◌, ◌/◌, ◌%◌, ◌<◌, ◌≤◌}
+use Prim.Native.Nat.{ℕ, suc, ◌+◌, ◌*◌, ◌/◌, ◌%◌, ◌<◌}
 use Rattle.std.proofs.Math.ListN.{length, get_or}
 use Rattle.std.proofs.Math.Dec.{eqb}
 use Rattle.basis.specs.Lists.{any, filter, concat_map, upto}
@@ -14,26 +14,26 @@ use Rattle.records.specs.Tables.{Tables}
 use Rattle.store.specs.declared.ConflictNode.{ConflictNode}
 use Rattle.store.specs.declared.Edge.{Edge}
 use Rattle.store.specs.declared.Size.{Size}
-use Rattle.store.specs.Graph.{Graph, out, node_at, is_solvable}
+use Rattle.store.specs.Graph.{out, node_at, is_solvable}
 use Rattle.store.specs.Table.{graph_in, node_in, node_in_lem, nodes_count}
 use Rattle.labels.specs.Runs.{Run, runs_of}
 use Rattle.links.specs.Build.{Chains}
 use Rattle.links.specs.Walk.{first_out, out_all}
 use Rattle.plan.specs.Like.{Each}
-use Rattle.plan.specs.Plan.{Shown, shown_of, is_installable, merged_shown, lead_shown, sorted, popped, reasons_by, reasons_of, by_reasons, line_kind}
-use Rattle.plan.specs.Display.{solvable_by, solvable_of, members_of, package_text}
+use Rattle.plan.specs.Plan.{Shown, shown_of, is_installable, lead_shown, sorted, popped, reasons_by, reasons_of, by_reasons, line_kind}
+use Rattle.plan.specs.Display.{solvable_by, members_of, package_text}
 use Rattle.plan.specs.Mates.{alikes, members_alike, lead_first, in_upto}
 use Rattle.plan.specs.Planned.{RunIs, NodeIs, Planned}
-use Rattle.plan.specs.Fields.{head_in, tail_in, run_in, run_first, run_end, tag_in, merged_in, lead_in, mate_field, mate_in, solvable_in, sets_first, sets_end, reason_in}
-use Rattle.plan.specs.Fields.{text_length, sets_in, kind_in, runs_in, runs_from, kids_in, kid_first, kid_end, requirement_in, wording_in, members_in, mates_from}
-use Rattle.planning.specs.Kids.{marked_in, lead_at, merged_at, next_at}
-use Rattle.planning.specs.Passed.{passed, both_passes}
+use Rattle.plan.specs.Fields.{head_in, tail_in, run_in, run_first, run_end, tag_in, merged_in, lead_in, mate_field, solvable_in, sets_first, sets_end, reason_in}
+use Rattle.plan.specs.Fields.{text_length, sets_in, kind_in, runs_in, kids_in, kid_first, kid_end, requirement_in, wording_in, members_in, mates_from}
+use Rattle.planning.specs.Kids.{marked_in, next_at}
+use Rattle.planning.specs.Passed.{both_passes}
 use Rattle.planning.specs.Written.{RunFor}
 use Rattle.planning.specs.EdgeMarks.{reasons_at, reasons_in}
 use Rattle.planning.specs.Line.{kind_for}
 use Rattle.planning.specs.Words.{tail_first, tail_end, tail_reason, tail_length}
 use Rattle.planning.specs.Truth.{Given, kids_is, wording_is, installable_is}
-use Rattle.planning.specs.Node.{NodeFor, popping}
+use Rattle.planning.specs.Node.{popping}
 use Rattle.planning.specs.Nodes.{edges_of, target_node, Small, small_runs, small_popping}
 use Rattle.planning.specs.Building.{Built}
 use Rattle.planning.specs.Members.{ups_all, members_walk}

@@ -1,5 +1,5 @@
 -- What the labels' table and the groups' table promise, as `Given`.
-use Rattle.std.specs.Prelude.{◌≡◌, refl, Bool, true, false, List, ℕ, zero, suc, ◌-◌, ◌<◌, ◌≤◌, length, get_or, eqb, ltb}
+use Rattle.std.specs.Prelude.{◌≡◌, refl, List, ℕ, zero, suc, ◌-◌, ◌<◌, length, get_or, eqb, ltb}
 use Rattle.std.proofs.Common.{sym, ap, ◌∙◌, arith}
 use Rattle.basis.specs.Lists.{filter, upto}
 use Rattle.basis.specs.Members.{split}
@@ -7,7 +7,7 @@ use Rattle.basis.specs.Chains.{oldest, oldest_hit, oldest_miss, oldest_past, ups
 use Rattle.records.specs.Tables.{Tables}
 use Rattle.store.specs.declared.Size.{Size}
 use Rattle.store.specs.Table.{graph_in, Stored, nodes_count}
-use Rattle.plan.specs.Plan.{Shown, shown_of, is_installable, merged_shown, lead_shown}
+use Rattle.plan.specs.Plan.{shown_of, is_installable, lead_shown}
 use Rattle.plan.specs.Mates.{alikes, merged_alike, lead_first}
 use Rattle.planning.specs.Kids.{marked_in, next_at}
 use Rattle.planning.specs.Members.{ups_all}

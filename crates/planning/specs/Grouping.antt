@@ -1,15 +1,14 @@
 -- The table of groups, from each node's lead: from the last node down, `last` holds the lowest member so far of each lead.
-use Rattle.std.specs.Prelude.{◌≡◌, refl, Bool, true, false, cond, ◌&&◌, not, List, [], ◌∷◌, length, set, replicate, eqb, ltb}
+use Rattle.std.specs.Prelude.{◌≡◌, refl, Bool, true, false, ◌&&◌, not, List, [], ◌∷◌, length, set, replicate, eqb, ltb}
 use Rattle.std.proofs.Math.Path.{sym, ap}
-use Rattle.std.proofs.Common.{◌∙◌, subst, inl, inr, add-one}
-use Rattle.std.proofs.lemmas.Bool.{false≢true}
+use Rattle.std.proofs.Common.{◌∙◌, subst, inl, inr}
 use Prim.Native.Nat.{ℕ, zero, suc, ◌+◌, ◌-◌, ◌*◌, ◌/◌, ◌%◌, ◌<◌, ◌≤◌}
 use native.Mathlib.Omega.{arith}
 use Rattle.std.proofs.Math.ListN.{get_or, length-set}
 use Rattle.std.proofs.lemmas.List.{length-replicate, get_or-replicate}
 use Rattle.std.proofs.Math.Seq.{get_or-set_same, get_or-set_other}
 use borrow.Author.Tests.{eqb-true, eqb-false, eq-eqb, ne_eqb, lt-ltb}
-use Rattle.basis.specs.Members.{In, split, either, clash}
+use Rattle.basis.specs.Members.{In, split, clash}
 use Rattle.basis.specs.Chains.{oldest, oldest_hit, oldest_miss, oldest_past, ups, ups_hit, ups_miss, ups_past}
 use Rattle.basis.specs.Walks.{in_ups}
 use Rattle.planning.specs.Kids.{lead_at, merged_at, next_at}

@@ -1,5 +1,5 @@
 -- What a pass along a run finds, and the kids that it writes, in terms of the tables that the code reads.
-use Rattle.std.specs.Prelude.{◌≡◌, refl, Bool, true, false, cond, ◌&&◌, ◌||◌, not, List, [], ◌∷◌, ◌++◌, reverse, ℕ, zero, suc, ◌+◌, ◌-◌, ◌/◌, ◌%◌, ◌<◌, ◌≤◌, length, get_or, eqb, ltb}
+use Rattle.std.specs.Prelude.{◌≡◌, refl, Bool, true, false, cond, ◌&&◌, ◌||◌, not, List, [], ◌∷◌, ◌++◌, ℕ, suc, ◌+◌, ◌/◌, ◌%◌, ◌<◌, ◌≤◌, length, get_or, eqb, ltb}
 use Rattle.std.proofs.Common.{sym, ap, ◌∙◌, arith}
 use borrow.Author.Tests.{lt-ltb, eq-eqb, ne_eqb, not-true, not-false}
 use Rattle.basis.specs.Lists.{any, all}
@@ -32,20 +32,21 @@ merged_at_is gr t w e = rw e
 unfoldable pub next_at : List ℕ → ℕ → ℕ
 next_at gr t = get_or gr t 0 / 256
 
--- ---- what is found along a run's targets: some, more than one, an installable one
+-- ---- what is found along a run's targets: more than one, an installable one
 
 unfoldable pub found : List ℕ → Found → List ℕ → Found
 unfolding marked_in
 found ms o [] = o
-found ms o (t ∷ ts) = found ms (record { some = true; many = o.some; installable = o.installable || marked_in ms t }) ts
+found ms o (t ∷ ts) = found ms (record { many = true; installable = o.installable || marked_in ms t }) ts
 
-abbrev pub nothing : Found
-nothing = record { some = false; many = false; installable = false }
+-- at the first of them
+abbrev pub first_found : List ℕ → ℕ → Found
+first_found ms t = record { many = false; installable = marked_in ms t }
 
 pub found_append : (ms : List ℕ) (o : Found) (ts us : List ℕ) → found ms o (ts ++ us) ≡ found ms (found ms o ts) us
 unfolding found
 found_append ms o [] us = refl
-found_append ms o (t ∷ ts) us = found_append ms (record { some = true; many = o.some; installable = o.installable || marked_in ms t }) ts us
+found_append ms o (t ∷ ts) us = found_append ms (record { many = true; installable = o.installable || marked_in ms t }) ts us
 
 or-false : (b : Bool) → b || false ≡ b
 or-false true = refl
@@ -55,24 +56,24 @@ found_installable : (ms : List ℕ) (o : Found) (ts : List ℕ) → (found ms o 
 unfolding found
 found_installable ms o [] = sym (or-false o.installable)
 found_installable ms o (t ∷ ts) =
-    found_installable ms (record { some = true; many = o.some; installable = o.installable || marked_in ms t }) ts
+    found_installable ms (record { many = true; installable = o.installable || marked_in ms t }) ts
     ∙ split o.installable (λ q. rw q) (λ q. rw q (split (marked_in ms t) (λ m. rw (m, any)) (λ m. rw (m, any))))
 
-found_more : (ms : List ℕ) (o : Found) (ts : List ℕ) → o.some ≡ true → o.many ≡ true → (found ms o ts).many ≡ true
+found_more : (ms : List ℕ) (o : Found) (ts : List ℕ) → o.many ≡ true → (found ms o ts).many ≡ true
 unfolding found
-found_more ms o [] s m = m
-found_more ms o (t ∷ ts) s m = found_more ms (record { some = true; many = o.some; installable = o.installable || marked_in ms t }) ts refl s
+found_more ms o [] m = m
+found_more ms o (t ∷ ts) m = found_more ms (record { many = true; installable = o.installable || marked_in ms t }) ts refl
 
-pub found_any : (ms ts : List ℕ) (c : Found) → c ≡ found ms nothing ts → c.installable ≡ any (marked_in ms) ts
-found_any ms ts c e = ap (λ (f : Found). f.installable) e ∙ found_installable ms nothing ts
+pub found_any : (ms : List ℕ) (t : ℕ) (ts : List ℕ) (c : Found) → c ≡ found ms (first_found ms t) ts → c.installable ≡ any (marked_in ms) (t ∷ ts)
+found_any ms t ts c e =
+    ap (λ (f : Found). f.installable) e ∙ found_installable ms (first_found ms t) ts ∙ split (marked_in ms t) (λ m. rw (m, any)) (λ m. rw (m, any))
 
-pub found_many : (ms ts : List ℕ) (c : Found) → c ≡ found ms nothing ts → c.many ≡ ltb 1 (length ts)
+pub found_many : (ms : List ℕ) (t : ℕ) (ts : List ℕ) (c : Found) → c ≡ found ms (first_found ms t) ts → c.many ≡ ltb 1 (length (t ∷ ts))
 unfolding found
-found_many ms [] c e = ap (λ (f : Found). f.many) e
-found_many ms (t ∷ []) c e = ap (λ (f : Found). f.many) e
-found_many ms (t ∷ u ∷ ts) c e =
+found_many ms t [] c e = ap (λ (f : Found). f.many) e
+found_many ms t (u ∷ ts) c e =
     ap (λ (f : Found). f.many) e
-    ∙ found_more ms (record { some = true; many = true; installable = (false || marked_in ms t) || marked_in ms u }) ts refl refl
+    ∙ found_more ms (record { many = true; installable = marked_in ms t || marked_in ms u }) ts refl
     ∙ sym (lt-ltb 1 (suc (suc (length ts))) (omega arith))
 
 -- ---- the kids, in the order in which they are popped: those written are `acc`

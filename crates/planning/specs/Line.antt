@@ -1,18 +1,18 @@
 -- The kind of a package's line, by its outgoing edges: each way out of the code.
-use Rattle.std.specs.Prelude.{◌≡◌, Bool, true, false, ℕ, zero, suc, ◌+◌, ◌-◌, ◌<◌, ◌≤◌, length}
+use Rattle.std.specs.Prelude.{◌≡◌, Bool, true, false, ℕ, suc, ◌+◌, ◌-◌, ◌<◌, ◌≤◌, length}
 use Rattle.std.proofs.Math.Path.{refl, sym, ap}
-use Rattle.std.proofs.Common.{◌∙◌, arith, not-suc-le-zero}
+use Rattle.std.proofs.Common.{◌∙◌, arith}
 use Rattle.std.proofs.Math.Bool.{cond}
 use mathlib.Core.List.{List, [], ◌∷◌}
 use Rattle.basis.specs.Lists.{any, is_nil}
-use Rattle.basis.specs.Members.{split}
 use Rattle.store.specs.declared.Edge.{Edge}
-use Rattle.store.specs.Table.{edge_in}
 use Rattle.links.specs.Walk.{out_left, next_out, out_end}
 use Rattle.plan.specs.Plan.{Kind, excluded, bare, conflicting, constraining, requiring, is_forbid, sets_of, by_sets, by_reasons}
-use Rattle.plan.specs.Fields.{kind_by, sets_from, sets_none, sets_more, set_at}
-use Rattle.planning.specs.Along.{Way, way_cons, Only, only_none}
+use Rattle.plan.specs.Fields.{kind_by, sets_from, sets_none, sets_more}
+use Rattle.planning.specs.Along.{way_cons, Only, only_none}
 use Rattle.planning.specs.EdgeMarks.{edge_mark, reasons_in, forbids_in}
+use Rattle.planning.specs.declared.kinds.LineKind.{LineKind}
+use Rattle.planning.specs.declared.kinds.LineKind.TheVariants as L
 use Rattle.planning.specs.Sets.{sets_all, SetsReady, SetsDone}
 
 -- `kind_of`, over the stored nodes
@@ -41,6 +41,28 @@ kind_sets bare = []
 kind_sets conflicting = []
 kind_sets (constraining vs) = vs
 kind_sets requiring = []
+
+-- the same of a line as the code holds it: its number, its reason, and where its version sets begin, which end at kc
+abbrev pub line_tag : LineKind → ℕ
+line_tag (L.Excluded r) = 0
+line_tag L.Bare = 1
+line_tag L.Conflicting = 2
+line_tag (L.Constraining c) = 3
+line_tag L.Requiring = 4
+
+abbrev pub line_reason : LineKind → ℕ
+line_reason (L.Excluded r) = r
+line_reason L.Bare = 0
+line_reason L.Conflicting = 0
+line_reason (L.Constraining c) = 0
+line_reason L.Requiring = 0
+
+abbrev pub line_first : ℕ → LineKind → ℕ
+line_first kc (L.Excluded r) = kc
+line_first kc L.Bare = kc
+line_first kc L.Conflicting = kc
+line_first kc (L.Constraining c) = c
+line_first kc L.Requiring = kc
 
 pub record LineDone (g : List ℕ) (es : List Edge) (k : List ℕ) (kc : ℕ) (u : List ℕ) (kind reason kid : ℕ) : Type 0 where
   pub is : kind_by kind reason (sets_from u kid kc) ≡ kind_for g es

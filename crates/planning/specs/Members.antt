@@ -1,15 +1,14 @@
 -- The members of a group along the numbers of their next members.
-use Rattle.std.specs.Prelude.{◌≡◌, Bool, true, cond, ◌||◌, not, List, [], ◌∷◌, length, get_or, set, eqb}
+use Rattle.std.specs.Prelude.{◌≡◌, List, [], ◌∷◌, get_or, eqb}
 use Rattle.std.proofs.Math.Path.{refl}
-use Rattle.std.proofs.Common.{sym, ap, ◌∙◌, arith, add-one, sub-one, length-set, get_or-set_same, get_or-set_other, eqb-true, eq-eqb, ne_eqb, lt-ltb, le-ltb}
+use Rattle.std.proofs.Common.{sym, ap, ◌∙◌, arith, sub-one, eqb-true, lt-ltb}
 use Rattle.std.proofs.Math.Bool.{false}
-use Prim.Native.Nat.{ℕ, zero, suc, ◌+◌, ◌-◌, ◌*◌, ◌/◌, ◌%◌, ◌<◌, ◌≤◌}
+use Prim.Native.Nat.{ℕ, zero, suc, ◌+◌, ◌-◌, ◌<◌, ◌≤◌}
 use Rattle.std.proofs.Math.Dec.{ltb}
-use Rattle.std.proofs.lemmas.Bool.{eqb-false}
 use Rattle.basis.specs.Lists.{filter, upto}
 use Rattle.basis.specs.Members.{split, no_both}
 use Rattle.basis.specs.Chains.{oldest, oldest_hit, oldest_miss, oldest_past, ups, ups_hit, ups_miss, ups_past}
-use Rattle.plan.specs.Fields.{mate_field, mate_in, mates_from, mates_none, mates_more, mate_some}
+use Rattle.plan.specs.Fields.{mate_field, mate_in, mates_from, mates_none, mates_more}
 
 module _ (key : ℕ → ℕ) (m l : ℕ) where
   ups_filter : (c e : ℕ) → m - e ≡ c → ups key e m l ≡ filter (λ i. eqb (key i) l) (upto c e)

@@ -1,35 +1,33 @@
 -- All nodes, one after the other.
-use Rattle.std.specs.Prelude.{◌≡◌, refl, ◌⊎◌, Bool, true, false, cond, ◌&&◌, not, List, [], ◌∷◌, ◌++◌, reverse, get_or, leb, ltb}
-use Rattle.std.proofs.Common.{sym, ◌∙◌, inl, inr, not-suc-le-zero, add-one, lt-ltb, le-ltb, le-leb, leb-true, leb-false, eqb-true, eq-eqb, ne_eqb}
+use Rattle.std.specs.Prelude.{◌≡◌, refl, Bool, true, false, cond, List, [], ◌∷◌, reverse, get_or, leb, ltb}
+use Rattle.std.proofs.Common.{◌∙◌, inl, inr, le-leb, leb-true, leb-false, eqb-true}
 use Rattle.std.proofs.Math.Path.{ap}
-use Rattle.std.proofs.lemmas.Bool.{false≢true, lt-leb, eqb-false}
-use Prim.Native.Nat.{ℕ, zero, suc, ◌+◌, ◌-◌, ◌<◌, ◌≤◌}
+use Rattle.std.proofs.lemmas.Bool.{lt-leb, eqb-false}
+use Prim.Native.Nat.{ℕ, zero, suc, ◌+◌, ◌<◌, ◌≤◌}
 use native.Mathlib.Omega.{arith}
 use Rattle.std.proofs.Math.ListN.{length}
 use Rattle.std.proofs.lemmas.List.{length-reverse}
 use Rattle.std.proofs.Math.Dec.{eqb}
-use Rattle.basis.specs.Lists.{any, filter}
-use Rattle.basis.specs.Members.{In, All, all_append, split, either, in_filter, in_reverse}
+use Rattle.basis.specs.Lists.{filter}
+use Rattle.basis.specs.Members.{In, All, all_append, split, in_filter, in_reverse}
 use Rattle.store.specs.declared.ConflictEdge.{ConflictEdge}
 use Rattle.store.specs.declared.ConflictEdge.TheVariants as W
 use Rattle.store.specs.declared.Edge.{Edge}
 use Rattle.store.specs.declared.Size.{Size}
-use Rattle.store.specs.Graph.{Graph, out, is_solvable}
-use Rattle.store.specs.Table.{graph_in, node_in, edge_in, no_edge, Stored, edge_in_lem, edges_count, target_below}
+use Rattle.store.specs.Graph.{out}
+use Rattle.store.specs.Table.{graph_in, no_edge, edge_in_lem, edges_count, target_below}
 use Rattle.labels.specs.Runs.{Run, add_to, runs_of}
 use Rattle.links.specs.Build.{Chains}
 use Rattle.links.specs.Walk.{out_left, first_out, out_all}
-use Rattle.plan.specs.Like.{Each}
 use Rattle.plan.specs.Fields.{head_in, tail_in, run_in, run_first, run_end, tag_in, merged_in, lead_in, mate_field, solvable_in, sets_first, sets_end, reason_in, sets_in}
-use Rattle.plan.specs.Fields.{kind_in, runs_in, runs_from, runs_none, runs_more, kind_by, kids_in, kids_from, kids_none, kid_first, kid_end, requirement_in, wording_in}
-use Rattle.planning.specs.Kids.{marked_in, takes, kids_by, kids_for}
-use Rattle.planning.specs.Along.{Way, way_start, Only, kids_keep}
+use Rattle.plan.specs.Fields.{kind_in, runs_in, kind_by, kids_in, kid_first, kid_end, requirement_in, wording_in}
+use Rattle.planning.specs.Kids.{marked_in}
+use Rattle.planning.specs.Along.{Only, kids_keep}
 use Rattle.planning.specs.Passed.{hits, passed}
 use Rattle.planning.specs.Written.{RunFor}
 use Rattle.planning.specs.Passing.{each_runs}
 use Rattle.planning.specs.Sets.{sets_keep}
-use Rattle.planning.specs.Line.{kind_for}
-use Rattle.planning.specs.Node.{NodeReady, NodeFor, Touched, NodeDone, popping}
+use Rattle.planning.specs.Node.{NodeFor, Touched, popping}
 
 -- node n's outgoing edges, newest first
 abbrev pub edges_of : List ℕ → List ℕ → ℕ → List Edge

@@ -1,20 +1,17 @@
 -- What `group_words` and `nodes` promise determines every number of the tables that were lent.
-use Rattle.std.specs.Prelude.{◌≡◌, refl, Bool, true, false, cond, List, ℕ, zero, suc, ◌+◌, ◌-◌, ◌/◌, ◌%◌, ◌<◌, ◌≤◌, length, get_or, eqb, ltb}
+use Rattle.std.specs.Prelude.{◌≡◌, List, ℕ, zero, suc, ◌+◌, ◌-◌, ◌/◌, ◌%◌, ◌<◌, ◌≤◌, length, get_or, eqb, ltb}
 use Rattle.std.proofs.Math.Path.{sym}
 use Rattle.std.proofs.Common.{ap, ◌∙◌, arith, ext_get_or}
 use borrow.Author.Tests.{eqb-true, eqb-false, lt-ltb, ltb-true, ltb-false}
 use Rattle.basis.specs.Lists.{upto}
 use Rattle.basis.specs.Members.{split}
 use Rattle.store.specs.declared.Edge.{Edge}
-use Rattle.labels.specs.Runs.{Run}
-use Rattle.plan.specs.Like.{Each}
 use Rattle.plan.specs.Fields.{head_in, tail_in, run_in, run_first, run_end, tag_in, merged_in, lead_in, mate_field, solvable_in, sets_first, sets_end, reason_in, sets_from}
 use Rattle.plan.specs.Fields.{runs_from}
 use Rattle.planning.specs.Kids.{lead_at, merged_at, next_at}
-use Rattle.planning.specs.Along.{Only}
 use Rattle.planning.specs.RunsExact.{only_one, length_upto}
-use Rattle.planning.specs.Written.{RunFor, tiled_under}
-use Rattle.planning.specs.SortExact.{each_length, SameTiles, tiles_one, run_words}
+use Rattle.planning.specs.Written.{RunFor}
+use Rattle.planning.specs.SortExact.{each_length, SameTiles, tiles_one}
 use Rattle.planning.specs.KindsExact.{sets_length, sets_one}
 use Rattle.planning.specs.Grouping.{GroupsDone}
 use Rattle.planning.specs.Node.{NodeLaid, popping}

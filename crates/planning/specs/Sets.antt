@@ -1,11 +1,10 @@
 -- The version sets of a constraining package, newest first, equal neighbours once, written from a place downwards.
-use Rattle.std.specs.Prelude.{◌≡◌, refl, Bool, true, false, cond, ℕ, zero, suc, ◌+◌, ◌-◌, ◌<◌, ◌≤◌, length, get_or, set, eqb}
-use Rattle.std.proofs.Common.{sym, ◌∙◌, not-suc-le-zero, add-one, length-append, eqb-true, eq-eqb, ne_eqb}
+use Rattle.std.specs.Prelude.{◌≡◌, refl, Bool, true, false, ℕ, zero, suc, ◌+◌, ◌-◌, ◌<◌, ◌≤◌, length, get_or, set, eqb}
+use Rattle.std.proofs.Common.{sym, ◌∙◌, add-one, length-append, eqb-true, eq-eqb}
 use Rattle.std.proofs.Math.Path.{ap}
-use mathlib.Core.List.{List, [], ◌∷◌, ◌++◌, map, reverse, reverse_aux, append-nil, append_assoc}
+use mathlib.Core.List.{List, [], ◌∷◌, ◌++◌, map, reverse, reverse_aux, append_assoc}
 use native.Mathlib.Omega.{arith}
 use Rattle.std.proofs.Math.Seq.{get_or-set_same}
-use Rattle.std.proofs.lemmas.Bool.{eqb-false}
 use Rattle.basis.specs.Lists.{upto, concat_map}
 use Rattle.basis.specs.Members.{split}
 use Rattle.store.specs.declared.ConflictCause.TheVariants as K
@@ -16,7 +15,7 @@ use Rattle.store.specs.Table.{edge_in}
 use Rattle.links.specs.Walk.{out_left, next_out, out_end}
 use Rattle.plan.specs.Plan.{sets_by, join_set, sets_of}
 use Rattle.plan.specs.Fields.{set_at, sets_from, sets_none, sets_more}
-use Rattle.planning.specs.Along.{Way, way_next, way_less, way_cons, Only, only_none, only_put, only_then}
+use Rattle.planning.specs.Along.{Way, way_next, way_cons, Only, only_none, only_put, only_then}
 use Rattle.planning.specs.EdgeMarks.{edge_mark, set_none, set_one}
 
 -- ---- equal neighbours, as a loop drops them: the last kept stands in front

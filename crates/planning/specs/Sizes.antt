@@ -1,10 +1,9 @@
 -- The lengths of all nodes' display texts, and their places in the tails.
-use Rattle.std.specs.Prelude.{◌≡◌, refl, Bool, true, false, cond, List, [], ◌∷◌, ◌++◌, ℕ, zero, suc, ◌+◌, ◌*◌, ◌-◌, ◌<◌, ◌≤◌, length, get_or, set, eqb, ltb}
-use Rattle.std.proofs.Common.{sym, ap, ◌∙◌, arith, add-one, length-set, length-append, get_or-set_same, get_or-set_other, eqb-true, lt-ltb}
+use Rattle.std.specs.Prelude.{◌≡◌, refl, List, ℕ, ◌+◌, ◌*◌, ◌<◌, ◌≤◌, length, get_or, set, eqb}
+use Rattle.std.proofs.Common.{ap, ◌∙◌, arith, length-set, get_or-set_same, get_or-set_other, eqb-true}
 use Rattle.std.proofs.lemmas.Bool.{eqb-false}
 use Rattle.basis.specs.Members.{split}
 use Rattle.records.specs.Tables.{Tables}
-use Rattle.plan.specs.Fields.{tail_in}
 use Rattle.display.specs.PackageLengths.{size_in}
 
 -- ---- the lengths in a table of their own

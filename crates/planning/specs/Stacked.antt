@@ -1,15 +1,12 @@
 -- Where the nodes stand in the tables: one below the other, from the ends downwards.
-use Rattle.std.specs.Prelude.{◌≡◌, refl, List, ℕ, zero, suc, ◌+◌, ◌-◌, ◌/◌, ◌%◌, ◌<◌, ◌≤◌, length, get_or, ltb}
-use Rattle.std.proofs.Common.{sym, ◌∙◌, arith}
+use Rattle.std.specs.Prelude.{◌≡◌, List, ℕ, zero, suc, ◌-◌, ◌<◌, ◌≤◌, ltb}
+use Rattle.std.proofs.Common.{◌∙◌, arith}
 use Rattle.std.proofs.Math.Path.{ap}
 use Rattle.std.proofs.Math.Bool.{cond}
 use Rattle.store.specs.declared.Edge.{Edge}
-use Rattle.labels.specs.Runs.{Run}
-use Rattle.plan.specs.Like.{Each}
-use Rattle.plan.specs.Fields.{head_in, tail_in, run_in, run_first, run_end, tag_in, merged_in, lead_in, mate_field, solvable_in, sets_first, sets_end, reason_in, sets_from}
-use Rattle.plan.specs.Fields.{runs_from}
+use Rattle.plan.specs.Fields.{head_in, tail_in, run_in, run_first, run_end, tag_in, merged_in, lead_in, mate_field, solvable_in, sets_first, sets_end, reason_in}
 use Rattle.planning.specs.Along.{Only}
-use Rattle.planning.specs.Written.{RunFor, Tiled, tiled_under, tiled_keep}
+use Rattle.planning.specs.Written.{RunFor, tiled_under, tiled_keep}
 use Rattle.planning.specs.Passing.{each_runs}
 use Rattle.planning.specs.Sets.{sets_keep}
 use Rattle.planning.specs.Node.{NodeLaid, Touched, popping}

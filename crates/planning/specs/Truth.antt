@@ -1,19 +1,19 @@
 -- What the tables tell is what the definitions say: runs, kids, wordings and kinds of line.
-use Rattle.std.specs.Prelude.{◌≡◌, Bool, ◌&&◌, ◌||◌, ℕ, zero, suc, ◌<◌, ◌≤◌, length, get_or, ltb}
+use Rattle.std.specs.Prelude.{◌≡◌, Bool, ◌&&◌, ◌||◌, ℕ, ◌<◌, length}
 use Rattle.std.proofs.Math.Path.{refl, sym, ap}
-use Rattle.std.proofs.Common.{◌∙◌, inl, inr, true≢false, arith, eqb-true, eq-eqb, ne_eqb}
+use Rattle.std.proofs.Common.{◌∙◌, eqb-true, eq-eqb, ne_eqb}
 use Rattle.std.proofs.Math.Bool.{true, false, cond, not}
-use Rattle.std.proofs.lemmas.Bool.{false≢true, eqb-false}
+use Rattle.std.proofs.lemmas.Bool.{eqb-false}
 use mathlib.Core.List.{List, [], ◌∷◌, ◌++◌, reverse, reverse_aux}
 use Rattle.std.proofs.Math.Dec.{eqb}
 use Rattle.basis.specs.Lists.{any, all, filter, has}
-use Rattle.basis.specs.Members.{In, All, split}
+use Rattle.basis.specs.Members.{All, split}
 use Rattle.records.specs.Tables.{Tables}
 use Rattle.store.specs.declared.Size.{Size}
 use Rattle.store.specs.Graph.{Graph, node_at, is_solvable, is_unresolved}
 use Rattle.store.specs.Table.{graph_in, node_in, Stored, node_in_lem, nodes_count}
 use Rattle.labels.specs.Runs.{Run}
-use Rattle.plan.specs.Plan.{Shown, shown_of, is_installable, merged_shown, group_of, lead_shown, run_installable, no_candidates, offered, dedup, kids_of}
+use Rattle.plan.specs.Plan.{Shown, shown_of, is_installable, merged_shown, group_of, lead_shown, run_installable, no_candidates, dedup, kids_of}
 use Rattle.plan.specs.Mates.{group_has, merged_same}
 use Rattle.plan.specs.Planned.{wording_of}
 use Rattle.planning.specs.Kids.{marked_in, lead_at, merged_at, group_shown, takes, kids_by, lone_by, kids_for, wording_for}

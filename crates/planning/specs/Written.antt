@@ -1,17 +1,16 @@
 -- A run written into the tables.
-use Rattle.std.specs.Prelude.{◌≡◌, refl, Bool, true, false, cond, not, ◌&&◌, List, [], ◌∷◌, ◌++◌, ℕ, zero, suc, ◌+◌, ◌*◌, ◌-◌, ◌/◌, ◌%◌, ◌<◌, ◌≤◌, length, get_or, set, eqb, ltb}
-use Rattle.std.proofs.Common.{sym, ap, ◌∙◌, inl, inr, arith, add-one, get_or-set_same, lt-ltb, le-ltb, eq-eqb, ne_eqb}
-use Rattle.basis.specs.Lists.{any, all, upto}
-use Rattle.basis.specs.Members.{In, split, either}
+use Rattle.std.specs.Prelude.{◌≡◌, refl, Bool, true, false, cond, not, ◌&&◌, List, [], ◌∷◌, ◌++◌, ℕ, zero, suc, ◌+◌, ◌-◌, ◌/◌, ◌%◌, ◌<◌, ◌≤◌, length, get_or, set, ltb}
+use Rattle.std.proofs.Common.{sym, ap, ◌∙◌, arith, get_or-set_same, lt-ltb, ne_eqb}
+use Rattle.basis.specs.Lists.{any, all}
+use Rattle.basis.specs.Members.{split}
 use Rattle.store.specs.Graph.{is_unresolved}
 use Rattle.store.specs.Table.{node_in, edge_in}
 use Rattle.labels.specs.Runs.{Run}
 use Rattle.links.specs.Walk.{out_left, next_out}
-use Rattle.plan.specs.Like.{Each}
-use Rattle.plan.specs.Fields.{run_in, kid_first, kid_end, requirement_in, wording_in, kids_in, kids_from, kids_none, runs_from, runs_none, runs_more}
+use Rattle.plan.specs.Fields.{run_in, kid_first, kid_end, requirement_in, wording_in, kids_in, kids_from, kids_none}
 use Rattle.planning.specs.Cut.{key_of, targets_in, targets_on, run_of}
 use Rattle.planning.specs.Kids.{marked_in, lone_by, kids_by, kids_for, wording_by, wording_for}
-use Rattle.planning.specs.Along.{Way, way_cons, ends_same, target_is, Only, only_none, only_put, Nodes, nodes_none, kids_keep, KidsDone, KidsReady}
+use Rattle.planning.specs.Along.{Way, way_cons, ends_same, target_is, Only, only_none, only_put, Nodes, nodes_none, kids_keep, KidsDone}
 
 -- run number r stands for q, and its kids stand from place c on
 pub record RunFor (g ms gr p k : List ℕ) (c r : ℕ) (q : Run) : Type 0 where

@@ -9,10 +9,9 @@ ghost use Rattle.planning.specs.Along.{Way, Scanned, KidReady, KidStep, KidsRead
 
 use store::{ChainWords, GraphWords, PerNode};
 
-// What was found along a run's targets so far.
+// What was found along a run's targets, of which there is one at least: whether there are more, and an installable one.
 #[derive(Clone, Copy)]
 pub struct Found {
-    pub some: bool,
     pub many: bool,
     pub installable: bool,
 }
@@ -24,28 +23,25 @@ pub struct Cut {
     pub found: Found,
 }
 
+#[tactic(auto, unfolding(crate::specs::Kids::marked_in))]
 pub fn marked(marks: &PerNode, t: usize) -> bool
     ensures { result ≡ marked_in marks.now t }
 {
-    basis::get16(marks, t) % 2 == 1
+    basis::get(marks, t) % 2 == 1
 }
 
+#[tactic(auto, unfolding(crate::specs::Kids::lead_at))]
 pub fn lead_at(gr: &PerNode, t: usize) -> u16
     ensures { (result ≡ lead_at gr.now t) × (result < 128) }
 {
-    basis::get16(gr, t) % 128
+    basis::get(gr, t) % 128
 }
 
+#[tactic(auto, unfolding(crate::specs::Kids::merged_at))]
 pub fn merged_at(gr: &PerNode, t: usize) -> bool
     ensures { result ≡ merged_at gr.now t }
 {
-    basis::get16(gr, t) / 128 % 2 == 1
-}
-
-fn either(a: bool, b: bool) -> bool
-    ensures { result ≡ a || b }
-{
-    if a { true } else { b }
+    basis::get(gr, t) / 128 % 2 == 1
 }
 
 // Edge i ends the run with key x: it requires something else. A conflict does not.
@@ -69,11 +65,9 @@ pub fn find_edge(g: &GraphWords, marks: &PerNode, o: Found, i: usize) -> Found
     }
     let t = store::target_at(g, i);
     let m = marked(marks, t);
-    let b = either(o.installable, m);
     Found {
-        some: true,
-        many: o.some,
-        installable: b,
+        many: true,
+        installable: o.installable || m,
     }
 }
 
@@ -107,21 +101,17 @@ pub fn scan(
 fn wanted(marks: &PerNode, t: usize, want: bool) -> bool
     ensures { result ≡ not want || marked_in marks.now t }
 {
-    if want { marked(marks, t) } else { true }
+    !want || marked(marks, t)
 }
 
 // One of the kids from place c to the end is of the group of l.
 fn shown(gr: &PerNode, k: &[u16; 1024], c: usize, end: usize, l: u16) -> bool
     ensures { result ≡ group_shown gr.now l (kids_from k.now c end) }
 {
-    let mut i = c;
-    while i < end {
-        let m = plan::kid_at(k, i);
-        let x = lead_at(gr, m);
-        if x == l {
+    for i in c..end {
+        if lead_at(gr, plan::kid_at(k, i)) == l {
             return true;
         }
-        i += 1;
     }
     false
 }

@@ -3,54 +3,95 @@
 ghost use Rattle.std.specs.Prelude.{◌≡◌, ◌<◌, ◌≤◌};
 ghost use Rattle.store.specs.Table.{edge_in};
 ghost use Rattle.links.specs.Walk.{out_left};
+ghost use Rattle.plan.specs.Fields.{one_more};
 ghost use Rattle.plan.specs.Plan.{is_forbid, sets_by};
 ghost use Rattle.planning.specs.Along.{Way};
 ghost use Rattle.planning.specs.EdgeMarks.{edge_mark, reasons_at, reasons_in, forbids_in};
 ghost use Rattle.planning.specs.Sets.{is_head, sets_up, SetReady, SetStep, SetsReady, SetsDone};
-ghost use Rattle.planning.specs.Line.{LineDone};
+ghost use Rattle.planning.specs.Line.{line_tag, line_reason, line_first, LineDone};
 
 use store::{ChainWords, ConflictCause, ConflictEdge, ConflictNode, GraphWords};
 
-// The kind of line (0 excluded, 1 bare, 2 conflicting, 3 constraining, 4 requiring), the reason, and where the sets begin.
+// A package's line: excluded with its reason, or constraining with the first place of its sets.
 #[derive(Clone, Copy)]
-pub struct LineKind {
-    pub kind: u64,
-    pub reason: usize,
-    pub kid: usize,
+pub enum LineKind {
+    Excluded(u16),
+    Bare,
+    Conflicting,
+    Constraining(usize),
+    Requiring,
 }
 
-// One more than the reason, where edge i excludes.
-fn reason_at(g: &GraphWords, i: usize) -> usize
-    ensures { (result ≡ edge_mark (reasons_at g.now (edge_in g.now i))) × (result ≤ 65536) }
-{
-    let b = store::excluded_at(g, i);
-    if b {
-        let t = store::target_at(g, i);
-        let x = store::node_at(g, t);
-        return match x {
-            ConflictNode::Root => 0,
-            ConflictNode::Solvable(_) => 0,
-            ConflictNode::UnresolvedDependency => 0,
-            ConflictNode::Excluded(r) => basis::wide16(r) + 1,
-        };
+impl LineKind {
+    // The number of its kind, as the plan holds it.
+    pub fn tag(self) -> u64
+        ensures { result ≡ line_tag self }
+    {
+        match self {
+            LineKind::Excluded(_) => 0,
+            LineKind::Bare => 1,
+            LineKind::Conflicting => 2,
+            LineKind::Constraining(_) => 3,
+            LineKind::Requiring => 4,
+        }
     }
-    0
+
+    // Its reason, or 0.
+    pub fn reason(self) -> u16
+        ensures { result ≡ line_reason self }
+    {
+        match self {
+            LineKind::Excluded(r) => r,
+            LineKind::Bare => 0,
+            LineKind::Conflicting => 0,
+            LineKind::Constraining(_) => 0,
+            LineKind::Requiring => 0,
+        }
+    }
+
+    // Where its sets begin, which end at `end`.
+    pub fn sets_first(self, end: usize) -> usize
+        ensures { result ≡ line_first end self }
+    {
+        match self {
+            LineKind::Excluded(_) => end,
+            LineKind::Bare => end,
+            LineKind::Conflicting => end,
+            LineKind::Constraining(c) => c,
+            LineKind::Requiring => end,
+        }
+    }
 }
 
-fn find_reason(g: &GraphWords, ls: &ChainWords, n: usize, e1: usize) -> usize
+// The reason, where edge i excludes.
+fn reason_at(g: &GraphWords, i: usize) -> Option<u16>
+    ensures { one_more result ≡ edge_mark (reasons_at g.now (edge_in g.now i)) }
+{
+    if !store::excluded_at(g, i) {
+        return None;
+    }
+    let t = store::target_at(g, i);
+    match store::node_at(g, t) {
+        ConflictNode::Root => None,
+        ConflictNode::Solvable(_) => None,
+        ConflictNode::UnresolvedDependency => None,
+        ConflictNode::Excluded(r) => Some(r),
+    }
+}
+
+fn find_reason(g: &GraphWords, ls: &ChainWords, n: usize, e1: usize) -> Option<u16>
     requires { Way g.now ls.now n e1 }
-    ensures { (result ≡ edge_mark (reasons_in g.now (out_left g.now n e1))) × (result ≤ 65536) }
+    ensures { one_more result ≡ edge_mark (reasons_in g.now (out_left g.now n e1)) }
 {
     let mut e = e1;
     while 0 < e {
         let i = e - 1;
-        let m = reason_at(g, i);
-        if 0 < m {
-            return m;
+        if let Some(r) = reason_at(g, i) {
+            return Some(r);
         }
         e = links::next_out(ls, i);
     }
-    0
+    None
 }
 
 fn forbid_at(g: &GraphWords, i: usize) -> bool
@@ -76,8 +117,7 @@ fn any_forbid(g: &GraphWords, ls: &ChainWords, n: usize, e1: usize) -> bool
     let mut e = e1;
     while 0 < e {
         let i = e - 1;
-        let b = forbid_at(g, i);
-        if b {
+        if forbid_at(g, i) {
             return true;
         }
         e = links::next_out(ls, i);
@@ -85,49 +125,42 @@ fn any_forbid(g: &GraphWords, ls: &ChainWords, n: usize, e1: usize) -> bool
     false
 }
 
-// One more than the version set, where edge i constrains.
-fn set_mark(g: &GraphWords, i: usize) -> usize
-    ensures { (result ≡ edge_mark (sets_by (edge_in g.now i).weight)) × (result ≤ 65536) }
+// The version set, where edge i constrains.
+fn set_mark(g: &GraphWords, i: usize) -> Option<u16>
+    ensures { one_more result ≡ edge_mark (sets_by (edge_in g.now i).weight) }
 {
     let e = store::edge_at(g, i);
     let w = e.weight;
     match w {
-        ConflictEdge::Requires(_) => 0,
+        ConflictEdge::Requires(_) => None,
         ConflictEdge::Conflict(c) => match c {
-            ConflictCause::Locked(_) => 0,
-            ConflictCause::Constrains(v) => basis::wide16(v) + 1,
-            ConflictCause::ForbidMultipleInstances => 0,
-            ConflictCause::Excluded => 0,
+            ConflictCause::Locked(_) => None,
+            ConflictCause::Constrains(v) => Some(v),
+            ConflictCause::ForbidMultipleInstances => None,
+            ConflictCause::Excluded => None,
         },
     }
 }
 
 // The set written last is v.
-fn is_last(k: &[u16; 1024], c: usize, end: usize, v: usize) -> bool
+fn is_last(k: &[u16; 1024], c: usize, end: usize, v: u16) -> bool
     ensures { result ≡ is_head v (sets_up k.now c end) }
 {
-    if c < end {
-        let x = basis::wide16(plan::set_at(k, c));
-        return x == v;
-    }
-    false
+    c < end && plan::set_at(k, c) == v
 }
 
 fn set_edge(g: &GraphWords, k: &mut [u16; 1024], i: usize, c: usize, end: usize) -> usize
     requires { SetReady g.now k.old i c end }
     ensures { SetStep k.old k.new (sets_by (edge_in g.now i).weight) c result end }
 {
-    let m = set_mark(g, i);
-    if m == 0 {
+    let Some(v) = set_mark(g, i) else {
         return c;
-    }
-    let v = m - 1;
-    let b = is_last(k, c, end, v);
-    if b {
+    };
+    if is_last(k, c, end, v) {
         return c;
     }
     let d = c - 1;
-    k[d] = v as u16;
+    k[d] = v;
     d
 }
 
@@ -162,42 +195,20 @@ pub fn line(
     kc: usize,
 ) -> LineKind
     requires { SetsReady g.now ls.now k.old n e1 kc }
-    ensures { LineDone g.now (out_left g.now n e1) k.old kc k.new result.kind result.reason result.kid }
+    ensures { LineDone g.now (out_left g.now n e1) k.old kc k.new (line_tag result) (line_reason result) (line_first kc result) }
 {
-    let m = find_reason(g, ls, n, e1);
-    if 0 < m {
-        return LineKind {
-            kind: 0,
-            reason: m - 1,
-            kid: kc,
-        };
+    if let Some(r) = find_reason(g, ls, n, e1) {
+        return LineKind::Excluded(r);
     }
     if e1 == 0 {
-        return LineKind {
-            kind: 1,
-            reason: 0,
-            kid: kc,
-        };
+        return LineKind::Bare;
     }
-    let b = any_forbid(g, ls, n, e1);
-    if b {
-        return LineKind {
-            kind: 2,
-            reason: 0,
-            kid: kc,
-        };
+    if any_forbid(g, ls, n, e1) {
+        return LineKind::Conflicting;
     }
     let c = sets(g, ls, k, n, e1, kc);
     if c < kc {
-        return LineKind {
-            kind: 3,
-            reason: 0,
-            kid: c,
-        };
+        return LineKind::Constraining(c);
     }
-    LineKind {
-        kind: 4,
-        reason: 0,
-        kid: c,
-    }
+    LineKind::Requiring
 }

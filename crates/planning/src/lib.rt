@@ -30,11 +30,9 @@ fn measure(file: &[u8], ix: &Slots, p: &Scratch, sz: &mut PerNode, count: usize)
     requires count_bound { (count ≤ 128) × (length sz.old ≡ 128) }
     ensures { Measured (tables_of file.now) p.now sz.new count }
 {
-    let mut n: usize = 0;
-    while n < count {
+    for n in 0..count {
         let v = display::package_sizes::size_of(file, ix, p, n);
         sz[n] = v as u16;
-        n += 1;
     }
 }
 
@@ -50,13 +48,10 @@ fn add_sizes(p: &mut Scratch, sz: &PerNode, count: usize)
     requires { Short p.old count }
     ensures { Adding p.old sz.now p.new count count }
 {
-    let mut n: usize = 0;
-    while n < count {
-        let t = basis::get64(p, 128 + n);
-        let v = basis::wide16(basis::get16(sz, n));
-        let w = add_size(t, v);
-        p[128 + n] = w;
-        n += 1;
+    for n in 0..count {
+        let t = basis::get(p, 128 + n);
+        let v = usize::from(basis::get(sz, n));
+        p[128 + n] = add_size(t, v);
     }
 }
 

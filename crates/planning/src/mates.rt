@@ -9,13 +9,11 @@ fn group_word(l: usize, i: usize, x: usize) -> usize
     requires { (l < 128) × (x ≤ 128) }
     ensures { GroupWord result l i x × (result < 65536) }
 {
-    if x == 0 {
-        if l == i {
-            return l;
-        }
-        return l + 128 + 256 * x;
+    if x == 0 && l == i {
+        l
+    } else {
+        l + 128 + 256 * x
     }
-    l + 128 + 256 * x
 }
 
 // From the last node down; `last` holds the lowest member so far of each lead.
@@ -23,15 +21,12 @@ fn group_all(leads: &PerNode, gr: &mut PerNode, last: &mut PerNode, count: usize
     requires { Grouping leads.now gr.old gr.old last.old count count }
     ensures { GroupsDone leads.now gr.old gr.new count }
 {
-    let mut n = count;
-    while 0 < n {
-        let i = n - 1;
-        let l = basis::wide16(basis::get16(leads, i));
-        let x = basis::wide16(basis::get16(last, l));
+    for i in (0..count).rev() {
+        let l = usize::from(basis::get(leads, i));
+        let x = usize::from(basis::get(last, l));
         let w = group_word(l, i, x);
         gr[i] = w as u16;
-        last[l] = n as u16;
-        n = i;
+        last[l] = (i + 1) as u16;
     }
 }
 

@@ -21,15 +21,12 @@ pub fn nodes(
     ensures { NodesDone g.now ls.now marks.now gr.now s.nodes p.old k.old
         p.new k.new }
 {
-    let count = s.nodes;
-    let mut n: usize = 0;
     let mut rc: usize = 1024;
     let mut kc: usize = 1024;
-    while n < count {
+    for n in 0..s.nodes {
         let e = links::first_out(ls, n);
         let r = crate::node::node(g, ls, marks, gr, p, k, n, e, rc, kc);
         rc = r.run;
         kc = r.kid;
-        n += 1;
     }
 }

@@ -13,5 +13,5 @@ joined [] = []
 joined (x ∷ xs) = x ++ joined xs
 
 -- o is d, with its n elements from `at` on those of s
-pub record Pasted (d : List ℕ) (at : ℕ) (s : List ℕ) (n : ℕ) (o : List ℕ) : Type 0 where
+pub record Pasted {A : Type 0} (d : List A) (at : ℕ) (s : List A) (n : ℕ) (o : List A) : Type 0 where
   pub is : o ≡ paste d at s n

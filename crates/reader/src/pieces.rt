@@ -2,14 +2,10 @@
 ghost use Rattle.std.specs.Prelude.{◌≡◌, ◌+◌, ◌≤◌, length};
 ghost use Rattle.reader.specs.Pieces.{Pasted};
 
-// n bytes of `s` over those of `d` from `at` on.
-pub fn paste_bytes(d: &mut [u8], at: usize, s: &[u8], n: usize)
+// n numbers of `s` over those of `d` from `at` on.
+pub fn paste<T: Copy>(d: &mut [T], at: usize, s: &[T], n: usize)
     requires { (at + n ≤ length d.old) × (n ≤ length s.now) }
     ensures { Pasted d.old at s.now n d.new }
 {
-    let mut i = 0;
-    while i < n {
-        d[at + i] = s[i];
-        i += 1;
-    }
+    d[at..at + n].copy_from_slice(&s[..n]);
 }

@@ -1,5 +1,5 @@
 -- The pass over counts and marks says what `read_from` says over the tables.
-use Rattle.std.specs.Prelude.{◌≡◌, Bool, true, false, cond, ◌&&◌, ◌||◌, not, List, [], ◌∷◌, length, get_or, set, replicate, ltb, eqb}
+use Rattle.std.specs.Prelude.{◌≡◌, Bool, true, false, cond, Result, Ok, Err, ◌&&◌, ◌||◌, not, List, [], ◌∷◌, length, get_or, set, replicate, ltb, eqb}
 use Rattle.std.proofs.Math.Path.{refl, ap}
 use Rattle.std.proofs.Common.{sym, ◌∙◌, subst, arith, length-append, length-set, get_or-set_same, get_or-set_other}
 use Rattle.std.proofs.Math.Bool.{and-false, or-true, or-false}
@@ -11,22 +11,22 @@ use borrow.Author.Tests.{lt-ltb, le-ltb, le-leb, lt-leb, eq-eqb, ne_eqb, ltb-tru
 use Rattle.basis.specs.Lists.{any, snoc}
 use Rattle.basis.specs.Members.{split, All}
 use Rattle.basis.specs.Guard.{guard}
-use Rattle.records.specs.declared.ReadAnswer.{ReadAnswer}
-use Rattle.records.specs.declared.ReadAnswer.TheVariants.{Refused}
+use Rattle.records.specs.declared.Counts.{Counts}
+use Rattle.records.specs.declared.Refusal.{Refusal}
+use Rattle.records.specs.declared.Refusal.TheVariants.{UnknownKind, BadShape, BadNumber, BadOrigin, TableFull}
+use Rattle.records.specs.declared.Refused.{Refused}
 use Rattle.records.specs.declared.Table.{Table}
 use Rattle.records.specs.declared.Table.TheVariants.{Names, Solvables, VersionSets, Requirements, Candidates, Reasons, Variables, Assigned, Clauses}
 use Rattle.records.specs.declared.Slot.{Slot}
 use Rattle.records.specs.declared.Slot.TheVariants as S
 use Rattle.records.specs.declared.Shape.{Shape}
-use Rattle.records.specs.declared.CountStep.{CountStep}
-use Rattle.records.specs.declared.CountStep.TheVariants.{Next, No}
 use Rattle.records.specs.Shapes.{Rec, records_of, limit, shape_of, kinds, row_at}
 use Rattle.records.specs.Tables.{Tables, no_tables, table_of, put, counts_of, no_rec, at}
 use Rattle.records.specs.Read.{read_from, read_of, answer_of, first_good, field_good, shape_good, number_good, numbers_good, origin_good, origins_good, allows}
 use Rattle.records.specs.Read.{refusal_in}
 use Rattle.records.specs.Steps.{both_left, both_right, Passed, passed, read_unknown, read_next, read_stop}
 use Rattle.records.specs.Text.{guard_and, first_pass, first_is_good}
-use Rattle.records.specs.Pass.{found_at, found_of, count_pass, limit_pass, with_pass, is_next, is_before, has_room, more_of, field_pass, shape_pass, named_pass}
+use Rattle.records.specs.Pass.{found_at, found_of, number_of, count_pass, limit_pass, with_pass, is_next, is_before, has_room, more_of, field_pass, shape_pass, named_pass}
 use Rattle.records.specs.Pass.{free_pass, number_pass, numbers_pass, allows_pass, mark_origin, origin_pass, origins_pass, admit_pass, check_at, check_pass, noted}
 use Rattle.records.specs.Pass.{turn_pass, marks_pass, pass_from, no_counts}
 
@@ -163,22 +163,39 @@ module _ (T : Tables) (m : List ℕ) (h : Marked T m) where
 
 -- ---- one record
 
-abbrev pub step_of : ℕ → Table → CountStep
-step_of zero t = Next t
-step_of (suc n) t = No (suc n)
+-- the refusal of a number of document 01 from 2 to 6
+abbrev pub refusal_by : ℕ → Refusal
+refusal_by n = cond (eqb n 2) UnknownKind (cond (eqb n 3) BadShape (cond (eqb n 4) BadNumber (cond (eqb n 5) BadOrigin TableFull)))
 
-guard_step : (b d : Bool) (k n : ℕ) (t : Table) (x : CountStep) → b ≡ d → step_of k t ≡ No k → x ≡ step_of n t → guard b (No k) x ≡ step_of (cond d n k) t
+abbrev pub step_of : ℕ → Table → Result Table Refusal
+step_of zero t = Ok t
+step_of (suc n) t = Err (refusal_by (suc n))
+
+-- a number that `refusal_in` gives is that of its refusal
+number_chain : (b d e f : Bool) (n : ℕ) → cond b (cond d (cond e (cond f 0 5) 4) 6) 3 ≡ suc n → suc n ≡ number_of (refusal_by (suc n))
+number_chain true true true true n q = let z : 0 ≡ suc n = q in absurd (omega arith)
+number_chain true true true false n q = rw (← q)
+number_chain true true false f n q = rw (← q)
+number_chain true false e f n q = rw (← q)
+number_chain false d e f n q = rw (← q)
+
+pub refusal_number : (T : Tables) (s : Shape) (r : Rec) (n : ℕ) → refusal_in T s r ≡ suc n → suc n ≡ number_of (refusal_by (suc n))
+refusal_number T s r n q =
+    number_chain (shape_good s r) (ltb (length (table_of s.table T)) (limit s.table)) (numbers_good T s r) (origins_good T s r) n q
+
+guard_step : (b d : Bool) (k n : ℕ) (y : Refusal) (t : Table) (x : Result Table Refusal) → b ≡ d → step_of k t ≡ Err y → x ≡ step_of n t
+    → guard b (Err y) x ≡ step_of (cond d n k) t
 unfolding guard
-guard_step b true k n t x e f q = rw e q
-guard_step b false k n t x e f q = rw e (sym f)
+guard_step b true k n y t x e f q = rw e q
+guard_step b false k n y t x e f q = rw e (sym f)
 
 admit_is_good : (T : Tables) (m : List ℕ) → Marked T m → (s : Shape) (r : Rec) → admit_pass (counts_of T) m s r ≡ step_of (refusal_in T s r) s.table
 unfolding admit_pass
 admit_is_good T m h s r =
-    guard_step _ (shape_good s r) 3 _ s.table _ (shape_is_good s r) refl
-    (guard_step _ (ltb (length (table_of s.table T)) (limit s.table)) 6 _ s.table _ (room_is_good s.table T) refl
-    (guard_step _ (numbers_good T s r) 4 _ s.table _ (numbers_are_good T m h s r) refl
-    (guard_step _ (origins_good T s r) 5 0 s.table _ (origins_are_good T m h s r) refl refl)))
+    guard_step _ (shape_good s r) 3 _ BadShape s.table _ (shape_is_good s r) refl
+    (guard_step _ (ltb (length (table_of s.table T)) (limit s.table)) 6 _ TableFull s.table _ (room_is_good s.table T) refl
+    (guard_step _ (numbers_good T s r) 4 _ BadNumber s.table _ (numbers_are_good T m h s r) refl
+    (guard_step _ (origins_good T s r) 5 0 BadOrigin s.table _ (origins_are_good T m h s r) refl refl)))
 
 -- ---- the marks after a record
 
@@ -319,7 +336,7 @@ module _ (T : Tables) (m : List ℕ) (h : Marked T m) (r : Rec) (a b : Slot) whe
 -- ---- all records
 
 module _ (T : Tables) (m : List ℕ) (h : Marked T m) (r : Rec) where
-  pub check_none : shape_of r.kind ≡ none → check_pass (counts_of T) m r ≡ No 2
+  pub check_none : shape_of r.kind ≡ none → check_pass (counts_of T) m r ≡ Err UnknownKind
   unfolding check_pass found_at
   check_none e = rw e
 
@@ -339,12 +356,12 @@ module _ (r : Rec) (rs : List Rec) (i : ℕ) (T : Tables) (m : List ℕ) (h : Ma
   by_refusal : (s : Shape) → shape_of r.kind ≡ some s → (n : ℕ) → refusal_in T s r ≡ n → pass_from (r ∷ rs) i (counts_of T) m ≡ answer_of (read_from (r ∷ rs) i T)
   unfolding pass_from turn_pass marks_pass
   by_refusal s e zero q =
-      let c : check_pass (counts_of T) m r ≡ Next s.table = check_some T m h r s e ∙ ap (λ (k : ℕ). step_of k s.table) q in
+      let c : check_pass (counts_of T) m r ≡ Ok s.table = check_some T m h r s e ∙ ap (λ (k : ℕ). step_of k s.table) q in
       let p : Passed T r s = passed T r s e q in
       rw (c, read_next r rs i T s e q, more_is_good s.table T r p.room) (rest (put s.table r T) (noted s.table r m) (next_marked T m h r s p))
   by_refusal s e (suc n) q =
-      let c : check_pass (counts_of T) m r ≡ No (suc n) = check_some T m h r s e ∙ ap (λ (k : ℕ). step_of k s.table) q in
-      rw (c, read_stop r rs i T s e n q)
+      let c : check_pass (counts_of T) m r ≡ Err (refusal_by (suc n)) = check_some T m h r s e ∙ ap (λ (k : ℕ). step_of k s.table) q in
+      rw (c, read_stop r rs i T s e n q, ← refusal_number T s r n q)
 
   by_shape : (o : Option Shape) → shape_of r.kind ≡ o → pass_from (r ∷ rs) i (counts_of T) m ≡ answer_of (read_from (r ∷ rs) i T)
   unfolding pass_from turn_pass marks_pass
@@ -368,15 +385,15 @@ none_marked =
     record { mark = λ v. fresh 1024 v; low = λ v. omega arith; past = λ v g. refl; few = omega arith; size = length-replicate {A = ℕ} 1024 0 }
 
 module _ (file : List ℕ) where
-  pub read_long : 65536 < length file → Refused 1 0 ≡ answer_of (read_of file)
+  pub read_long : 65536 < length file → Err (record { number = 1; place = 0 }) ≡ answer_of (read_of file)
   unfolding read_of
   read_long h = rw (lt-leb (length file) 65536 h, and-false)
 
-  pub read_odd : (length file % 32 ≡ 0 → ⊥) → Refused 1 0 ≡ answer_of (read_of file)
+  pub read_odd : (length file % 32 ≡ 0 → ⊥) → Err (record { number = 1; place = 0 }) ≡ answer_of (read_of file)
   unfolding read_of
   read_odd h = rw (ne_eqb (length file % 32) 0 h)
 
-  pub read_run : (x : ReadAnswer) → length file ≤ 65536 → length file % 32 ≡ 0 → x ≡ pass_from (records_of file) 0 no_counts (replicate 1024 0)
+  pub read_run : (x : Result Counts Refused) → length file ≤ 65536 → length file % 32 ≡ 0 → x ≡ pass_from (records_of file) 0 no_counts (replicate 1024 0)
       → x ≡ answer_of (read_of file)
   unfolding read_of
   read_run x h l q =

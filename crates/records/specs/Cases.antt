@@ -1,12 +1,11 @@
 -- Cases of the reader, one table under one statement: document 01's P2, the reader's part of P3, each refusal, a table at
 -- its limit and one past it; and one record that has every fault, of which one after the other is mended.
-use Rattle.std.specs.Prelude.{◌≡◌, refl, List, [], ◌∷◌, ◌++◌, ℕ, ◌-◌, ◌/◌, ◌%◌, length, replicate}
+use Rattle.std.specs.Prelude.{◌≡◌, refl, Result, Ok, Err, List, [], ◌∷◌, ◌++◌, ℕ, ◌-◌, ◌/◌, ◌%◌, length, replicate}
 use Rattle.std.proofs.Math.Option.{none, some}
 use Rattle.basis.specs.Lists.{concat_map, upto}
 use Rattle.basis.specs.Members.{All}
-use Rattle.records.specs.declared.ReadAnswer.{ReadAnswer}
-use Rattle.records.specs.declared.ReadAnswer.TheVariants.{Accepted, Refused}
 use Rattle.records.specs.declared.Counts.{Counts}
+use Rattle.records.specs.declared.Refused.{Refused}
 use Rattle.records.specs.Shapes.{Rec, rec_of, cut, shape_of}
 use Rattle.records.specs.Tables.{Tables, no_rec}
 use Rattle.records.specs.Read.{read_from, read_of, answer_of, refusal_in}
@@ -44,53 +43,56 @@ with789 v g c = record { names = 0; solvables = 0; sets = 0; requirements = 0; c
 
 pub record Case : Type 0 where
   pub file : List ℕ
-  pub answer : ReadAnswer
+  pub answer : Result Counts Refused
 
-abbrev case : List ℕ → ReadAnswer → Case
+abbrev refused : ℕ → ℕ → Result Counts Refused
+refused k i = Err (record { number = k; place = i })
+
+abbrev case : List ℕ → Result Counts Refused → Case
 case f a = record { file = f; answer = a }
 
 abbrev pub cases : List Case
 cases =
-    case [] (Accepted empty)
+    case [] (Ok empty)
     -- P2
-    ∷ case (replicate 33 0) (Refused 1 0)
-    ∷ case (replicate 65568 0) (Refused 1 0)
-    ∷ case (replicate 65536 0) (Refused 2 0)
-    ∷ case (name 0 ++ bytes 9 0 0 0 0 []) (Refused 2 1)
+    ∷ case (replicate 33 0) (refused 1 0)
+    ∷ case (replicate 65568 0) (refused 1 0)
+    ∷ case (replicate 65536 0) (refused 2 0)
+    ∷ case (name 0 ++ bytes 9 0 0 0 0 []) (refused 2 1)
     -- P3, as far as the reader goes
-    ∷ case (learnt 1) (Accepted (with789 0 0 1))
-    ∷ case (learnt 0) (Accepted (with789 0 0 1))
-    ∷ case (bytes 18 1 0 0 1 []) (Refused 3 0)
-    ∷ case (learnt 2) (Refused 3 0)
+    ∷ case (learnt 1) (Ok (with789 0 0 1))
+    ∷ case (learnt 0) (Ok (with789 0 0 1))
+    ∷ case (bytes 18 1 0 0 1 []) (refused 3 0)
+    ∷ case (learnt 2) (refused 3 0)
     -- texts of 0 and of 25 bytes, bytes 31, 32, 126 and 127, a byte past the text
-    ∷ case (bytes 1 0 0 0 0 []) (Refused 3 0)
-    ∷ case (bytes 1 25 0 0 0 (replicate 24 120)) (Refused 3 0)
-    ∷ case (bytes 1 24 0 0 0 (replicate 24 120)) (Accepted (with_names 1))
-    ∷ case (bytes 1 1 0 0 0 (31 ∷ [])) (Refused 3 0)
-    ∷ case (bytes 1 2 0 0 0 (32 ∷ 126 ∷ [])) (Accepted (with_names 1))
-    ∷ case (bytes 1 1 0 0 0 (127 ∷ [])) (Refused 3 0)
-    ∷ case (bytes 1 1 0 0 0 (120 ∷ 120 ∷ [])) (Refused 3 0)
+    ∷ case (bytes 1 0 0 0 0 []) (refused 3 0)
+    ∷ case (bytes 1 25 0 0 0 (replicate 24 120)) (refused 3 0)
+    ∷ case (bytes 1 24 0 0 0 (replicate 24 120)) (Ok (with_names 1))
+    ∷ case (bytes 1 1 0 0 0 (31 ∷ [])) (refused 3 0)
+    ∷ case (bytes 1 2 0 0 0 (32 ∷ 126 ∷ [])) (Ok (with_names 1))
+    ∷ case (bytes 1 1 0 0 0 (127 ∷ [])) (refused 3 0)
+    ∷ case (bytes 1 1 0 0 0 (120 ∷ 120 ∷ [])) (refused 3 0)
     -- origins: 6 and 256 are none; "c is 0 for 0, 3, 4, 5"
-    ∷ case (bytes 7 0 0 6 0 []) (Refused 3 0)
-    ∷ case (bytes 7 0 0 256 0 []) (Refused 3 0)
-    ∷ case (bytes 7 0 0 3 1 []) (Refused 3 0)
-    ∷ case (bytes 7 0 0 1 0 []) (Refused 4 0)
+    ∷ case (bytes 7 0 0 6 0 []) (refused 3 0)
+    ∷ case (bytes 7 0 0 256 0 []) (refused 3 0)
+    ∷ case (bytes 7 0 0 3 1 []) (refused 3 0)
+    ∷ case (bytes 7 0 0 1 0 []) (refused 4 0)
     -- own numbers
-    ∷ case (name 0 ++ name 1) (Accepted (with_names 2))
-    ∷ case (name 1) (Refused 4 0)
-    ∷ case (name 0 ++ name 0) (Refused 4 1)
+    ∷ case (name 0 ++ name 1) (Ok (with_names 2))
+    ∷ case (name 1) (refused 4 0)
+    ∷ case (name 0 ++ name 0) (refused 4 1)
     -- Lock names the root; AnyOf may
-    ∷ case (root_variable 0 ++ bytes 20 1 0 0 0 []) (Refused 5 1)
-    ∷ case (root_variable 0 ++ bytes 25 1 0 0 0 []) (Accepted (with789 1 0 1))
+    ∷ case (root_variable 0 ++ bytes 20 1 0 0 0 []) (refused 5 1)
+    ∷ case (root_variable 0 ++ bytes 25 1 0 0 0 []) (Ok (with789 1 0 1))
     -- record 8
-    ∷ case (root_variable 0 ++ assigned) (Refused 4 1)
-    ∷ case (root_variable 0 ++ learnt 0 ++ assigned) (Accepted (with789 1 1 1))
-    ∷ case (root_variable 0 ++ learnt 0 ++ assigned ++ assigned) (Refused 4 3)
+    ∷ case (root_variable 0 ++ assigned) (refused 4 1)
+    ∷ case (root_variable 0 ++ learnt 0 ++ assigned) (Ok (with789 1 1 1))
+    ∷ case (root_variable 0 ++ learnt 0 ++ assigned ++ assigned) (refused 4 3)
     -- a table at its limit, and one past it; there 3 comes before 6, and 6 before 4
-    ∷ case (many_names 128) (Accepted (with_names 128))
-    ∷ case (many_names 129) (Refused 6 128)
-    ∷ case (many_names 128 ++ bytes 1 0 7 0 0 []) (Refused 3 128)
-    ∷ case (many_names 128 ++ name 7) (Refused 6 128)
+    ∷ case (many_names 128) (Ok (with_names 128))
+    ∷ case (many_names 129) (refused 6 128)
+    ∷ case (many_names 128 ++ bytes 1 0 7 0 0 []) (refused 3 128)
+    ∷ case (many_names 128 ++ name 7) (refused 6 128)
     ∷ []
 
 pub right : All (λ c. answer_of (read_of c.file) ≡ c.answer) cases

@@ -1,16 +1,18 @@
 -- The pass over the records as the code makes it: nine counts and a mark for each variable stand for the tables so far.
 -- The mark of a variable is its origin, and 8 more once a record 8 names it. Laws: one for each way out of a function.
-use Rattle.std.specs.Prelude.{◌≡◌, refl, Bool, true, false, cond, ◌||◌, List, [], ◌∷◌, ℕ, suc, ◌+◌, ◌%◌, ◌/◌, ◌≤◌, ◌<◌, get_or, set, drop, ltb, eqb}
+use Rattle.std.specs.Prelude.{◌≡◌, refl, Bool, true, false, cond, Option, Some, None, Result, Ok, Err, ◌||◌, List, [], ◌∷◌, ℕ, suc, ◌+◌, ◌%◌, ◌/◌, ◌≤◌, ◌<◌, get_or, set, drop, ltb, eqb}
 use Rattle.std.proofs.Common.{sym, ◌∙◌, add-one, drop_of_length-le, drop-cons}
 use Rattle.std.proofs.Math.Path.{ap}
-use Rattle.std.proofs.Math.Option.{Option, none, some}
+use Rattle.std.proofs.Math.Option as maybe
+use Rattle.std.proofs.Math.Option.{none, some}
 use native.Mathlib.Omega.{arith}
 use Rattle.std.proofs.Math.ListN.{length}
 use borrow.Author.Tests.{eq-eqb, ne_eqb, le-leb, lt-leb}
 use Rattle.basis.specs.Guard.{guard}
 use Rattle.basis.specs.Members.{All}
-use Rattle.records.specs.declared.ReadAnswer.{ReadAnswer}
-use Rattle.records.specs.declared.ReadAnswer.TheVariants.{Accepted, Refused}
+use Rattle.records.specs.declared.Refusal.{Refusal}
+use Rattle.records.specs.declared.Refusal.TheVariants.{UnknownKind, BadShape, BadNumber, BadOrigin, TableFull}
+use Rattle.records.specs.declared.Refused.{Refused}
 use Rattle.records.specs.declared.Counts.{Counts}
 use Rattle.records.specs.declared.Table.{Table}
 use Rattle.records.specs.declared.Table.TheVariants.{Names, Solvables, VersionSets, Requirements, Candidates, Reasons, Variables, Assigned, Clauses}
@@ -19,10 +21,6 @@ use Rattle.records.specs.declared.Allowed.TheVariants as A
 use Rattle.records.specs.declared.Slot.{Slot}
 use Rattle.records.specs.declared.Slot.TheVariants as S
 use Rattle.records.specs.declared.Shape.{Shape}
-use Rattle.records.specs.declared.Found.{Found}
-use Rattle.records.specs.declared.Found.TheVariants.{Known, Unknown}
-use Rattle.records.specs.declared.CountStep.{CountStep}
-use Rattle.records.specs.declared.CountStep.TheVariants.{Next, No}
 use Rattle.records.specs.Shapes.{Rec, records_of, limit, shape_of, kinds, row_at}
 use Rattle.records.specs.Tables.{no_rec, at}
 use Rattle.records.specs.Read.{field_good, allows}
@@ -31,18 +29,19 @@ use Rattle.records.specs.Text.{first_pass}
 
 -- ---- the shape of a kind
 
-abbrev pub found_of : Option Shape → Found
-found_of none = Unknown
-found_of (some s) = Known s
+-- the same as a value of the code
+abbrev pub found_of : maybe.Option Shape → Option Shape
+found_of none = None
+found_of (some s) = Some s
 
-unfoldable pub found_at : ℕ → Found
+unfoldable pub found_at : ℕ → Option Shape
 found_at k = found_of (shape_of k)
 
-pub at_kind : (k n : ℕ) (x : Found) → k ≡ n → x ≡ found_of (shape_of n) → x ≡ found_at k
+pub at_kind : (k n : ℕ) (x : Option Shape) → k ≡ n → x ≡ found_of (shape_of n) → x ≡ found_at k
 unfolding found_at
 at_kind k n x e q = rw e q
 
-row_none : (k : ℕ) (rows : List (ℕ × Option Shape)) → All (λ x. k ≡ x.0 → ⊥) rows → row_at k rows ≡ none
+row_none : (k : ℕ) (rows : List (ℕ × maybe.Option Shape)) → All (λ x. k ≡ x.0 → ⊥) rows → row_at k rows ≡ none
 row_none k [] h = refl
 row_none k (x ∷ xs) h = rw (ne_eqb k x.0 h.0, row_at) (row_none k xs h.1)
 
@@ -65,7 +64,7 @@ pub at_none : (k : ℕ)
     → (k ≡ 23 → ⊥)
     → (k ≡ 24 → ⊥)
     → (k ≡ 25 → ⊥)
-    → Unknown ≡ found_at k
+    → None ≡ found_at k
 unfolding found_at shape_of
 at_none k h1 h2 h3 h4 h5 h6 h7 h8 h16 h17 h18 h19 h20 h21 h22 h23 h24 h25 =
     ap found_of (sym (row_none k kinds (h1, (h2, (h3, (h4, (h5, (h6, (h7, (h8, (h16, (h17, (h18, (h19, (h20, (h21, (h22, (h23, (h24, (h25, tt))))))))))))))))))))
@@ -392,26 +391,34 @@ origins_pass m s r =
 
 -- ---- one record
 
+-- the number of a refusal in document 01
+abbrev pub number_of : Refusal → ℕ
+number_of UnknownKind = 2
+number_of BadShape = 3
+number_of BadNumber = 4
+number_of BadOrigin = 5
+number_of TableFull = 6
+
 -- in the order 3, 6, 4, 5
-unfoldable pub admit_pass : Counts → List ℕ → Shape → Rec → CountStep
+unfoldable pub admit_pass : Counts → List ℕ → Shape → Rec → Result Table Refusal
 admit_pass c m s r =
-    guard (shape_pass s r) (No 3)
-    (guard (has_room s.table c) (No 6)
-    (guard (numbers_pass c m s r) (No 4)
-    (guard (origins_pass m s r) (No 5)
-    (Next s.table))))
+    guard (shape_pass s r) (Err BadShape)
+    (guard (has_room s.table c) (Err TableFull)
+    (guard (numbers_pass c m s r) (Err BadNumber)
+    (guard (origins_pass m s r) (Err BadOrigin)
+    (Ok s.table))))
 
-abbrev pub check_at : Counts → List ℕ → Rec → Found → CountStep
-check_at c m r Unknown = No 2
-check_at c m r (Known s) = admit_pass c m s r
+abbrev pub check_at : Counts → List ℕ → Rec → Option Shape → Result Table Refusal
+check_at c m r None = Err UnknownKind
+check_at c m r (Some s) = admit_pass c m s r
 
-unfoldable pub check_pass : Counts → List ℕ → Rec → CountStep
+unfoldable pub check_pass : Counts → List ℕ → Rec → Result Table Refusal
 check_pass c m r = check_at c m r (found_at r.kind)
 
-module _ (c : Counts) (m : List ℕ) (r : Rec) (k : ℕ) (f : Found) (is : f ≡ found_at k) (e : k ≡ r.kind) where
-  pub check_at_lem : (g : Found) (x : CountStep) → f ≡ g → x ≡ check_at c m r g → x ≡ check_pass c m r
+module _ (c : Counts) (m : List ℕ) (r : Rec) (k : ℕ) (f : Option Shape) (is : f ≡ found_at k) (e : k ≡ r.kind) where
+  pub check_at_lem : (g : Option Shape) (x : Result Table Refusal) → f ≡ g → x ≡ check_at c m r g → x ≡ check_pass c m r
   unfolding check_pass
-  check_at_lem g x p q = q ∙ ap (λ (h : Found). check_at c m r h) (sym p ∙ (is ∙ ap found_at e))
+  check_at_lem g x p q = q ∙ ap (λ (h : Option Shape). check_at c m r h) (sym p ∙ (is ∙ ap found_at e))
 
 -- what the record does to the marks
 abbrev pub noted_at : Table → Rec → List ℕ → List ℕ
@@ -432,56 +439,68 @@ pub noted_at_lem : (t u : Table) (r : Rec) (m x : List ℕ) → t ≡ u → x �
 unfolding noted
 noted_at_lem t u r m x e q = rw e q
 
+pub noted_none : (t : Table) (r : Rec) (m : List ℕ) → (t ≡ Variables → ⊥) → (t ≡ Assigned → ⊥) → m ≡ noted t r m
+unfolding noted
+noted_none Names r m h l = refl
+noted_none Solvables r m h l = refl
+noted_none VersionSets r m h l = refl
+noted_none Requirements r m h l = refl
+noted_none Candidates r m h l = refl
+noted_none Reasons r m h l = refl
+noted_none Variables r m h l = absurd (h refl)
+noted_none Assigned r m h l = absurd (l refl)
+noted_none Clauses r m h l = refl
+
 pub set_via : (m u : List ℕ) (w v a b x : ℕ) → u ≡ set m w b → w ≡ v → v ≡ a → b ≡ x → u ≡ set m a x
 set_via m u w v a b x q e f g = q ∙ rw (e, f, g)
 
 pub set_mark_via : (m u : List ℕ) (w v a o : ℕ) → u ≡ set m w (o + 8) → w ≡ v → v ≡ a → o ≡ mark_origin m v → u ≡ set m a (mark_origin m a + 8)
 set_mark_via m u w v a o q e f g = q ∙ rw (g, e, f)
 
-abbrev pub turned : CountStep → Counts → ℕ → ReadAnswer
-turned (Next t) c i = Accepted (more_of t c)
-turned (No k) c i = Refused k i
+abbrev pub turned : Result Table Refusal → Counts → ℕ → Result Counts Refused
+turned (Ok t) c i = Ok (more_of t c)
+turned (Err k) c i = Err (record { number = number_of k; place = i })
 
-abbrev pub marked : CountStep → Rec → List ℕ → List ℕ
-marked (Next t) r m = noted t r m
-marked (No k) r m = m
+abbrev pub marked : Result Table Refusal → Rec → List ℕ → List ℕ
+marked (Ok t) r m = noted t r m
+marked (Err k) r m = m
 
 -- record r, number i, with the counts c and the marks m of those before: the next counts and marks, or the refusal
-unfoldable pub turn_pass : Counts → List ℕ → Rec → ℕ → ReadAnswer
+unfoldable pub turn_pass : Counts → List ℕ → Rec → ℕ → Result Counts Refused
 turn_pass c m r i = turned (check_pass c m r) c i
 
 unfoldable pub marks_pass : Counts → List ℕ → Rec → List ℕ
 marks_pass c m r = marked (check_pass c m r) r m
 
-module _ (c : Counts) (m : List ℕ) (r : Rec) (s : CountStep) (is : s ≡ check_pass c m r) where
-  pub turn_no : (i p k : ℕ) → s ≡ No k → p ≡ i → Refused k p ≡ turn_pass c m r i
+module _ (c : Counts) (m : List ℕ) (r : Rec) (s : Result Table Refusal) (is : s ≡ check_pass c m r) where
+  pub turn_no : (i n : ℕ) (k : Refusal) → s ≡ Err k → n ≡ number_of k → Err (record { number = n; place = i }) ≡ turn_pass c m r i
   unfolding turn_pass
-  turn_no i p k e q = rw (← is, e, q)
+  turn_no i n k e q = rw (← is, e, q)
 
-  pub turn_on : (i : ℕ) (t : Table) (d : Counts) → s ≡ Next t → d ≡ more_of t c → Accepted d ≡ turn_pass c m r i
+  pub turn_on : (i : ℕ) (t : Table) (d : Counts) → s ≡ Ok t → d ≡ more_of t c → Ok d ≡ turn_pass c m r i
   unfolding turn_pass
   turn_on i t d e q = rw (← is, e, q)
 
-  pub marks_no : (k : ℕ) → s ≡ No k → m ≡ marks_pass c m r
+  pub marks_no : (k : Refusal) → s ≡ Err k → m ≡ marks_pass c m r
   unfolding marks_pass
   marks_no k e = rw (← is, e)
 
-  pub marks_on : (t : Table) (u : List ℕ) → s ≡ Next t → u ≡ noted t r m → u ≡ marks_pass c m r
+  pub marks_on : (t : Table) (u : List ℕ) → s ≡ Ok t → u ≡ noted t r m → u ≡ marks_pass c m r
   unfolding marks_pass
   marks_on t u e q = rw (← is, e) q
 
 -- ---- all records
 
-abbrev pub after : ReadAnswer → (Counts → ReadAnswer) → ReadAnswer
-after (Accepted d) rest = rest d
-after (Refused k i) rest = Refused k i
+abbrev pub after : Result Counts Refused → (Counts → Result Counts Refused) → Result Counts Refused
+after (Ok d) rest = rest d
+after (Err e) rest = Err e
 
-unfoldable pub pass_from : List Rec → ℕ → Counts → List ℕ → ReadAnswer
-pass_from [] i c m = Accepted c
+unfoldable pub pass_from : List Rec → ℕ → Counts → List ℕ → Result Counts Refused
+pass_from [] i c m = Ok c
 pass_from (r ∷ rs) i c m = after (turn_pass c m r i) (λ d. pass_from rs (suc i) d (marks_pass c m r))
 
 -- what is left to read from record i on
-unfoldable pub left_pass : List ℕ → ℕ → Counts → List ℕ → ReadAnswer
+unfoldable pub left_pass : List ℕ → ℕ → Counts → List ℕ → Result Counts Refused
 left_pass file i c m = pass_from (drop i (records_of file)) i c m
 
 left_one : (file : List ℕ) (i : ℕ) (c : Counts) (m : List ℕ) → i < length file / 32
@@ -491,23 +510,23 @@ left_one file i c m h =
     let l : length (records_of file) ≡ length file / 32 = length_cut (length file / 32) file in
     rw (add-one, drop-cons (records_of file) i no_rec (omega arith))
 
-module _ (file : List ℕ) (i : ℕ) (c : Counts) (m : List ℕ) (w : ReadAnswer) (inv : left_pass file i c m ≡ w) where
-  pub left_end : length file / 32 ≤ i → Accepted c ≡ w
+module _ (file : List ℕ) (i : ℕ) (c : Counts) (m : List ℕ) (w : Result Counts Refused) (inv : left_pass file i c m ≡ w) where
+  pub left_end : length file / 32 ≤ i → Ok c ≡ w
   unfolding left_pass pass_from
   left_end h =
       let l : length (records_of file) ≡ length file / 32 = length_cut (length file / 32) file in
       let g : length (records_of file) ≤ i = omega arith in
       rw (drop_of_length-le (records_of file) g) at inv
 
-  module _ (s : ReadAnswer) (h : i < length file / 32) (is : s ≡ turn_pass c m (at (records_of file) i) i) where
+  module _ (s : Result Counts Refused) (h : i < length file / 32) (is : s ≡ turn_pass c m (at (records_of file) i) i) where
     on : after s (λ d. left_pass file (i + 1) d (marks_pass c m (at (records_of file) i))) ≡ w
     on = rw is (sym (left_one file i c m h) ∙ inv)
 
-    pub left_next : (d : Counts) (u : List ℕ) → s ≡ Accepted d → u ≡ marks_pass c m (at (records_of file) i) → left_pass file (i + 1) d u ≡ w
+    pub left_next : (d : Counts) (u : List ℕ) → s ≡ Ok d → u ≡ marks_pass c m (at (records_of file) i) → left_pass file (i + 1) d u ≡ w
     left_next d u e q = rw q (rw e at on)
 
-    pub left_stop : (k p : ℕ) → s ≡ Refused k p → s ≡ w
-    left_stop k p e = rw e (rw e at on)
+    pub left_stop : (k : Refused) → s ≡ Err k → Err k ≡ w
+    left_stop k e = rw e at on
 
 pub left_start : (file : List ℕ) (c : Counts) (m : List ℕ) → left_pass file 0 c m ≡ pass_from (records_of file) 0 c m
 unfolding left_pass

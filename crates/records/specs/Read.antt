@@ -1,9 +1,9 @@
 -- Reading: records go into the tables one by one, in file order, or one of them is refused (document 01, "Refusal numbers").
-use Rattle.std.specs.Prelude.{Bool, true, cond, ◌&&◌, ◌||◌, not, List, [], ◌∷◌, ℕ, zero, suc, ◌%◌, length, take, drop, leb, ltb, eqb}
+use Rattle.std.specs.Prelude.{Bool, true, cond, Result, Ok, Err, ◌&&◌, ◌||◌, not, List, [], ◌∷◌, ℕ, zero, suc, ◌%◌, length, take, drop, leb, ltb, eqb}
 use Rattle.std.proofs.Math.Option.{none, some}
 use Rattle.basis.specs.Lists.{any, all}
-use Rattle.records.specs.declared.ReadAnswer.{ReadAnswer}
-use Rattle.records.specs.declared.ReadAnswer.TheVariants.{Accepted, Refused}
+use Rattle.records.specs.declared.Counts.{Counts}
+use Rattle.records.specs.declared.Refused.{Refused}
 use Rattle.records.specs.declared.Table.{Table}
 use Rattle.records.specs.declared.First.{First}
 use Rattle.records.specs.declared.First.TheVariants as F
@@ -126,9 +126,9 @@ unfoldable pub read_of : List ℕ → Reading
 read_of file = cond (eqb (length file % 32) 0 && leb (length file) 65536) (read_from (records_of file) 0 no_tables) (bad 1 0)
 
 -- the number and the values of document 01 for each case of the answer
-abbrev pub answer_of : Reading → ReadAnswer
-answer_of (good T) = Accepted (counts_of T)
-answer_of (bad k i) = Refused k i
+abbrev pub answer_of : Reading → Result Counts Refused
+answer_of (good T) = Ok (counts_of T)
+answer_of (bad k i) = Err (record { number = k; place = i })
 
 -- the tables of an accepted file, and none of a refused one
 abbrev pub tables_in : Reading → Tables

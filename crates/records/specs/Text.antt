@@ -1,12 +1,15 @@
 -- What byte 1 and the text of a record may be, as the code tests it: a chain of guards that says the same as `first_good`.
-use Rattle.std.specs.Prelude.{◌≡◌, Bool, ◌&&◌, List, [], ◌∷◌, ℕ, zero, suc, ◌+◌, ◌*◌, ◌-◌, ◌≤◌, ◌<◌, length, get_or, drop, leb, ltb, eqb}
+use Rattle.std.specs.Prelude.{◌≡◌, Bool, MatchBool, HoldsAt, ◌&&◌, List, [], ◌∷◌, ℕ, zero, suc, ◌+◌, ◌*◌, ◌-◌, ◌/◌, ◌≤◌, ◌<◌, length, get_or, take, drop, leb, ltb, eqb}
+use Rattle.std.specs.List.{AllWithin}
+use Rattle.std.specs.Int.{w64, from_le_bytes}
+use Rattle.std.specs.Simd.{first_chunks}
 use Rattle.std.proofs.Math.Path.{refl, sym, ap}
-use Rattle.std.proofs.Common.{◌∙◌, add-one, length-drop, drop_of_length-le, drop-cons, drop-drop}
+use Rattle.std.proofs.Common.{◌∙◌, add-one, get_or-take, length-drop, drop_of_length-le, drop-cons, drop-drop}
 use Rattle.std.proofs.Math.Bool.{true, false}
 use Rattle.std.proofs.lemmas.Bool.{false≢true}
 use native.Mathlib.Omega.{arith}
 use Rattle.std.proofs.Math.Seq.{get_or-drop}
-use borrow.Author.Tests.{lt-leb, le-leb, eq-eqb, ne_eqb, ltb-true, ltb-false}
+use borrow.Author.Tests.{lt-leb, le-leb, le-ltb, eq-eqb, ne_eqb, ltb-true, ltb-false}
 use Rattle.basis.specs.Lists.{all}
 use Rattle.basis.specs.Members.{split}
 use Rattle.basis.specs.Guard.{guard}
@@ -37,6 +40,31 @@ module _ (p : ℕ → Bool) (s : List ℕ) (k : ℕ) (h : k < length s) (w : Boo
 
 all_end : (p : ℕ → Bool) (s : List ℕ) (k : ℕ) (w : Bool) → length s ≤ k → all p (drop k s) ≡ w → true ≡ w
 all_end p s k w h inv = rw (drop_of_length-le s h) at inv
+
+-- what `Iterator::all` tells of each element, or of one of them
+pub all_by : (p : ℕ → Bool) (s : List ℕ) (r : Bool)
+    → MatchBool r (AllWithin (λ x. p x ≡ true) s 0 (length s)) ((k : ℕ) × (k < length s) × HoldsAt (λ x. p x ≡ false) s k) → r ≡ all p s
+all_by p s true h = each s (λ k l. h k 0 (omega arith) l)
+  where
+    each : (xs : List ℕ) → ((k : ℕ) → k < length xs → p (get_or xs k 0) ≡ true) → true ≡ all p xs
+    each [] f = refl
+    each (x ∷ xs) f = rw (f 0 (omega arith), all) (each xs (λ k l. f (suc k) (omega arith)))
+all_by p s false (k, l, h) = one s k l (h 0)
+  where
+    one : (xs : List ℕ) (j : ℕ) → j < length xs → p (get_or xs j 0) ≡ false → false ≡ all p xs
+    one [] j l e = absurd (omega arith)
+    one (x ∷ xs) zero l e = rw (e, all)
+    one (x ∷ xs) (suc j) l e = split (p x) (λ q. rw (q, all) (one xs j (omega arith) e)) (λ q. rw (q, all))
+
+pub text_by : (s : List ℕ) (r : Bool) → MatchBool r (AllWithin (λ x. in_text x ≡ true) s 0 (length s)) ((k : ℕ) × (k < length s) × HoldsAt (λ x. in_text x ≡ false) s k)
+    → r ≡ all_text s
+unfolding all_text
+text_by s r h = all_by in_text s r h
+
+pub zeros_by : (s : List ℕ) (r : Bool) → MatchBool r (AllWithin (λ x. eqb 0 x ≡ true) s 0 (length s)) ((k : ℕ) × (k < length s) × HoldsAt (λ x. eqb 0 x ≡ false) s k)
+    → r ≡ all_zero s
+unfolding all_zero
+zeros_by s r h = all_by (eqb 0) s r h
 
 -- what is left of a text from byte k on says what the whole says
 unfoldable pub TextLeft : List ℕ → ℕ → Type 0
@@ -157,6 +185,79 @@ all_drop p (suc j) (x ∷ l) e =
     split (p x)
     (λ q. all_drop p j l (rw (q, all) at e))
     (λ q. absurd (false≢true (rw (q, all) at e)))
+
+-- ---- the eights of a text, as `as_chunks` cuts them
+
+abbrev pub worth : List ℕ → ℕ
+worth x = from_le_bytes w64 x
+
+worth_is : (s : List ℕ) → worth (take 8 s) ≡ eight_at s 0
+unfolding eight_at
+worth_is s =
+    let a0 = get_or-take 8 s 0 0 (omega arith) in
+    let a1 = get_or-take 8 s 1 0 (omega arith) in
+    let a2 = get_or-take 8 s 2 0 (omega arith) in
+    let a3 = get_or-take 8 s 3 0 (omega arith) in
+    let a4 = get_or-take 8 s 4 0 (omega arith) in
+    let a5 = get_or-take 8 s 5 0 (omega arith) in
+    let a6 = get_or-take 8 s 6 0 (omega arith) in
+    let a7 = get_or-take 8 s 7 0 (omega arith) in
+    omega arith
+
+-- all of the first n eights are 0
+eights_zero : (n : ℕ) (s : List ℕ) → 8 * n ≤ length s → ((k : ℕ) → k < n → worth (get_or (first_chunks 8 n s) k []) ≡ 0) → zeros (drop (8 * n) s) ≡ zeros s
+unfolding ZeroLeft all_zero
+eights_zero zero s h f = refl
+eights_zero (suc n) s h f =
+    let w : eight_at s 0 ≤ 0 = let z = sym (worth_is s) ∙ f 0 (omega arith) in omega arith in
+    let i : ZeroLeft s 8 = eight_next s 0 (eight_at s 0) (zero_start s) (omega arith) (omega arith) w refl in
+    let e : 8 + 8 * n ≡ 8 * suc n = omega arith in
+    ap (λ (k : ℕ). zeros (drop k s)) (sym e) ∙ (ap zeros (sym (drop-drop (8 * n) 8 s))
+    ∙ (eights_zero n (drop 8 s) (rw length-drop (omega arith)) (λ k l. f (suc k) (omega arith)) ∙ i))
+
+-- one of them is not
+eights_used : (n : ℕ) (s : List ℕ) (k : ℕ) → 8 * n ≤ length s → k < n → 0 < worth (get_or (first_chunks 8 n s) k []) → false ≡ zeros s
+unfolding all_zero
+eights_used (suc n) s zero h l u =
+    eight_stop s 0 (eight_at s 0) (zero_start s) (omega arith) (omega arith) (let z = worth_is s in omega arith) refl
+eights_used (suc n) s (suc k) h l u =
+    let f : false ≡ zeros (drop 8 s) = eights_used n (drop 8 s) k (rw length-drop (omega arith)) (omega arith) u in
+    split (all (eqb 0) s)
+    (λ q. absurd (false≢true (f ∙ all_drop (eqb 0) 8 s q)))
+    (λ q. sym q)
+eights_used zero s k h l u = absurd (omega arith)
+
+length_chunks : (n : ℕ) (s : List ℕ) → length (first_chunks 8 n s) ≡ n
+length_chunks zero s = refl
+length_chunks (suc n) s = ap suc (length_chunks n (drop 8 s))
+
+-- what `Iterator::all` tells of the eights
+abbrev pub Eights : List ℕ → Bool → Type 0
+Eights s r =
+    MatchBool r (AllWithin (λ x. worth x ≡ 0) (first_chunks 8 (length s / 8) s) 0 (length (first_chunks 8 (length s / 8) s)))
+    ((k : ℕ) × (k < length (first_chunks 8 (length s / 8) s)) × HoldsAt (λ x. 0 < worth x) (first_chunks 8 (length s / 8) s) k)
+
+pub eights_all : (s : List ℕ) (r : Bool) → Eights s r → r ≡ true → ZeroLeft s (8 * (length s / 8))
+unfolding ZeroLeft all_zero
+eights_all s true h e =
+    let l = length_chunks (length s / 8) s in
+    eights_zero (length s / 8) s (omega arith) (λ k g. h k [] (omega arith) (omega arith))
+eights_all s false h e = absurd (false≢true e)
+
+pub eights_not : (s : List ℕ) (r : Bool) → Eights s r → r ≡ false → false ≡ all_zero s
+unfolding all_zero
+eights_not s false (k, g, h) e = let l = length_chunks (length s / 8) s in eights_used (length s / 8) s k (omega arith) (omega arith) (h [])
+eights_not s true h e = absurd (false≢true (sym e))
+
+pub none_one : (w : ℕ) → eqb w 0 ≡ ltb w 1
+none_one zero = refl
+none_one (suc w) = ne_eqb (suc w) 0 (λ z. (let f : ⊥ = omega arith in f)) ∙ sym (le-ltb (suc w) 1 (omega arith))
+
+pub zero_yes : (x : ℕ) → x ≡ 0 → eqb 0 x ≡ true
+zero_yes x e = eq-eqb 0 x (sym e)
+
+pub zero_no : (x : ℕ) → 0 < x → eqb 0 x ≡ false
+zero_no x h = ne_eqb 0 x (λ z. (let y : 0 ≡ x = z in let f : ⊥ = omega arith in f))
 
 -- the last eight bytes tell what is left from k on, which is less: some of them are told twice
 module _ (s : List ℕ) (k w : ℕ) (inv : ZeroLeft s k) (d : k ≤ length s) (h : 8 ≤ length s) (l : length s - k < 8) (e : w ≡ eight_at s (length s - 8)) where

@@ -8,10 +8,11 @@ use crate::fields::{a_at, b_at, c_at, kind_at};
 use crate::kinds::{has_room, is_before, is_next, shape_of};
 use crate::origins::{allowed, is_free, named_good, named_zero};
 use crate::text::first_good;
-use crate::{CountStep, Counts, Found, Shape, Slot, Table};
-use basis::{get16, wide16};
+use crate::{Counts, Refusal, Shape, Slot, Table};
+use basis::get;
 
 // A field by itself: "Unused fields are 0", origins are 0 to 5.
+#[tactic(auto, using(crate::specs::Pass::field_named), unfolding(crate::specs::Pass::field_pass))]
 fn field_good(file: &[u8], i: usize, s: Slot, x: u16) -> bool
     ensures { result ≡ field_pass s (at (records_of file.now) i) x }
 {
@@ -30,6 +31,7 @@ fn field_good(file: &[u8], i: usize, s: Slot, x: u16) -> bool
 }
 
 // 3: byte 1, the text and each field by itself.
+#[tactic(auto, using(basis::specs::Laws::Guard::guards), unfolding(crate::specs::Pass::shape_pass))]
 fn shape_good(file: &[u8], i: usize, s: Shape) -> bool
     ensures { result ≡ shape_pass s (at (records_of file.now) i) }
 {
@@ -53,6 +55,7 @@ fn shape_good(file: &[u8], i: usize, s: Shape) -> bool
 }
 
 // A field of a record of table t against the numbers given so far; b is the record's field b.
+#[tactic(auto, unfolding(crate::specs::Pass::number_pass))]
 fn number_good(c: Counts, m: &[u16], t: Table, s: Slot, b: u16, x: u16) -> bool
     ensures { result ≡ number_pass c m.now t s b x }
 {
@@ -68,6 +71,7 @@ fn number_good(c: Counts, m: &[u16], t: Table, s: Slot, b: u16, x: u16) -> bool
 }
 
 // 4: "own number not the next, undefined reference, second record 8".
+#[tactic(auto, using(basis::specs::Laws::Guard::guards), unfolding(crate::specs::Pass::numbers_pass))]
 fn numbers_good(file: &[u8], i: usize, c: Counts, m: &[u16], s: Shape) -> bool
     ensures { result ≡ numbers_pass c m.now s (at (records_of file.now) i) }
 {
@@ -88,13 +92,15 @@ fn numbers_good(file: &[u8], i: usize, c: Counts, m: &[u16], s: Shape) -> bool
 }
 
 // The origin in a variable's mark.
+#[tactic(auto, unfolding(crate::specs::Pass::mark_origin))]
 pub fn mark_origin(m: &[u16], x: u16) -> u16
     ensures { (result ≡ mark_origin m.now x) × (result < 8) }
 {
-    let v = wide16(x);
-    get16(m, v) % 8
+    let v = usize::from(x);
+    get(m, v) % 8
 }
 
+#[tactic(auto, unfolding(crate::specs::Pass::origin_pass))]
 fn origin_good(m: &[u16], s: Slot, x: u16) -> bool
     ensures { result ≡ origin_pass m.now s x }
 {
@@ -113,6 +119,7 @@ fn origin_good(m: &[u16], s: Slot, x: u16) -> bool
 }
 
 // 5: "origin not allowed in its slot".
+#[tactic(auto, using(basis::specs::Laws::Guard::guards), unfolding(crate::specs::Pass::origins_pass))]
 fn origins_good(file: &[u8], i: usize, m: &[u16], s: Shape) -> bool
     ensures { result ≡ origins_pass m.now s (at (records_of file.now) i) }
 {
@@ -132,33 +139,34 @@ fn origins_good(file: &[u8], i: usize, m: &[u16], s: Shape) -> bool
 }
 
 // A record of a known kind.
-fn admit(file: &[u8], i: usize, c: Counts, m: &[u16], s: Shape) -> CountStep
+#[tactic(auto, using(basis::specs::Laws::Guard::guards), unfolding(crate::specs::Pass::admit_pass))]
+fn admit(file: &[u8], i: usize, c: Counts, m: &[u16], s: Shape) -> Result<Table, Refusal>
     ensures { result ≡ admit_pass c m.now s (at (records_of file.now) i) }
 {
     let t = s.table;
     if !shape_good(file, i, s) {
-        return CountStep::No(3);
+        return Err(Refusal::BadShape);
     }
     if !has_room(t, c) {
-        return CountStep::No(6);
+        return Err(Refusal::TableFull);
     }
     if !numbers_good(file, i, c, m, s) {
-        return CountStep::No(4);
+        return Err(Refusal::BadNumber);
     }
     if !origins_good(file, i, m, s) {
-        return CountStep::No(5);
+        return Err(Refusal::BadOrigin);
     }
-    CountStep::Next(t)
+    Ok(t)
 }
 
 // Record i of the file: the table that it goes into, or its refusal.
-pub fn check_record(file: &[u8], i: usize, c: Counts, m: &[u16]) -> CountStep
+#[tactic(auto, unfolding(crate::specs::Pass::check_pass))]
+pub fn check_record(file: &[u8], i: usize, c: Counts, m: &[u16]) -> Result<Table, Refusal>
     ensures { result ≡ check_pass c m.now (at (records_of file.now) i) }
 {
     let kind = kind_at(file, i);
-    let f = shape_of(kind);
-    let Found::Known(s) = f else {
-        return CountStep::No(2);
+    let Some(s) = shape_of(kind) else {
+        return Err(Refusal::UnknownKind);
     };
     admit(file, i, c, m, s)
 }

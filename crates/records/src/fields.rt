@@ -5,9 +5,8 @@ ghost use Rattle.records.specs.Tables.{at};
 ghost use Rattle.records.specs.Read.{rec_text};
 ghost use Rattle.records.specs.Cut.{byte_in, word_in};
 
-use basis::wide;
-
 // Byte k of record i.
+#[tactic(auto, using(crate::specs::Cut::byte_in_lem, crate::specs::Cut::byte_past))]
 fn byte_in(file: &[u8], i: usize, k: usize) -> u8
     requires { k < 32 }
     ensures { result ≡ byte_in file.now i k }
@@ -20,24 +19,17 @@ fn byte_in(file: &[u8], i: usize, k: usize) -> u8
     }
 }
 
-// A byte as half of a 16-bit number.
-fn half(x: u8) -> u16
-    ensures { (result ≡ x) × (result < 256) }
-{
-    x as u16
-}
-
 // The 16-bit number at byte k of record i, the lower byte first.
+#[tactic(auto, unfolding(crate::specs::Cut::word_in))]
 fn word_in(file: &[u8], i: usize, k: usize) -> u16
     requires { k + 1 < 32 }
     ensures { result ≡ word_in file.now i k }
 {
-    let low = half(byte_in(file, i, k));
-    let high = half(byte_in(file, i, k + 1));
-    low + 256 * high
+    u16::from_le_bytes([byte_in(file, i, k), byte_in(file, i, k + 1)])
 }
 
 // "Byte 0 kind"
+#[tactic(auto, using(crate::specs::Cut::kind_is))]
 pub fn kind_at(file: &[u8], i: usize) -> u8
     ensures { result ≡ (at (records_of file.now) i).kind }
 {
@@ -45,6 +37,7 @@ pub fn kind_at(file: &[u8], i: usize) -> u8
 }
 
 // "byte 1 text length or flag"
+#[tactic(auto, using(crate::specs::Cut::first_is))]
 pub fn first_at(file: &[u8], i: usize) -> u8
     ensures { result ≡ (at (records_of file.now) i).first }
 {
@@ -52,18 +45,21 @@ pub fn first_at(file: &[u8], i: usize) -> u8
 }
 
 // "bytes 2 to 7 fields a, b, c"
+#[tactic(auto, using(crate::specs::Cut::a_is))]
 pub fn a_at(file: &[u8], i: usize) -> u16
     ensures { result ≡ (at (records_of file.now) i).a }
 {
     word_in(file, i, 2)
 }
 
+#[tactic(auto, using(crate::specs::Cut::b_is))]
 pub fn b_at(file: &[u8], i: usize) -> u16
     ensures { result ≡ (at (records_of file.now) i).b }
 {
     word_in(file, i, 4)
 }
 
+#[tactic(auto, using(crate::specs::Cut::c_is))]
 pub fn c_at(file: &[u8], i: usize) -> u16
     ensures { result ≡ (at (records_of file.now) i).c }
 {
@@ -71,13 +67,14 @@ pub fn c_at(file: &[u8], i: usize) -> u16
 }
 
 // "The text of a record is handed out as that part of the lent file".
+#[tactic(auto, using(crate::specs::Cut::text_short, crate::specs::Cut::text_long, crate::specs::Cut::text_none))]
 pub fn text_at(file: &[u8], i: usize) -> &[u8]
     ensures { result.now ≡ rec_text (at (records_of file.now) i) }
 {
     if file.len() / 32 <= i {
         return &file[0..0];
     }
-    let n = wide(first_at(file, i));
+    let n = usize::from(first_at(file, i));
     let a = 32 * i + 8;
     if 24 < n {
         let e = 32 * i + 32;
@@ -88,6 +85,7 @@ pub fn text_at(file: &[u8], i: usize) -> &[u8]
 }
 
 // The text's bytes from byte b on, used or not.
+#[tactic(auto, using(crate::specs::Cut::rest_none, crate::specs::Cut::text_rest))]
 pub fn rest_at(file: &[u8], i: usize, b: u8) -> &[u8]
     requires { b ≤ 24 }
     ensures { result.now ≡ drop b (at (records_of file.now) i).text }
@@ -95,7 +93,7 @@ pub fn rest_at(file: &[u8], i: usize, b: u8) -> &[u8]
     if file.len() / 32 <= i {
         return &file[0..0];
     }
-    let n = wide(b);
+    let n = usize::from(b);
     let a = 32 * i + 8 + n;
     let e = 32 * i + 32;
     &file[a..e]

@@ -1,46 +1,46 @@
 // The table of kinds, and the counts of the nine tables.
-ghost use Rattle.std.specs.Prelude.{◌≡◌, ◌+◌};
+ghost use Rattle.std.specs.Prelude.{◌≡◌, ◌+◌, Some};
 ghost use Rattle.records.specs.Pass.{found_at, count_pass, limit_pass, with_pass, is_next, is_before, has_room, more_of};
 
-use crate::{Allowed, Counts, First, Found, Shape, Slot, Table};
-use basis::wide16;
+use crate::{Allowed, Counts, First, Shape, Slot, Table};
 
 // A row of the table.
-fn row(table: Table, first: First, a: Slot, b: Slot, c: Slot) -> Found
-    ensures { result ≡ Found.Known (record { table = table; first = first; a = a; b = b; c = c }) }
+fn row(table: Table, first: First, a: Slot, b: Slot, c: Slot) -> Option<Shape>
+    ensures { result ≡ Some (record { table = table; first = first; a = a; b = b; c = c }) }
 {
-    Found::Known(Shape {
-        table: table,
-        first: first,
-        a: a,
-        b: b,
-        c: c,
+    Some(Shape {
+        table,
+        first,
+        a,
+        b,
+        c,
     })
 }
 
 // A kind with an own number and a text.
-fn texted(t: Table, b: Slot) -> Found
-    ensures { result ≡ Found.Known (record { table = t; first = First.Length; a = Slot.Own; b = b; c = Slot.Unused }) }
+fn texted(t: Table, b: Slot) -> Option<Shape>
+    ensures { result ≡ Some (record { table = t; first = First.Length; a = Slot.Own; b = b; c = Slot.Unused }) }
 {
     row(t, First::Length, Slot::Own, b, Slot::Unused)
 }
 
 // A kind with neither text nor flag.
-fn plain(t: Table, a: Slot, b: Slot, c: Slot) -> Found
-    ensures { result ≡ Found.Known (record { table = t; first = First.Unused; a = a; b = b; c = c }) }
+fn plain(t: Table, a: Slot, b: Slot, c: Slot) -> Option<Shape>
+    ensures { result ≡ Some (record { table = t; first = First.Unused; a = a; b = b; c = c }) }
 {
     row(t, First::Unused, a, b, c)
 }
 
 // A kind of clause.
-fn clause(a: Slot, b: Slot, c: Slot) -> Found
-    ensures { result ≡ Found.Known (record { table = Table.Clauses; first = First.Flag; a = a; b = b; c = c }) }
+fn clause(a: Slot, b: Slot, c: Slot) -> Option<Shape>
+    ensures { result ≡ Some (record { table = Table.Clauses; first = First.Flag; a = a; b = b; c = c }) }
 {
     row(Table::Clauses, First::Flag, a, b, c)
 }
 
 // The shape of a kind: "Tables (limit)", "Clauses", "Origins allowed".
-pub fn shape_of(kind: u8) -> Found
+#[tactic(auto, using(crate::specs::Pass::at_kind, crate::specs::Pass::at_none), unfolding(crate::specs::Shapes::shape_of))]
+pub fn shape_of(kind: u8) -> Option<Shape>
     ensures { result ≡ found_at kind }
 {
     let none = Slot::Unused;
@@ -75,11 +75,12 @@ pub fn shape_of(kind: u8) -> Found
         23 => clause(parent, aux, set),
         24 => clause(solv, aux, set),
         25 => clause(any, any, none),
-        _ => Found::Unknown,
+        _ => None,
     }
 }
 
 // "Tables (limit)"
+#[tactic(auto, unfolding(crate::specs::Pass::limit_pass))]
 fn limit_of(t: Table) -> usize
     ensures { result ≡ limit_pass t }
 {
@@ -97,6 +98,7 @@ fn limit_of(t: Table) -> usize
 }
 
 // How many records a table has.
+#[tactic(auto, unfolding(crate::specs::Pass::count_pass))]
 fn count_of(t: Table, c: Counts) -> usize
     ensures { result ≡ count_pass t c }
 {
@@ -114,6 +116,7 @@ fn count_of(t: Table, c: Counts) -> usize
 }
 
 // The counts with another number for one table.
+#[tactic(auto, unfolding(crate::specs::Pass::with_pass))]
 fn with_count(t: Table, c: Counts, n: usize) -> Counts
     ensures { result ≡ with_pass t c n }
 {
@@ -159,20 +162,23 @@ fn with_count(t: Table, c: Counts, n: usize) -> Counts
 }
 
 // x is the next number of a table.
+#[tactic(auto, using(crate::specs::Pass::next_is))]
 pub fn is_next(t: Table, c: Counts, x: u16) -> bool
     ensures { result ≡ is_next t c x }
 {
-    wide16(x) == count_of(t, c)
+    usize::from(x) == count_of(t, c)
 }
 
 // x is the number of an earlier record of a table.
+#[tactic(auto, using(crate::specs::Pass::before_is))]
 pub fn is_before(t: Table, c: Counts, x: u16) -> bool
     ensures { result ≡ is_before t c x }
 {
-    wide16(x) < count_of(t, c)
+    usize::from(x) < count_of(t, c)
 }
 
 // A table is not full.
+#[tactic(auto, using(crate::specs::Pass::room_is))]
 pub fn has_room(t: Table, c: Counts) -> bool
     ensures { result ≡ has_room t c }
 {
@@ -180,6 +186,7 @@ pub fn has_room(t: Table, c: Counts) -> bool
 }
 
 // One record more in a table. Where there is room the test never fails; it keeps the sum from wrapping.
+#[tactic(auto, using(basis::specs::Laws::Guard::guards), unfolding(crate::specs::Pass::more_of))]
 pub fn more(t: Table, c: Counts) -> Counts
     ensures { result ≡ more_of t c }
 {

@@ -1,6 +1,6 @@
 // The record file (document 01, "The record file", "Refusal numbers"): the shapes of the records, and one record. `fields` reads it, and
 // the step over the tables before it is public: `check` answers it, a table or a refusal from 2 to 6, `pass` also notes its mark,
-// specs/Laws/CountStep.antt says what it is. The whole file is read in `arms`.
+// specs/Laws/Step.antt says what it is. The whole file is read in `arms`.
 #![tactic(auto)]
 
 pub mod check;
@@ -10,8 +10,11 @@ pub mod origins;
 pub mod pass;
 pub mod text;
 
+ghost use Rattle.std.specs.Prelude.{◌≡◌};
+ghost use Rattle.records.specs.Pass.{number_of};
+
 // The nine tables.
-#[derive(Clone, Copy)]
+#[derive(Clone, Copy, PartialEq, Eq)]
 pub enum Table {
     Names,
     Solvables,
@@ -79,11 +82,37 @@ pub struct Counts {
     pub clauses: usize,
 }
 
-// What reading a file answers: the size of its tables, or a refusal of document 01 with its place.
+// Why a record is refused (document 01, "Refusal numbers").
+#[derive(Clone, Copy, PartialEq, Eq)]
+pub enum Refusal {
+    UnknownKind,
+    BadShape,
+    BadNumber,
+    BadOrigin,
+    TableFull,
+}
+
+impl Refusal {
+    // Its number in document 01.
+    pub fn number(self) -> u64
+        ensures { result ≡ number_of self }
+    {
+        match self {
+            Refusal::UnknownKind => 2,
+            Refusal::BadShape => 3,
+            Refusal::BadNumber => 4,
+            Refusal::BadOrigin => 5,
+            Refusal::TableFull => 6,
+        }
+    }
+}
+
+// A refusal of document 01 by its number, with its place.
+// Kept: what may not change: `answer_of`, `bad` and every definition of a refusal have document 01's number; `Refusal` gives it.
 #[derive(Clone, Copy)]
-pub enum ReadAnswer {
-    Accepted(Counts),
-    Refused { number: u64, place: u64 },
+pub struct Refused {
+    pub number: u64,
+    pub place: u64,
 }
 
 // What a variable stands for (conflict.rs: `VariableOrigin`), with the number that it names.
@@ -110,18 +139,4 @@ pub enum Clause {
     ConstrainsParent(u16, u16, u16),
     ConstrainsExcluded(u16, u16, u16),
     AnyOf(u16, u16),
-}
-
-// The shape of a kind, if the kind is one.
-#[derive(Clone, Copy)]
-pub enum Found {
-    Known(Shape),
-    Unknown,
-}
-
-// What one record makes: a record more in its table, or a refusal.
-#[derive(Clone, Copy)]
-pub enum CountStep {
-    Next(Table),
-    No(u64),
 }

@@ -4,9 +4,10 @@ ghost use Rattle.records.specs.Pass.{named_zero, named_pass, free_pass, allows_p
 
 use crate::kinds::is_before;
 use crate::{Allowed, Counts, Table};
-use basis::{get16, wide16};
+use basis::get;
 
 // "c is 0 for 0, 3, 4, 5", b being the origin.
+#[tactic(auto, using(crate::specs::Pass::zero_solvable, crate::specs::Pass::zero_name, crate::specs::Pass::zero_other))]
 pub fn named_zero(b: u16, x: u16) -> bool
     ensures { result ≡ named_zero b x }
 {
@@ -20,6 +21,7 @@ pub fn named_zero(b: u16, x: u16) -> bool
 }
 
 // What a variable of origin b names.
+#[tactic(auto, using(crate::specs::Pass::named_solvable, crate::specs::Pass::named_name, crate::specs::Pass::named_none))]
 pub fn named_good(c: Counts, b: u16, x: u16) -> bool
     ensures { result ≡ named_pass c b x }
 {
@@ -33,17 +35,19 @@ pub fn named_good(c: Counts, b: u16, x: u16) -> bool
 }
 
 // A variable that no record 8 names yet.
+#[tactic(auto, using(basis::specs::Laws::Guard::guards), unfolding(crate::specs::Pass::free_pass))]
 pub fn is_free(c: Counts, m: &[u16], x: u16) -> bool
     ensures { result ≡ free_pass c m.now x }
 {
     if !is_before(Table::Variables, c, x) {
         return false;
     }
-    let v = wide16(x);
-    get16(m, v) < 8
+    let v = usize::from(x);
+    get(m, v) < 8
 }
 
 // "Origins allowed"
+#[tactic(auto, using(crate::specs::Pass::allows_low, crate::specs::Pass::allows_gate), unfolding(crate::specs::Pass::allows_pass))]
 pub fn allowed(o: Allowed, v: u16) -> bool
     ensures { result ≡ allows_pass o v }
 {

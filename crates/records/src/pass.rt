@@ -7,8 +7,8 @@ ghost use Rattle.records.specs.Pass.{mark_origin, noted, turn_pass, marks_pass};
 use crate::check::{check_record, mark_origin};
 use crate::fields::{a_at, b_at};
 use crate::kinds::more;
-use crate::{CountStep, Counts, ReadAnswer, Table};
-use basis::{put16, wide16};
+use crate::{Counts, Refused, Table};
+use basis::put;
 
 // A variable: its mark is its origin.
 fn note_variable(file: &[u8], i: usize, m: &mut [u16])
@@ -16,8 +16,8 @@ fn note_variable(file: &[u8], i: usize, m: &mut [u16])
 {
     let a = a_at(file, i);
     let b = b_at(file, i);
-    let v = wide16(a);
-    put16(m, v, b);
+    let v = usize::from(a);
+    put(m, v, b);
 }
 
 // A record 8: 8 more in the mark of its variable.
@@ -27,45 +27,39 @@ fn note_assigned(file: &[u8], i: usize, m: &mut [u16])
 {
     let a = a_at(file, i);
     let o = mark_origin(m, a);
-    let v = wide16(a);
-    put16(m, v, o + 8);
+    let v = usize::from(a);
+    put(m, v, o + 8);
 }
 
 // What record i, of table t, does to the marks.
+#[tactic(auto, unfolding(crate::specs::Pass::noted))]
 pub fn note(file: &[u8], i: usize, t: Table, m: &mut [u16])
     ensures { m.new ≡ noted t (at (records_of file.now) i) m.old }
 {
     match t {
-        Table::Names => {}
-        Table::Solvables => {}
-        Table::VersionSets => {}
-        Table::Requirements => {}
-        Table::Candidates => {}
-        Table::Reasons => {}
         Table::Variables => {
             note_variable(file, i, m);
         }
         Table::Assigned => {
             note_assigned(file, i, m);
         }
-        Table::Clauses => {}
+        _ => {}
     }
 }
 
 // Record i: the counts after it, with its mark noted, or its refusal.
-pub fn turn(file: &[u8], i: usize, c: Counts, m: &mut [u16]) -> ReadAnswer
+pub fn turn(file: &[u8], i: usize, c: Counts, m: &mut [u16]) -> Result<Counts, Refused>
     ensures value { result ≡ turn_pass c m.old (at (records_of file.now) i) i }
     ensures m_after { m.new ≡ marks_pass c m.old (at (records_of file.now) i) }
 {
-    let s = check_record(file, i, c, m);
-    match s {
-        CountStep::No(k) => ReadAnswer::Refused {
-            number: k,
+    match check_record(file, i, c, m) {
+        Err(k) => Err(Refused {
+            number: k.number(),
             place: i as u64,
-        },
-        CountStep::Next(t) => {
+        }),
+        Ok(t) => {
             note(file, i, t, m);
-            ReadAnswer::Accepted(more(t, c))
+            Ok(more(t, c))
         }
     }
 }

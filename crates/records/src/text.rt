@@ -11,25 +11,7 @@ use crate::fields::{first_at, rest_at, text_at};
 fn all_text(s: &[u8]) -> bool
     ensures { result ≡ all_text s.now }
 {
-    let mut k = 0;
-    while k < s.len() {
-        let b = s[k];
-        if b < 32 {
-            return false;
-        }
-        if 126 < b {
-            return false;
-        }
-        k += 1;
-    }
-    true
-}
-
-// A byte as a part of a 64-bit number.
-fn part(x: u8) -> u64
-    ensures { (result ≡ x) × (result < 256) }
-{
-    x as u64
+    s.iter().all(|b| 32 <= *b && *b <= 126)
 }
 
 // The eight bytes from `at` on as one number, the lowest byte first: the compiler makes one load of it.
@@ -37,43 +19,34 @@ fn eight(s: &[u8], at: usize) -> u64
     requires { at + 8 ≤ length s.now }
     ensures { result ≡ eight_at s.now at }
 {
-    part(s[at])
-        + 256 * part(s[at + 1])
-        + 65536 * part(s[at + 2])
-        + 16777216 * part(s[at + 3])
-        + 4294967296 * part(s[at + 4])
-        + 1099511627776 * part(s[at + 5])
-        + 281474976710656 * part(s[at + 6])
-        + 72057594037927936 * part(s[at + 7])
+    u64::from_le_bytes([
+        s[at],
+        s[at + 1],
+        s[at + 2],
+        s[at + 3],
+        s[at + 4],
+        s[at + 5],
+        s[at + 6],
+        s[at + 7],
+    ])
 }
 
 // Each byte is 0: eight at a time, the rest by the last eight, or one by one where there are fewer.
 fn all_zero(s: &[u8]) -> bool
     ensures { result ≡ all_zero s.now }
 {
-    let mut k = 0;
-    while 8 <= s.len() - k {
-        let w = eight(s, k);
-        if 0 < w {
-            return false;
-        }
-        k += 8;
+    let (eights, rest) = s.as_chunks::<8>();
+    if !eights.iter().all(|w| u64::from_le_bytes(*w) == 0) {
+        return false;
     }
     if 8 <= s.len() {
-        let w = eight(s, s.len() - 8);
-        return w < 1;
+        return eight(s, s.len() - 8) == 0;
     }
-    while k < s.len() {
-        let b = s[k];
-        if 0 < b {
-            return false;
-        }
-        k += 1;
-    }
-    true
+    rest.iter().all(|b| *b == 0)
 }
 
 // Each byte of a whole text is 0.
+#[tactic(auto, using(crate::specs::Text::first_used, crate::specs::Text::second_used, crate::specs::Text::third_used))]
 fn none_used(s: &[u8]) -> bool
     ensures { result ≡ all_zero s.now }
 {
@@ -93,6 +66,7 @@ fn none_used(s: &[u8]) -> bool
 }
 
 // No byte of the text is used.
+#[tactic(auto, using(crate::specs::Text::rest_zero_is))]
 fn blank(file: &[u8], i: usize) -> bool
     ensures { result ≡ rest_zero (at (records_of file.now) i) 0 }
 {
@@ -101,6 +75,7 @@ fn blank(file: &[u8], i: usize) -> bool
 }
 
 // No byte of the text is used from byte b on.
+#[tactic(auto, using(crate::specs::Text::rest_zero_is))]
 fn rest_zero(file: &[u8], i: usize, b: u8) -> bool
     requires { b ≤ 24 }
     ensures { result ≡ rest_zero (at (records_of file.now) i) b }
@@ -110,6 +85,7 @@ fn rest_zero(file: &[u8], i: usize, b: u8) -> bool
 }
 
 // "Text is 1 to 24 bytes, each from 32 to 126", "zero beyond its length".
+#[tactic(auto, using(basis::specs::Laws::Guard::guards, crate::specs::Text::low_no, crate::specs::Text::low_yes), unfolding(crate::specs::Text::text_pass))]
 pub fn text_good(file: &[u8], i: usize) -> bool
     ensures { result ≡ text_pass (at (records_of file.now) i) }
 {
@@ -128,6 +104,7 @@ pub fn text_good(file: &[u8], i: usize) -> bool
 }
 
 // A flag and no text.
+#[tactic(auto, using(basis::specs::Laws::Guard::guards), unfolding(crate::specs::Text::first_pass))]
 pub fn flagged(file: &[u8], i: usize) -> bool
     ensures { result ≡ first_pass First.Flag (at (records_of file.now) i) }
 {
@@ -138,6 +115,7 @@ pub fn flagged(file: &[u8], i: usize) -> bool
 }
 
 // Neither flag nor text.
+#[tactic(auto, using(basis::specs::Laws::Guard::guards), unfolding(crate::specs::Text::first_pass))]
 pub fn unmarked(file: &[u8], i: usize) -> bool
     ensures { result ≡ first_pass First.Unused (at (records_of file.now) i) }
 {
@@ -148,6 +126,7 @@ pub fn unmarked(file: &[u8], i: usize) -> bool
 }
 
 // Byte 1 and the text are what the kind asks for.
+#[tactic(auto, unfolding(crate::specs::Text::first_pass))]
 pub fn first_good(file: &[u8], i: usize, f: First) -> bool
     ensures { result ≡ first_pass f (at (records_of file.now) i) }
 {

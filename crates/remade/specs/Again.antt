@@ -1,14 +1,15 @@
 -- A recorded call made again, by its number.
 use Rattle.std.specs.Prelude.{◌≡◌, refl, cond, List, ℕ, zero, suc, ◌-◌, ◌≤◌, ◌<◌, leb}
-use Rattle.std.proofs.Common.{sym, ap, ◌∙◌, arith, le-leb}
+use Rattle.std.proofs.Common.{sym, ◌∙◌, arith, le-leb}
 use Rattle.std.proofs.Math.Decide.{dec_le}
 use Rattle.std.proofs.lemmas.Bool.{lt-leb}
 use Rattle.calls.specs.Says.{Says}
 use Rattle.calls.specs.Plain.{plain_option}
 use Rattle.calls.specs.Air.{SaysAir}
 use Rattle.again.specs.declared.Seen.{Seen}
-use Rattle.again.specs.Mends.{mends_in, mended_in, replaced_in}
+use Rattle.again.specs.Mends.{mends_in, mended_in}
 use Rattle.again.specs.Seen.{no_call, blank, blank_numbers}
+use Rattle.remade.specs.declared.rooms.RoomCall.TheVariants as R
 use Rattle.remade.specs.Lists.{checked_in, listed_in, edged_in}
 use Rattle.remade.specs.Room.{RoomDrawn, RoomAnswers, RoomShown, told_one, aired_one, drew_one}
 use Rattle.remade.specs.Later.{FromTen, from_ten_one}
@@ -100,15 +101,15 @@ module _ (file : List ℕ) (call opt n : ℕ) (r : Seen) where
   unfolding ToNine
   at_check q e = rw q e
 
-  pub at_explain : call ≡ 1 → RoomShown (RoomAnswers file 0 opt 0 0) (blank n) r → ToNine file call opt n r
+  pub at_explain : call ≡ 1 → RoomShown (RoomAnswers file (R.Explain opt)) (blank n) r → ToNine file call opt n r
   unfolding ToNine RoomAnswers
   at_explain q e = rw q e
 
-  pub at_plain : call ≡ 2 → RoomShown (RoomAnswers file 1 0 0 0) (blank n) r → ToNine file call opt n r
+  pub at_plain : call ≡ 2 → RoomShown (RoomAnswers file R.Plain) (blank n) r → ToNine file call opt n r
   unfolding ToNine RoomAnswers
   at_plain q e = rw q e
 
-  pub at_graph : call ≡ 3 → RoomShown (RoomAnswers file 5 opt 0 0) (blank n) r → ToNine file call opt n r
+  pub at_graph : call ≡ 3 → RoomShown (RoomAnswers file (R.Graph opt)) (blank n) r → ToNine file call opt n r
   unfolding ToNine RoomAnswers
   at_graph q e = rw q e
 
@@ -120,11 +121,11 @@ module _ (file : List ℕ) (call opt n : ℕ) (r : Seen) where
   unfolding ToNine
   at_edges q e = rw q e
 
-  pub at_second : call ≡ 6 → RoomShown (RoomAnswers file 2 opt 0 0) (blank n) r → ToNine file call opt n r
+  pub at_second : call ≡ 6 → RoomShown (RoomAnswers file (R.Second opt)) (blank n) r → ToNine file call opt n r
   unfolding ToNine RoomAnswers
   at_second q e = rw q e
 
-  pub at_air : call ≡ 7 → RoomShown (RoomAnswers file 3 opt 0 0) (blank n) r → ToNine file call opt n r
+  pub at_air : call ≡ 7 → RoomShown (RoomAnswers file (R.Air opt)) (blank n) r → ToNine file call opt n r
   unfolding ToNine RoomAnswers
   at_air q e = rw q e
 

@@ -4,6 +4,7 @@ use Rattle.std.proofs.Common.{sym, ◌∙◌}
 use Rattle.again.specs.declared.Seen.{Seen}
 use Rattle.again.specs.Seen.{no_call, blank}
 use Rattle.again.specs.Changes.{held_in, changes_in}
+use Rattle.remade.specs.declared.rooms.RoomCall.TheVariants as R
 use Rattle.remade.specs.Room.{RoomMade, RoomAnswers, RoomShown, made_one}
 
 -- the call with number k + 10, on a room of n bytes: read the settings, by a reader of version opt; change setting s to t, by a writer
@@ -33,7 +34,7 @@ module _ (file : List ℕ) (k opt s t n : ℕ) (r : Seen) where
   unfolding FromTen
   at_changed q e = rw q e
 
-  pub at_wrote : k ≡ 2 → RoomShown (RoomAnswers file 7 0 0 0) (blank n) r → FromTen file k opt s t n r
+  pub at_wrote : k ≡ 2 → RoomShown (RoomAnswers file R.Write) (blank n) r → FromTen file k opt s t n r
   unfolding FromTen RoomAnswers
   at_wrote q e = rw q e
 

@@ -4,6 +4,7 @@ use Rattle.std.proofs.Common.{sym, ◌∙◌}
 use Rattle.calls.specs.WhatIf.{SaysWhatIf}
 use Rattle.again.specs.declared.Seen.{Seen}
 use Rattle.again.specs.Seen.{no_call, blank}
+use Rattle.remade.specs.declared.rooms.RoomCall.TheVariants as R
 use Rattle.remade.specs.Room.{RoomHung, RoomAnswers, RoomShown, told_if_one, hung_one}
 use Rattle.remade.specs.Asked.{asks_in}
 use Rattle.again.specs.Walls.{blank_wide, spots_in, ends_in}
@@ -36,11 +37,11 @@ module _ (file : List ℕ) (k opt s t n : ℕ) (r : Seen) where
   unfolding FromThirteen
   at_asked q e = rw q e
 
-  pub at_told_if : k ≡ 1 → RoomShown (RoomAnswers file 4 opt s t) (blank n) r → FromThirteen file k opt s t n r
+  pub at_told_if : k ≡ 1 → RoomShown (RoomAnswers file (R.WhatIf s t opt)) (blank n) r → FromThirteen file k opt s t n r
   unfolding FromThirteen RoomAnswers
   at_told_if q e = rw q e
 
-  pub at_hung : k ≡ 2 → RoomShown (RoomAnswers file 6 0 0 0) (blank n) r → FromThirteen file k opt s t n r
+  pub at_hung : k ≡ 2 → RoomShown (RoomAnswers file R.Wall) (blank n) r → FromThirteen file k opt s t n r
   unfolding FromThirteen RoomAnswers
   at_hung q e = rw q e
 

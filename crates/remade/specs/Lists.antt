@@ -16,7 +16,7 @@ use Rattle.calls.specs.Nodes.{nodes_by, nodes_answer, list_over, nodes_left, ans
 use Rattle.calls.specs.Laws.Nodes.{answer_counted}
 use Rattle.charts.specs.Edges.{edges_answer, edges_left}
 use Rattle.again.specs.declared.Seen.{Seen}
-use Rattle.again.specs.Sum.{sum_from, sum_of, sum_entries, entries_at}
+use Rattle.again.specs.Sum.{sum_of, sum_entries, entries_at}
 use Rattle.again.specs.Seen.{seen_of, blank_numbers, take_blank}
 
 -- an entry of a lent list before a call: 165 in every byte of its word
@@ -118,5 +118,5 @@ unfolding listed_in nodes_answer nodes_left
 listed_in_lem file n c ws L a s r e l p q = nodes_shown (nodes_of file) n c ws L a s r e l p q
 
 pub checked_in_lem : (file : List ℕ) (a : Answer) (r : Seen) → a ≡ check_of file → r ≡ seen_of a 0 → r ≡ checked_in file
-unfolding checked_in sum_from
+unfolding checked_in
 checked_in_lem file a r e q = rw (q, e)

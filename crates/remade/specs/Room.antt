@@ -1,5 +1,5 @@
 -- What a recorded call that is lent a room alone shows when it is made again.
-use Rattle.std.specs.Prelude.{◌≡◌, refl, List, ℕ, zero, suc, ◌≤◌, length, take, replicate}
+use Rattle.std.specs.Prelude.{◌≡◌, List, ℕ, ◌≤◌, length, take, replicate}
 use Rattle.std.proofs.Common.{sym, ◌∙◌}
 use Rattle.texts.specs.Wrote.{over}
 use Rattle.calls.specs.declared.Answer.{Answer}
@@ -15,6 +15,8 @@ use Rattle.charts.specs.Wall.{export_file}
 use Rattle.calls.specs.Write.{written_answer}
 use Rattle.writing.specs.Write.{write_answer, write_room}
 use Rattle.again.specs.declared.Seen.{Seen}
+use Rattle.remade.specs.declared.rooms.RoomCall.{RoomCall}
+use Rattle.remade.specs.declared.rooms.RoomCall.TheVariants as R
 use Rattle.again.specs.Sum.{sum_of}
 use Rattle.again.specs.Seen.{seen_of, answer_in, blank, take_blank, both_one}
 
@@ -35,15 +37,15 @@ pub record RoomMade (rows out left : List ℕ) (a : Answer) : Type 0 where
 
 -- the eight calls: explain, explain plainly, explain by edition 2, explain in the air profile, explain with one more exclusion, of solvable
 -- s for reason t, draw, write the text of the wall display, write the file that the rows make
-unfoldable pub RoomAnswers : List ℕ → ℕ → ℕ → ℕ → ℕ → List ℕ → List ℕ → Answer → Type 0
-RoomAnswers file zero opt s t = Says 1 file opt
-RoomAnswers file (suc zero) opt s t = Says 1 file plain_option
-RoomAnswers file (suc (suc zero)) opt s t = Says 2 file opt
-RoomAnswers file (suc (suc (suc zero))) opt s t = SaysAir file opt
-RoomAnswers file (suc (suc (suc (suc zero)))) opt s t = SaysWhatIf file s t opt
-RoomAnswers file (suc (suc (suc (suc (suc zero))))) opt s t = RoomDrawn file opt
-RoomAnswers file (suc (suc (suc (suc (suc (suc zero)))))) opt s t = RoomHung file
-RoomAnswers file (suc (suc (suc (suc (suc (suc (suc k))))))) opt s t = RoomMade file
+unfoldable pub RoomAnswers : List ℕ → RoomCall → List ℕ → List ℕ → Answer → Type 0
+RoomAnswers file (R.Explain opt) = Says 1 file opt
+RoomAnswers file R.Plain = Says 1 file plain_option
+RoomAnswers file (R.Second opt) = Says 2 file opt
+RoomAnswers file (R.Air opt) = SaysAir file opt
+RoomAnswers file (R.WhatIf s t opt) = SaysWhatIf file s t opt
+RoomAnswers file (R.Graph opt) = RoomDrawn file opt
+RoomAnswers file R.Wall = RoomHung file
+RoomAnswers file R.Write = RoomMade file
 
 -- a call that does R with its room, in the room `out`: the answer, and the checksum of what it leaves there
 pub record RoomShown (R : List ℕ → List ℕ → Answer → Type 0) (out : List ℕ) (r : Seen) : Type 0 where
@@ -79,52 +81,44 @@ made_one rows = shown_one (RoomMade rows) (λ out left right a b A B. (A.says �
 
 -- ---- the ways through the code
 
-module _ (file : List ℕ) (k opt s t : ℕ) (out left : List ℕ) (a : Answer) where
-  pub by_explain : k ≡ 0 → Says 1 file opt out left a → RoomAnswers file k opt s t out left a
+module _ (file : List ℕ) (k : RoomCall) (out left : List ℕ) (a : Answer) where
+  pub by_explain : (opt : ℕ) → k ≡ R.Explain opt → Says 1 file opt out left a → RoomAnswers file k out left a
   unfolding RoomAnswers
-  by_explain q e = rw q e
+  by_explain opt q e = rw q e
 
-  pub by_plain : k ≡ 1 → Says 1 file plain_option out left a → RoomAnswers file k opt s t out left a
+  pub by_plain : k ≡ R.Plain → Says 1 file plain_option out left a → RoomAnswers file k out left a
   unfolding RoomAnswers
   by_plain q e = rw q e
 
-  pub by_second : k ≡ 2 → Says 2 file opt out left a → RoomAnswers file k opt s t out left a
+  pub by_second : (opt : ℕ) → k ≡ R.Second opt → Says 2 file opt out left a → RoomAnswers file k out left a
   unfolding RoomAnswers
-  by_second q e = rw q e
+  by_second opt q e = rw q e
 
-  pub by_air : k ≡ 3 → SaysAir file opt out left a → RoomAnswers file k opt s t out left a
+  pub by_air : (opt : ℕ) → k ≡ R.Air opt → SaysAir file opt out left a → RoomAnswers file k out left a
   unfolding RoomAnswers
-  by_air q e = rw q e
+  by_air opt q e = rw q e
 
-  pub by_asking : k ≡ 4 → SaysWhatIf file s t opt out left a → RoomAnswers file k opt s t out left a
+  pub by_asking : (s t opt : ℕ) → k ≡ R.WhatIf s t opt → SaysWhatIf file s t opt out left a → RoomAnswers file k out left a
   unfolding RoomAnswers
-  by_asking q e = rw q e
+  by_asking s t opt q e = rw q e
 
-  pub by_drawing : k ≡ 5 → a ≡ result_answer (draw_file file opt (length out)) → left ≡ over (draw_file file opt (length out)).text out
-      → RoomAnswers file k opt s t out left a
+  pub by_drawing : (opt : ℕ) → k ≡ R.Graph opt → a ≡ result_answer (draw_file file opt (length out)) → left ≡ over (draw_file file opt (length out)).text out
+      → RoomAnswers file k out left a
   unfolding RoomAnswers
-  by_drawing q e l = rw q (record { says = e; leaves = l })
+  by_drawing opt q e l = rw q (record { says = e; leaves = l })
 
-  pub by_hanging : k ≡ 6 → a ≡ result_answer (export_file file (length out)) → left ≡ over (export_file file (length out)).text out
-      → RoomAnswers file k opt s t out left a
+  pub by_hanging : k ≡ R.Wall → a ≡ result_answer (export_file file (length out)) → left ≡ over (export_file file (length out)).text out
+      → RoomAnswers file k out left a
   unfolding RoomAnswers
   by_hanging q e l = rw q (record { says = e; leaves = l })
 
-pub by_making : (file : List ℕ) (k opt s t : ℕ) (out left : List ℕ) (a : Answer) → a ≡ written_answer (write_answer file (length out)) → left ≡ write_room file out
-    → (k ≡ 0 → ⊥) → (k ≡ 1 → ⊥) → (k ≡ 2 → ⊥) → (k ≡ 3 → ⊥) → (k ≡ 4 → ⊥) → (k ≡ 5 → ⊥) → (k ≡ 6 → ⊥) → RoomAnswers file k opt s t out left a
-unfolding RoomAnswers
-by_making file zero opt s t out left a e l b c d f g h i = absurd (b refl)
-by_making file (suc zero) opt s t out left a e l b c d f g h i = absurd (c refl)
-by_making file (suc (suc zero)) opt s t out left a e l b c d f g h i = absurd (d refl)
-by_making file (suc (suc (suc zero))) opt s t out left a e l b c d f g h i = absurd (f refl)
-by_making file (suc (suc (suc (suc zero)))) opt s t out left a e l b c d f g h i = absurd (g refl)
-by_making file (suc (suc (suc (suc (suc zero))))) opt s t out left a e l b c d f g h i = absurd (h refl)
-by_making file (suc (suc (suc (suc (suc (suc zero)))))) opt s t out left a e l b c d f g h i = absurd (i refl)
-by_making file (suc (suc (suc (suc (suc (suc (suc k))))))) opt s t out left a e l b c d f g h i = record { says = e; leaves = l }
+  pub by_making : k ≡ R.Write → a ≡ written_answer (write_answer file (length out)) → left ≡ write_room file out → RoomAnswers file k out left a
+  unfolding RoomAnswers
+  by_making q e l = rw q (record { says = e; leaves = l })
 
-pub shown_in : (file : List ℕ) (k opt s t : ℕ) (out left : List ℕ) (a : Answer) (m : ℕ) (r : Seen) → RoomAnswers file k opt s t out left a → m ≡ sum_of left
-    → r ≡ seen_of a m → RoomShown (RoomAnswers file k opt s t) out r
-shown_in file k opt s t out left a m r A p q = rw q (record { left = left; does = A; sums = p })
+pub shown_in : (file : List ℕ) (k : RoomCall) (out left : List ℕ) (a : Answer) (m : ℕ) (r : Seen) → RoomAnswers file k out left a → m ≡ sum_of left
+    → r ≡ seen_of a m → RoomShown (RoomAnswers file k) out r
+shown_in file k out left a m r A p q = rw q (record { left = left; does = A; sums = p })
 
 pub shown_blank : (R : List ℕ → List ℕ → Answer → Type 0) (n : ℕ) (r : Seen) → RoomShown R (take n (replicate 65536 165)) r → n ≤ 65536 → RoomShown R (blank n) r
 shown_blank R n r S l = rw (take_blank {A = ℕ} 165 n 65536 l) at S

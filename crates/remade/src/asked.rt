@@ -7,6 +7,7 @@ use again::sums::sum_entries;
 use again::{Seen, joined, no_call};
 use lists::asked::ask_words;
 
+// Kept: no plainer: this differs from `early::list` in one call, and a closure that is lent the words needs clauses longer than it saves.
 // `ask_words` stands below `urzulempa_what_if` as `node_words` does below `urzulempa_nodes`.
 fn ask(file: &[u8], solvable: u64, reason: u64, n: usize) -> Seen
     requires { n ≤ 128 }

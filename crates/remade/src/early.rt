@@ -5,9 +5,9 @@ ghost use Rattle.remade.specs.Lists.{checked_in, listed_in, edged_in};
 ghost use Rattle.remade.specs.Again.{Listing, ToNine, edges_in};
 ghost use Rattle.calls.specs.Nodes.{answer_of};
 
-use crate::rooms::shown;
+use crate::rooms::{RoomCall, shown};
 use again::mends::{mend, replaced_in};
-use again::sums::{sum_entries, sum_numbers};
+use again::sums::{sum, sum_entries};
 use again::{Seen, joined, no_call};
 use calls::Answer;
 use lists::nodes::{Counted, node_words};
@@ -19,6 +19,7 @@ fn check(file: &[u8]) -> Seen
     joined(urzulempa_check(file), 0)
 }
 
+// Kept: no plainer: both types are of other crates, so that no `From` can stand here.
 pub fn counted(c: Counted) -> Answer
     ensures { result ≡ answer_of c }
 {
@@ -42,6 +43,7 @@ fn list(file: &[u8], n: usize) -> Seen
     joined(counted(c), s)
 }
 
+// Kept: the new form is no plainer: a test of the limit of this call alone, before its own arrays are made.
 fn listed(file: &[u8], n: usize) -> Seen
     ensures { Listing file.now n result }
 {
@@ -55,7 +57,7 @@ fn edged(file: &[u8], list: &mut [u16]) -> Seen
     ensures { result ≡ edged_in file.now list.old }
 {
     let a = urzulempa_edges(file, list);
-    joined(a, sum_numbers(list))
+    joined(a, sum(list))
 }
 
 fn edges(file: &[u8], n: usize) -> Seen
@@ -66,6 +68,7 @@ fn edges(file: &[u8], n: usize) -> Seen
     edged(file, &mut list[..n])
 }
 
+// Kept: the new form is no plainer: see `listed`.
 fn edges_in(file: &[u8], n: usize) -> Seen
     ensures { result ≡ edges_in file.now n }
 {
@@ -75,40 +78,23 @@ fn edges_in(file: &[u8], n: usize) -> Seen
     edges(file, n)
 }
 
+// Kept: what may not change: `Replayed` names a call by its number, as the recorded list does.
 // The call with that number, 0 to 9 (host/oracle/src/record.rs), on a room of n bytes, a list of n entries or one of n numbers.
 pub fn to_nine(file: &[u8], call: u64, option: u64, n: usize) -> Seen
     requires { n ≤ 65536 }
     ensures { ToNine file.now call option n result }
 {
-    if call == 0 {
-        return check(file);
+    match call {
+        0 => check(file),
+        1 => shown(file, RoomCall::Explain(option), n),
+        2 => shown(file, RoomCall::Plain, n),
+        3 => shown(file, RoomCall::Graph(option), n),
+        4 => listed(file, n),
+        5 => edges_in(file, n),
+        6 => shown(file, RoomCall::Second(option), n),
+        7 => shown(file, RoomCall::Air(option), n),
+        8 => mend(file, n),
+        9 => replaced_in(file, n),
+        _ => no_call(),
     }
-    if call == 1 {
-        return shown(file, 0, option, 0, 0, n);
-    }
-    if call == 2 {
-        return shown(file, 1, 0, 0, 0, n);
-    }
-    if call == 3 {
-        return shown(file, 5, option, 0, 0, n);
-    }
-    if call == 4 {
-        return listed(file, n);
-    }
-    if call == 5 {
-        return edges_in(file, n);
-    }
-    if call == 6 {
-        return shown(file, 2, option, 0, 0, n);
-    }
-    if call == 7 {
-        return shown(file, 3, option, 0, 0, n);
-    }
-    if call == 8 {
-        return mend(file, n);
-    }
-    if call == 9 {
-        return replaced_in(file, n);
-    }
-    no_call()
 }

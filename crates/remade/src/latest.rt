@@ -3,10 +3,11 @@ ghost use Rattle.std.specs.Prelude.{◌≤◌};
 ghost use Rattle.remade.specs.Latest.{FromThirteen};
 
 use crate::asked::asked;
-use crate::rooms::shown;
+use crate::rooms::{RoomCall, shown};
 use again::walls::{read_edges, read_nodes};
 use again::{Seen, no_call};
 
+// Kept: what may not change: `Replayed` names a call by its number, as the recorded list does.
 // The call with number `latest` + 13 (host/oracle/src/record.rs), on a room of n bytes, a list of n entries or one of n numbers.
 pub fn from_thirteen(
     file: &[u8],
@@ -19,20 +20,12 @@ pub fn from_thirteen(
     requires { n ≤ 65536 }
     ensures { FromThirteen file.now latest option first second n result }
 {
-    if latest == 0 {
-        return asked(file, first, second, n);
+    match latest {
+        0 => asked(file, first, second, n),
+        1 => shown(file, RoomCall::WhatIf(first, second, option), n),
+        2 => shown(file, RoomCall::Wall, n),
+        3 => read_nodes(file, n),
+        4 => read_edges(file, n),
+        _ => no_call(),
     }
-    if latest == 1 {
-        return shown(file, 4, option, first, second, n);
-    }
-    if latest == 2 {
-        return shown(file, 6, 0, 0, 0, n);
-    }
-    if latest == 3 {
-        return read_nodes(file, n);
-    }
-    if latest == 4 {
-        return read_edges(file, n);
-    }
-    no_call()
 }

@@ -14,6 +14,7 @@ ghost use Rattle.remade.specs.Again.{Replayed};
 
 use again::Seen;
 
+// Kept: what may not change: `Replayed` and the public `replayed` take a head's words one by one.
 // The call with that number, with what else it takes.
 pub fn replayed(file: &[u8], call: u64, option: u64, first: u64, second: u64, n: usize) -> Seen
     requires { n ≤ 65536 }

@@ -6,7 +6,7 @@ ghost use Rattle.again.specs.Head.{words_at};
 ghost use Rattle.remade.specs.Seasons.{AddedTo, Seasons, FromEighteen};
 
 use again::joins::{fill, joins};
-use again::sums::{sum, sum_words};
+use again::sums::{sum, sum_after};
 use again::{Seen, joined, no_call};
 use urzulempa::urzulempa_season;
 
@@ -15,7 +15,7 @@ fn add(report: &mut [u64], file: &[u8], edition: u64, option: u64, room: &mut [u
 {
     let a = urzulempa_season(report, file, edition, option, room);
     let s = sum(room);
-    joined(a, sum_words(s, report))
+    joined(a, sum_after(s, report))
 }
 
 fn add_read(
@@ -66,16 +66,15 @@ fn seasons(bytes: &[u8], option: u64, edition: u64, words: u64, n: usize) -> See
     season(bytes, &bytes[at..], m, edition, option, n)
 }
 
+// Kept: what may not change: `Replayed` names a call by its number, as the recorded list does.
 // The call with number `last` + 18 (host/oracle/src/record.rs), on a room of n bytes.
 pub fn from_eighteen(file: &[u8], last: u64, option: u64, first: u64, second: u64, n: usize) -> Seen
     requires { n ≤ 65536 }
     ensures { FromEighteen file.now last option first second n result }
 {
-    if last == 0 {
-        return seasons(file, option, first, second, n);
+    match last {
+        0 => seasons(file, option, first, second, n),
+        1 => joins(file, first, second),
+        _ => no_call(),
     }
-    if last == 1 {
-        return joins(file, first, second);
-    }
-    no_call()
 }

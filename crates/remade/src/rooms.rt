@@ -11,46 +11,48 @@ use urzulempa::{
     urzulempa_graphviz, urzulempa_tgf, urzulempa_what_if_explain, urzulempa_write,
 };
 
-// The call of these eight, counted from 0.
-fn answered(file: &[u8], k: u64, option: u64, first: u64, second: u64, room: &mut [u8]) -> Answer
-    ensures { RoomAnswers file.now k option first second room.old room.new result }
-{
-    if k == 0 {
-        return urzulempa_explain(file, option, room);
-    }
-    if k == 1 {
-        return urzulempa_explain_plain(file, room);
-    }
-    if k == 2 {
-        return urzulempa_explain_edition(file, 2, option, room);
-    }
-    if k == 3 {
-        return urzulempa_explain_air(file, option, room);
-    }
-    if k == 4 {
-        return urzulempa_what_if_explain(file, first, second, option, room);
-    }
-    if k == 5 {
-        return urzulempa_graphviz(file, option, room);
-    }
-    if k == 6 {
-        return urzulempa_tgf(file, room);
-    }
-    urzulempa_write(file, room)
+// Such a call, with what else it takes.
+#[derive(Clone, Copy)]
+pub enum RoomCall {
+    Explain(u64),
+    Plain,
+    Second(u64),
+    Air(u64),
+    WhatIf(u64, u64, u64),
+    Graph(u64),
+    Wall,
+    Write,
 }
 
-fn shown_in(file: &[u8], k: u64, option: u64, first: u64, second: u64, room: &mut [u8]) -> Seen
-    ensures { RoomShown (RoomAnswers file.now k option first second) room.old result }
+fn answered(file: &[u8], call: RoomCall, room: &mut [u8]) -> Answer
+    ensures { RoomAnswers file.now call room.old room.new result }
 {
-    let a = answered(file, k, option, first, second, room);
+    match call {
+        RoomCall::Explain(option) => urzulempa_explain(file, option, room),
+        RoomCall::Plain => urzulempa_explain_plain(file, room),
+        RoomCall::Second(option) => urzulempa_explain_edition(file, 2, option, room),
+        RoomCall::Air(option) => urzulempa_explain_air(file, option, room),
+        RoomCall::WhatIf(solvable, reason, option) => {
+            urzulempa_what_if_explain(file, solvable, reason, option, room)
+        }
+        RoomCall::Graph(option) => urzulempa_graphviz(file, option, room),
+        RoomCall::Wall => urzulempa_tgf(file, room),
+        RoomCall::Write => urzulempa_write(file, room),
+    }
+}
+
+fn shown_in(file: &[u8], call: RoomCall, room: &mut [u8]) -> Seen
+    ensures { RoomShown (RoomAnswers file.now call) room.old result }
+{
+    let a = answered(file, call, room);
     joined(a, sum(room))
 }
 
 // The same on a room of n bytes.
-pub fn shown(file: &[u8], k: u64, option: u64, first: u64, second: u64, n: usize) -> Seen
+pub fn shown(file: &[u8], call: RoomCall, n: usize) -> Seen
     requires { n ≤ 65536 }
-    ensures { RoomShown (RoomAnswers file.now k option first second) (blank n) result }
+    ensures { RoomShown (RoomAnswers file.now call) (blank n) result }
 {
     let mut room = [165u8; 65536];
-    shown_in(file, k, option, first, second, &mut room[..n])
+    shown_in(file, call, &mut room[..n])
 }

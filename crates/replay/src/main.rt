@@ -5,120 +5,74 @@
 
 mod compares;
 
-ghost use Rattle.std.specs.Prelude.{◌≡◌, ◌+◌, ◌%◌, ◌^◌, ◌<◌, ◌≤◌, length};
+ghost use Rattle.std.specs.Prelude.{◌≡◌};
 ghost use Rattle.replay.specs.Tally.{stopped_at, one_more, ended_by};
 
 use again::Seen;
 use again::heads::{recorded, word};
-use compares::agrees;
-use remade::replayed;
+use compares::{agrees, shown_now};
 use std::io::{Read, Write};
 use std::{fs, io};
 
-// What has been replayed; `on` while more may come, `whole` once the end was met with the right counts.
+// More may come, the list broke off, or its end was met with the right counts.
+#[derive(Clone, Copy, PartialEq, Eq)]
+enum Course {
+    Going,
+    Broken,
+    Whole,
+}
+
+// What has been replayed.
 #[derive(Clone, Copy)]
 struct Tally {
     files: u64,
     answers: u64,
     differ: u64,
-    on: bool,
-    whole: bool,
-}
-
-fn say<W: Write>(out: &mut W, text: &[u8]) -> io::Result<()> {
-    out.write_all(text)
-}
-
-fn say_number<W: Write>(out: &mut W, n: u64) -> io::Result<()> {
-    write!(out, "{n}")
-}
-
-fn say_next<W: Write>(out: &mut W, n: u64) -> io::Result<()> {
-    say(out, b" ")?;
-    say_number(out, n)
+    course: Course,
 }
 
 fn say_seen<W: Write>(out: &mut W, s: Seen) -> io::Result<()> {
-    say_next(out, s.number)?;
-    say_next(out, s.place)?;
-    say_next(out, s.bytes)?;
-    say_next(out, s.units)?;
-    say_next(out, s.depth)?;
-    say(out, b", checksum")?;
-    say_next(out, s.sum)
-}
-
-// A text, and the word of a head that stands there.
-fn say_word<W: Write>(out: &mut W, text: &[u8], head: &[u8], at: usize) -> io::Result<()>
-    requires { at < 1024 }
-{
-    say(out, text)?;
-    say_next(out, word(head, at))
+    write!(
+        out,
+        " {} {} {} {} {}",
+        s.number, s.place, s.bytes, s.units, s.depth
+    )?;
+    write!(out, ", checksum {}", s.sum)
 }
 
 // The call of a head that does not agree.
 fn say_call<W: Write>(out: &mut W, head: &[u8]) -> io::Result<()> {
-    say_word(out, b"\n  differs: call", head, 8)?;
-    say_word(out, b", option", head, 16)?;
-    say_word(out, b", words", head, 80)?;
-    say_word(out, b"", head, 88)?;
-    say_word(out, b", room", head, 24)?;
-    say(out, b"\n    recorded:")?;
+    write!(
+        out,
+        "\n  differs: call {}, option {}",
+        word(head, 8),
+        word(head, 16)
+    )?;
+    write!(
+        out,
+        ", words {} {}, room {}",
+        word(head, 80),
+        word(head, 88),
+        word(head, 24)
+    )?;
+    write!(out, "\n    recorded:")?;
     say_seen(out, recorded(head))
 }
 
 fn say_now<W: Write>(out: &mut W, file: &[u8], head: &[u8]) -> io::Result<()> {
-    let n = word(head, 24);
-    if n > 65536 {
+    let Some(now) = shown_now(file, head) else {
         return Ok(());
-    }
-    say(out, b"\n    now:     ")?;
-    let call = word(head, 8);
-    let option = word(head, 16);
-    let first = word(head, 80);
-    let second = word(head, 88);
-    say_seen(out, replayed(file, call, option, first, second, n as usize))
-}
-
-// Reads from the list until buf is full, the list ends or a read fails; answers how many bytes of buf it filled.
-fn read_full<R: Read>(list: &mut R, buf: &mut [u8]) -> usize
-    ensures { result ≤ length buf.new }
-{
-    let mut done: usize = 0;
-    while done < buf.len() {
-        match list.read(&mut buf[done..]) {
-            Ok(0) => break,
-            Ok(n) => done += n,
-            Err(_) => break,
-        }
-    }
-    done
-}
-
-// The first n bytes of buf from the list; false where it ends before, or buf does.
-fn filled<R: Read>(list: &mut R, buf: &mut [u8], n: usize) -> bool {
-    if n > buf.len() {
-        return false;
-    }
-    let got = read_full(list, &mut buf[..n]);
-    got == n
-}
-
-fn more(n: u64) -> u64
-    ensures { result ≡ (n + 1) % 2 ^ 64 }
-{
-    n.wrapping_add(1)
+    };
+    write!(out, "\n    now:     ")?;
+    say_seen(out, now)
 }
 
 fn stopped(t: Tally) -> Tally
     ensures { result ≡ stopped_at t }
 {
     Tally {
-        files: t.files,
-        answers: t.answers,
-        differ: t.differ,
-        on: false,
-        whole: false,
+        course: Course::Broken,
+        ..t
     }
 }
 
@@ -126,11 +80,9 @@ fn one_more(t: Tally, differ: u64) -> Tally
     ensures { result ≡ one_more t differ }
 {
     Tally {
-        files: t.files,
-        answers: more(t.answers),
+        answers: t.answers.wrapping_add(1),
         differ,
-        on: t.on,
-        whole: t.whole,
+        ..t
     }
 }
 
@@ -139,13 +91,13 @@ fn call<W: Write>(out: &mut W, file: &[u8], head: &[u8], t: Tally) -> io::Result
     if word(head, 0) != 2 {
         return Ok(stopped(t));
     }
-    say_next(out, word(head, 32))?;
+    write!(out, " {}", word(head, 32))?;
     if agrees(file, head) {
         return Ok(one_more(t, t.differ));
     }
     say_call(out, head)?;
     say_now(out, file, head)?;
-    Ok(one_more(t, more(t.differ)))
+    Ok(one_more(t, t.differ.wrapping_add(1)))
 }
 
 // The next call on the file.
@@ -156,7 +108,7 @@ fn next_call<W: Write, R: Read>(
     t: Tally,
 ) -> io::Result<Tally> {
     let mut head = [0u8; 96];
-    if !filled(list, &mut head, 96) {
+    if list.read_exact(&mut head).is_err() {
         return Ok(stopped(t));
     }
     call(out, file, &head, t)
@@ -176,34 +128,29 @@ fn calls_on<W: Write, R: Read>(
     Ok(u)
 }
 
-fn say_name<W: Write>(out: &mut W, head: &[u8]) -> io::Result<()> {
+fn say_name<W: Write>(out: &mut W, head: &[u8; 96]) -> io::Result<()> {
     let n = word(head, 32);
     if n > 56 {
         return Ok(());
     }
-    let e = 40 + n as usize;
-    if e > head.len() {
-        return Ok(());
-    }
-    say(out, &head[40..e])?;
-    say_next(out, word(head, 16))?;
-    say(out, b":")
+    out.write_all(&head[40..40 + n as usize])?;
+    write!(out, " {}:", word(head, 16))
 }
 
 // A file and its calls.
 fn file_and_calls<W: Write, R: Read>(
     out: &mut W,
     list: &mut R,
-    file: &mut [u8],
-    head: &[u8],
+    file: &mut [u8; 65600],
+    head: &[u8; 96],
     t: Tally,
 ) -> io::Result<Tally> {
-    let length = word(head, 8);
-    if length > 65600 {
+    let n = word(head, 8);
+    if n > 65600 {
         return Ok(stopped(t));
     }
-    let n = length as usize;
-    if !filled(list, file, n) {
+    let bytes = &mut file[..n as usize];
+    if list.read_exact(bytes).is_err() {
         return Ok(stopped(t));
     }
     say_name(out, head)?;
@@ -211,81 +158,68 @@ fn file_and_calls<W: Write, R: Read>(
     if calls > 1000 {
         return Ok(stopped(t));
     }
-    if n > file.len() {
-        return Ok(stopped(t));
-    }
-    let u = calls_on(out, list, &file[..n], calls, t)?;
-    say(out, b"\n")?;
+    let u = calls_on(out, list, bytes, calls, t)?;
+    writeln!(out)?;
     Ok(Tally {
-        files: more(u.files),
-        answers: u.answers,
-        differ: u.differ,
-        on: u.on,
-        whole: u.whole,
+        files: u.files.wrapping_add(1),
+        ..u
     })
 }
 
 // The end says how many files and answers there are.
+#[tactic(auto, unfolding(crate::specs::Tally::ended_by))]
 fn ended(head: &[u8], t: Tally) -> Tally
     ensures { result ≡ ended_by head.now t }
 {
-    let files = word(head, 8);
-    let answers = word(head, 16);
-    if t.files != files {
-        return stopped(t);
-    }
-    if t.answers != answers {
+    if t.files != word(head, 8) || t.answers != word(head, 16) {
         return stopped(t);
     }
     Tally {
-        files,
-        answers,
-        differ: t.differ,
-        on: false,
-        whole: true,
+        course: Course::Whole,
+        ..t
     }
 }
 
 fn file_or_end<W: Write, R: Read>(
     out: &mut W,
     list: &mut R,
-    file: &mut [u8],
-    head: &[u8],
+    file: &mut [u8; 65600],
+    head: &[u8; 96],
     t: Tally,
 ) -> io::Result<Tally> {
-    let kind = word(head, 0);
-    if kind == 1 {
-        return file_and_calls(out, list, file, head, t);
+    match word(head, 0) {
+        1 => file_and_calls(out, list, file, head, t),
+        3 => Ok(ended(head, t)),
+        _ => Ok(stopped(t)),
     }
-    if kind == 3 {
-        return Ok(ended(head, t));
-    }
-    Ok(stopped(t))
 }
 
 fn next<W: Write, R: Read>(
     out: &mut W,
     list: &mut R,
-    file: &mut [u8],
+    file: &mut [u8; 65600],
     t: Tally,
 ) -> io::Result<Tally> {
     let mut head = [0u8; 96];
-    if !filled(list, &mut head, 96) {
+    if list.read_exact(&mut head).is_err() {
         return Ok(stopped(t));
     }
     file_or_end(out, list, file, &head, t)
 }
 
-fn replay<W: Write, R: Read>(out: &mut W, list: &mut R, file: &mut [u8]) -> io::Result<Tally> {
+fn replay<W: Write, R: Read>(
+    out: &mut W,
+    list: &mut R,
+    file: &mut [u8; 65600],
+) -> io::Result<Tally> {
     let mut t = Tally {
         files: 0,
         answers: 0,
         differ: 0,
-        on: true,
-        whole: false,
+        course: Course::Going,
     };
     for _ in 0..1000000u64 {
-        if !t.on {
+        if t.course != Course::Going {
             return Ok(t);
         }
         t = next(out, list, file, t)?;
@@ -293,19 +227,16 @@ fn replay<W: Write, R: Read>(out: &mut W, list: &mut R, file: &mut [u8]) -> io::
     Ok(t)
 }
 
-fn say_count<W: Write>(out: &mut W, n: u64, text: &[u8]) -> io::Result<()> {
-    say_number(out, n)?;
-    say(out, text)
-}
-
 fn say_all<W: Write>(out: &mut W, t: Tally) -> io::Result<()> {
-    say_count(out, t.files, b" files, ")?;
-    say_count(out, t.answers, b" answers, ")?;
-    say_count(out, t.differ, b" differ\n")?;
-    if t.whole {
+    writeln!(
+        out,
+        "{} files, {} answers, {} differ",
+        t.files, t.answers, t.differ
+    )?;
+    if t.course == Course::Whole {
         return Ok(());
     }
-    say(out, b"the list is not whole\n")
+    writeln!(out, "the list is not whole")
 }
 
 fn replay_list<W: Write, R: Read>(out: &mut W, list: &mut R) -> io::Result<()> {

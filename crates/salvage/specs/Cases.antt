@@ -2,7 +2,7 @@
 use Rattle.std.specs.Prelude.{◌≡◌, refl, List, [], ◌∷◌, ◌++◌, ℕ, ◌-◌, ◌/◌, ◌%◌, length, replicate}
 use Rattle.records.specs.Shapes.{rec_of, shape_of}
 use Rattle.records.specs.Tables.{Tables}
-use Rattle.salvage.specs.declared.Verdict.TheVariants.{Replaced, Stops}
+use Rattle.salvage.specs.Salvage.{Replaced, Stops}
 use Rattle.reader.specs.Pieces.{pieces, joined}
 use Rattle.salvage.specs.Salvage.{blank, verdict_of, mend_from, repaired, refused, salvage_of}
 use Rattle.salvage.specs.Lent.{refusal_of, done_of, salvage_answer, salvage_room, salvage_list}

@@ -8,10 +8,14 @@ use Rattle.records.specs.Shapes.{Rec, rec_of, shape_of, limit}
 use Rattle.records.specs.Tables.{Tables, no_tables, put}
 use Rattle.records.specs.Read.{refusal_in}
 use Rattle.reader.specs.Pieces.{pieces, joined}
-use Rattle.salvage.specs.declared.Verdict.{Verdict}
-use Rattle.salvage.specs.declared.Verdict.TheVariants.{Stays, Replaced, Stops}
 
 -- ---- one record
+
+-- what becomes of a record: it stays, in its table; a blank clause stands for it ("replace each clause record"); or a refusal "stops the repair"
+pub data Verdict : Type 0 where
+  Stays : Table → Verdict
+  Replaced : Verdict
+  Stops : ℕ → Verdict
 
 -- "each Learnt in the core"
 abbrev pub core_learnt : Rec → Bool

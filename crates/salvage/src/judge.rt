@@ -3,17 +3,17 @@
 ghost use Rattle.std.specs.Prelude.{◌≡◌, ◌≤◌, ◌<◌, length};
 ghost use Rattle.records.specs.Shapes.{records_of};
 ghost use Rattle.records.specs.Tables.{at};
-ghost use Rattle.salvage.specs.Pass.{learnt_pass, clauses_pass, clause_kind, clause_by, other_by, verdict_pass};
+ghost use Rattle.salvage.specs.Pass.{learnt_pass, clause_kind, clause_by, other_by, verdict_pass};
 ghost use Rattle.salvage.specs.Pass.{turn_pass, marks_pass, list_pass, judge_from, no_work};
 ghost use Rattle.salvage.specs.Laws.Pass.{Few};
 
-use crate::{Turn, Verdict, Work};
-use basis::put16;
+use crate::{Fate, Work};
+use basis::put;
 use records::check::check_record;
 use records::fields::{first_at, kind_at};
 use records::kinds::{has_room, more, shape_of};
 use records::pass::note;
-use records::{CountStep, Counts, Found, Table};
+use records::{Counts, Refusal, Refused, Table};
 
 // "each Learnt in the core"
 fn core_learnt(file: &[u8], i: usize) -> bool
@@ -25,61 +25,40 @@ fn core_learnt(file: &[u8], i: usize) -> bool
     first_at(file, i) == 1
 }
 
-fn is_clauses(t: Table) -> bool
-    ensures { result ≡ clauses_pass t }
-{
-    match t {
-        Table::Names => false,
-        Table::Solvables => false,
-        Table::VersionSets => false,
-        Table::Requirements => false,
-        Table::Candidates => false,
-        Table::Reasons => false,
-        Table::Variables => false,
-        Table::Assigned => false,
-        Table::Clauses => true,
-    }
-}
-
 // The kind of a clause.
 fn is_clause(kind: u8) -> bool
     ensures { result ≡ clause_kind kind }
 {
-    let f = shape_of(kind);
-    let Found::Known(s) = f else {
+    let Some(s) = shape_of(kind) else {
         return false;
     };
-    let t = s.table;
-    is_clauses(t)
+    s.table == Table::Clauses
 }
 
 // A clause where there is room for one.
-fn clause(file: &[u8], i: usize, s: CountStep) -> Verdict
+fn clause(file: &[u8], i: usize, s: Result<Table, Refusal>) -> Fate
     ensures { result ≡ clause_by s (at (records_of file.now) i) }
 {
     match s {
-        CountStep::No(_) => Verdict::Replaced,
-        CountStep::Next(t) => {
+        Err(_) => Fate::Replaced,
+        Ok(t) => {
             if core_learnt(file, i) {
-                return Verdict::Replaced;
+                return Fate::Replaced;
             }
-            Verdict::Stays(t)
+            Fate::Stays(t)
         }
     }
 }
 
 // A record of kinds 1 to 8, or of an unknown one.
-fn other(s: CountStep) -> Verdict
+fn other(s: Result<Table, Refusal>) -> Result<Fate, Refusal>
     ensures { result ≡ other_by s }
 {
-    match s {
-        CountStep::No(n) => Verdict::Stops(n),
-        CountStep::Next(t) => Verdict::Stays(t),
-    }
+    Ok(Fate::Stays(s?))
 }
 
-// Record i.
-fn verdict(file: &[u8], i: usize, c: Counts, m: &[u16]) -> Verdict
+// Record i, or the refusal that stops the repair.
+fn verdict(file: &[u8], i: usize, c: Counts, m: &[u16]) -> Result<Fate, Refusal>
     ensures { result ≡ verdict_pass c m.now (at (records_of file.now) i) }
 {
     let s = check_record(file, i, c, m);
@@ -88,13 +67,13 @@ fn verdict(file: &[u8], i: usize, c: Counts, m: &[u16]) -> Verdict
         return other(s);
     }
     if !has_room(Table::Clauses, c) {
-        return Verdict::Stops(6);
+        return Err(Refusal::TableFull);
     }
-    clause(file, i, s)
+    Ok(clause(file, i, s))
 }
 
 // Record i, with its mark noted, or its number listed where it is replaced.
-fn turn(file: &[u8], i: usize, w: Work, m: &mut [u16], list: &mut [u16]) -> Turn
+fn turn(file: &[u8], i: usize, w: Work, m: &mut [u16], list: &mut [u16]) -> Result<Work, Refused>
     requires { (i < 65536) × (w.replaced ≤ i) }
     ensures value { result ≡ turn_pass w m.old (at (records_of file.now) i) i }
     ensures m_after { m.new ≡ marks_pass w m.old (at (records_of file.now) i) }
@@ -102,22 +81,21 @@ fn turn(file: &[u8], i: usize, w: Work, m: &mut [u16], list: &mut [u16]) -> Turn
 {
     let c = w.counts;
     let k = w.replaced;
-    let v = verdict(file, i, c, m);
-    match v {
-        Verdict::Stops(n) => Turn::Halt {
-            number: n,
+    match verdict(file, i, c, m) {
+        Err(e) => Err(Refused {
+            number: e.number(),
             place: i as u64,
-        },
-        Verdict::Stays(t) => {
+        }),
+        Ok(Fate::Stays(t)) => {
             note(file, i, t, m);
-            Turn::On(Work {
+            Ok(Work {
                 counts: more(t, c),
                 replaced: k,
             })
         }
-        Verdict::Replaced => {
-            put16(list, k, i as u16);
-            Turn::On(Work {
+        Ok(Fate::Replaced) => {
+            put(list, k, i as u16);
+            Ok(Work {
                 counts: more(Table::Clauses, c),
                 replaced: k + 1,
             })
@@ -126,13 +104,12 @@ fn turn(file: &[u8], i: usize, w: Work, m: &mut [u16], list: &mut [u16]) -> Turn
 }
 
 // All records in their order, with a mark of 0 for each variable at first; the numbers of the replaced ones go into `list`.
-pub fn judge(file: &[u8], m: &mut [u16], list: &mut [u16]) -> Turn
+pub fn judge(file: &[u8], m: &mut [u16], list: &mut [u16]) -> Result<Work, Refused>
     requires { (length file.now ≤ 65536) × (2048 ≤ length list.old) }
     ensures value { result ≡ (judge_from (records_of file.now) 0 no_work m.old list.old).turn }
     ensures list_after { list.new ≡ (judge_from (records_of file.now) 0 no_work m.old list.old).list }
     ensures few { Few result list.new }
 {
-    let n = file.len() / 32;
     let mut w = Work {
         counts: Counts {
             names: 0,
@@ -147,14 +124,8 @@ pub fn judge(file: &[u8], m: &mut [u16], list: &mut [u16]) -> Turn
         },
         replaced: 0,
     };
-    let mut i = 0;
-    while i < n {
-        let s = turn(file, i, w, m, list);
-        let Turn::On(d) = s else {
-            return s;
-        };
-        w = d;
-        i += 1;
+    for i in 0..file.len() / 32 {
+        w = turn(file, i, w, m, list)?;
     }
-    Turn::On(w)
+    Ok(w)
 }

@@ -12,12 +12,12 @@ use judge::judge;
 use records::{Counts, Table};
 use repair::repair;
 
-// What becomes of a record: it stays, in its table; the blank clause stands for it; or the repair stops with a refusal.
+// What becomes of a record: it stays, in its table, or the blank clause stands for it.
+// Kept: the new form is no plainer: None would not say that the record is replaced.
 #[derive(Clone, Copy)]
-pub enum Verdict {
+pub enum Fate {
     Stays(Table),
     Replaced,
-    Stops(u64),
 }
 
 // What the records so far come to: the sizes of the tables, and how many records were replaced.
@@ -27,14 +27,8 @@ pub struct Work {
     pub replaced: usize,
 }
 
-// One record more, or the refusal that stops the repair.
-#[derive(Clone, Copy)]
-pub enum Turn {
-    On(Work),
-    Halt { number: u64, place: u64 },
-}
-
 // 0 means done: the repaired file's length, how many numbers the list got, and the bytes dropped. "On a refusal these are 0."
+// Kept: the C interface: the five numbers of a mended file's answer.
 #[repr(C)]
 #[derive(Clone, Copy)]
 pub struct Salvaged {
@@ -69,12 +63,8 @@ pub fn salvage(file: &[u8], room: &mut [u8], list: &mut [u16]) -> Salvaged
     }
     let mut marks = [0u16; 1024];
     let mut found = [0u16; 2048];
-    let t = judge(file, &mut marks, &mut found);
-    match t {
-        Turn::Halt { number, place } => refusal(number, place),
-        Turn::On(w) => {
-            let k = w.replaced;
-            repair(file, &found, k, room, list)
-        }
+    match judge(file, &mut marks, &mut found) {
+        Err(e) => refusal(e.number, e.place),
+        Ok(w) => repair(file, &found, w.replaced, room, list),
     }
 }

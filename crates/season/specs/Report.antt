@@ -1,6 +1,6 @@
 -- A season's report (document 02, order 8): "Over many files, in the order given: how many were done, how many got each refusal, and totals of
 -- nodes, edges, groups, missing nodes and lines, with the greatest depth and the first file that had it."
-use Rattle.std.specs.Prelude.{Bool, true, false, ◌&&◌, List, [], ◌∷◌, ℕ, zero, suc, ◌+◌, ◌^◌, take, replicate, ltb}
+use Rattle.std.specs.Prelude.{Bool, true, false, ◌&&◌, List, [], ◌∷◌, ℕ, ◌+◌, ◌^◌, take, replicate, ltb}
 use Rattle.std.proofs.Math.Option.{Option, none, some}
 use Rattle.basis.specs.Lists.{all}
 

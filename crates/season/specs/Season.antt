@@ -1,6 +1,6 @@
 -- What one file adds to a report, and the report of many (document 02, order 8).
 use Rattle.std.specs.Prelude.{◌≡◌, Bool, true, false, ◌||◌, List, [], ◌∷◌, ◌++◌, ℕ, ◌≤◌, set, replicate, eqb}
-use Rattle.std.proofs.Math.Option.{Option, none, some}
+use Rattle.std.proofs.Math.Option.{none, some}
 use Rattle.season.specs.declared.Own.{Own}
 use Rattle.season.specs.Report.{Report, empty, join, fits_widths, joined_reports, or_kept}
 

@@ -1,13 +1,25 @@
 -- What the steps of a joining compute over the words.
-use Rattle.std.specs.Prelude.{Bool, true, false, List, [], ◌∷◌, ◌++◌, ℕ, ◌+◌, get_or, take, drop, set, replicate}
+use Rattle.std.specs.Prelude.{Option as Maybe, Some, None, Result, Ok, Err}
+use Rattle.std.specs.Prelude.{Bool, true, false, List, ◌++◌, ℕ, ◌+◌, get_or, take, drop, set, replicate}
 use Rattle.std.proofs.Math.Option.{Option, none, some}
 use Rattle.basis.specs.Lists.{all}
 use Rattle.basis.specs.Guard.{guard}
-use Rattle.season.specs.declared.Total.{Total}
+use Rattle.season.specs.declared.Refusal.{Refusal}
+use Rattle.season.specs.declared.Refusal.TheVariants as R
 use Rattle.season.specs.declared.Deep.{Deep}
 use Rattle.season.specs.declared.Own.{Own}
 use Rattle.season.specs.Report.{sum, sums, narrow, numbers, fits_widths}
 use Rattle.season.specs.Words.{both}
+
+-- 10 for a report that is not 27 words, "14 if a count would pass its width"
+abbrev pub refusal_number : Refusal → ℕ
+refusal_number R.Short = 10
+refusal_number R.Wide = 14
+
+-- the number of an answer: 0 where it was done
+abbrev pub number_said : Result (Unit {0}) Refusal → ℕ
+number_said (Ok u) = 0
+number_said (Err e) = refusal_number e
 
 -- count i of both reports together is narrow
 unfoldable pub pair_fits : List ℕ → List ℕ → ℕ → Bool
@@ -21,26 +33,28 @@ added ws vs i = sums (take i ws) (take i vs) ++ drop i ws
 unfoldable pub files_in : List ℕ → ℕ → ℕ
 files_in ws i = sum (take i ws)
 
-unfoldable pub total_of : ℕ → Total
-total_of n = elim (narrow n) [ true ↦ record { ok = true; value = n } | false ↦ record { ok = false; value = 0 } ]
+unfoldable pub total_of : ℕ → Result ℕ Refusal
+total_of n = elim (narrow n) [ true ↦ Ok n | false ↦ Err R.Wide ]
 
-abbrev pub shown_deep : Option (ℕ × ℕ) → Deep
-shown_deep none = record { ok = true; depth = 0; first = 0; named = 0 }
-shown_deep (some p) = record { ok = true; depth = p.0; first = p.1; named = 1 }
+-- a deepest file as it is answered
+abbrev pub shown_deep : Option (ℕ × ℕ) → Maybe Deep
+shown_deep none = None
+shown_deep (some p) = Some (record { depth = p.0; first = p.1 })
 
-abbrev pub no_deep : Deep
-no_deep = record { ok = false; depth = 0; first = 0; named = 0 }
+abbrev pub no_deep : Result (Maybe Deep) Refusal
+no_deep = Err R.Wide
 
-unfoldable pub deep_of : Option (ℕ × ℕ) → Deep
-deep_of o = elim (all narrow (numbers o)) [ true ↦ shown_deep o | false ↦ no_deep ]
+unfoldable pub deep_of : Option (ℕ × ℕ) → Result (Maybe Deep) Refusal
+deep_of o = elim (all narrow (numbers o)) [ true ↦ Ok (shown_deep o) | false ↦ no_deep ]
 
--- the last three words of the joined report, if it fits
-unfoldable pub plan_of : List ℕ → List ℕ → Deep
-plan_of ws vs = guard (fits_widths (both ws vs)) no_deep (shown_deep (both ws vs).deepest)
+-- the deepest file of the joined report, if that report fits
+unfoldable pub plan_of : List ℕ → List ℕ → Result (Maybe Deep) Refusal
+plan_of ws vs = guard (fits_widths (both ws vs)) no_deep (Ok (shown_deep (both ws vs).deepest))
 
 -- the last three words are d's
-unfoldable pub three_put : List ℕ → Deep → List ℕ
-three_put list d = set (set (set list 24 d.depth) 25 d.first) 26 d.named
+unfoldable pub three_put : List ℕ → Maybe Deep → List ℕ
+three_put list None = set (set (set list 24 0) 25 0) 26 0
+three_put list (Some d) = set (set (set list 24 d.depth) 25 d.first) 26 1
 
 -- ---- one file's words
 

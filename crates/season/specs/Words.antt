@@ -1,6 +1,6 @@
 -- A lent report is 27 words: 0 done; 1 to 18 how many files got that refusal; 19 nodes, 20 edges, 21 groups, 22 missing nodes, 23 lines;
 -- 24 the greatest depth, 25 the first file that had it, 26 whether 25 names one.
-use Rattle.std.specs.Prelude.{Bool, true, false, List, [], ◌∷◌, ◌++◌, ℕ, length, get_or, take, eqb}
+use Rattle.std.specs.Prelude.{true, false, List, [], ◌∷◌, ◌++◌, ℕ, length, get_or, take, eqb}
 use Rattle.std.proofs.Math.Option.{Option, none, some}
 use Rattle.basis.specs.Guard.{guard}
 use Rattle.season.specs.declared.Own.{Own}

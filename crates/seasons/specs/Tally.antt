@@ -1,5 +1,5 @@
 -- What a file's graph adds to a season's report (document 02, order 8): "totals of nodes, edges, groups, missing nodes".
-use Rattle.std.specs.Prelude.{Bool, true, false, cond, ◌&&◌, List, ℕ, ◌+◌, ◌-◌, length, eqb}
+use Rattle.std.specs.Prelude.{Bool, true, false, ◌&&◌, List, ℕ, ◌+◌, ◌-◌, length, eqb}
 use Rattle.basis.specs.Lists.{filter, upto}
 use Rattle.records.specs.Tables.{Tables}
 use Rattle.records.specs.Views.{name_text, solvable_name}

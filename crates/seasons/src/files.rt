@@ -19,7 +19,6 @@ use crate::tally::Counts;
 use calls::Answer;
 use calls::answers::refusal;
 use calls::plans::{plan_of, walk_plan};
-use graph::Made;
 use index::Slots;
 use season::Own;
 use store::{ChainWords, GraphWords, PerNode, Scratch, Size};
@@ -43,11 +42,10 @@ fn own(a: Answer, c: Counts) -> Own
 fn enter(report: &mut [u64], a: Answer, c: Counts) -> Answer
     ensures { Enters report.old a c report.new result }
 {
-    let n = season::add(report, own(a, c));
-    if n == 0 {
-        return a;
+    match season::add(report, own(a, c)) {
+        Ok(()) => a,
+        Err(e) => refusal(e.number(), 0),
     }
-    refusal(n, 0)
 }
 
 // Adds a file without a graph.
@@ -196,8 +194,8 @@ fn season_in(
 {
     let m = graph::of_file(file, ix, g, tr, ls);
     match m {
-        Made::Refused(k, p) => enter_refused(report, k, p),
-        Made::Whole(s) => season_whole(file, ix, g, s, ls, tr, top, every, report, room),
+        Err(e) => enter_refused(report, e.number, e.place),
+        Ok(s) => season_whole(file, ix, g, s, ls, tr, top, every, report, room),
     }
 }
 

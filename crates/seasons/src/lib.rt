@@ -42,6 +42,8 @@ pub fn join_reports(report: &mut [u64], second: &[u64]) -> Answer
     ensures value { result ≡ join_answer report.old second.now }
     ensures report_after { report.new ≡ join_words report.old second.now }
 {
-    let n = season::join(report, second);
-    refusal(n, 0)
+    match season::join(report, second) {
+        Ok(()) => refusal(0, 0),
+        Err(e) => refusal(e.number(), 0),
+    }
 }

@@ -1,9 +1,10 @@
 // The counts of a graph that a season's report adds up (document 02, order 8), from the plan before an edition reads it and the labels' table.
-ghost use Rattle.std.specs.Prelude.{◌≡◌, ◌≤◌};
+ghost use Rattle.std.specs.Prelude.{◌≡◌, ◌≤◌, count_by};
+ghost use Rattle.std.specs.List.{range_with_len};
 ghost use Rattle.labels.specs.Marks.{miss_at};
-ghost use Rattle.seasons.specs.Tally.{leads_in, bumped, passing, counts_in, no_counts};
+ghost use Rattle.seasons.specs.Tally.{leads_in, counts_in, no_counts};
 
-use basis::get16;
+use basis::get;
 use store::{PerNode, Scratch, Size};
 
 // How many nodes, edges, groups and missing nodes.
@@ -15,66 +16,32 @@ pub struct Counts {
     pub missing: u64,
 }
 
-// A number as a report holds it.
-fn wide(x: usize) -> u64
-    ensures { result ≡ x }
-{
-    x as u64
-}
-
 // Node i is labelled missing.
 fn lacks(marks: &PerNode, i: usize) -> bool
     ensures { result ≡ miss_at marks.now i }
 {
-    1 < get16(marks, i)
+    1 < get(marks, i)
 }
 
 // Node i is the first member of a group.
 fn leads(p: &Scratch, i: usize) -> bool
     ensures { result ≡ leads_in p.now i }
 {
-    if !plan::merged(p, i) {
-        return false;
-    }
-    plan::lead(p, i) == i
-}
-
-// One more where t.
-fn bump(c: usize, t: bool) -> usize
-    requires { c ≤ 127 }
-    ensures { (result ≡ bumped c t) × (result ≤ 128) }
-{
-    if t { c + 1 } else { c }
+    plan::merged(p, i) && plan::lead(p, i) == i
 }
 
 // How many of the first n nodes are labelled missing.
 fn count_missing(marks: &PerNode, n: usize) -> usize
-    requires { n ≤ 128 }
-    ensures { result ≡ passing (miss_at marks.now) n 0 }
+    ensures { result ≡ count_by (miss_at marks.now) (range_with_len 0 n) }
 {
-    let mut c: usize = 0;
-    let mut i: usize = 0;
-    while i < n {
-        let t = lacks(marks, i);
-        c = bump(c, t);
-        i += 1;
-    }
-    c
+    (0..n).filter(|i| lacks(marks, *i)).count()
 }
 
 // How many groups the first n nodes have.
 fn count_groups(p: &Scratch, n: usize) -> usize
-    requires { n ≤ 128 }
-    ensures { result ≡ passing (leads_in p.now) n 0 }
+    ensures { result ≡ count_by (leads_in p.now) (range_with_len 0 n) }
 {
-    let mut c: usize = 0;
-    let mut i: usize = 0;
-    while i < n {
-        let t = leads(p, i);
-        c = bump(c, t);
-        i += 1;
-    }
-    c
+    (0..n).filter(|i| leads(p, *i)).count()
 }
 
 // A file without a graph.
@@ -98,9 +65,9 @@ pub fn count(p: &Scratch, marks: &PerNode, s: Size) -> Counts
     let g = count_groups(p, n);
     let m = count_missing(marks, n);
     Counts {
-        nodes: wide(n),
-        edges: wide(s.edges),
-        groups: wide(g),
-        missing: wide(m),
+        nodes: n as u64,
+        edges: s.edges as u64,
+        groups: g as u64,
+        missing: m as u64,
     }
 }

@@ -4,7 +4,7 @@ use Rattle.basis.specs.Guard.{guard}
 use Rattle.settings.specs.declared.Settings.{Settings}
 use Rattle.settings.specs.Settings.{fits_content, lowest_in, lowest, knows, newest_in, choices, zeros, judged_record, refused, defaults, setting_put}
 use Rattle.settings.specs.Settings.{settings_from, settings_of}
-use Rattle.settings.specs.Change.{record_of, file_in, change_by, change_of, refusal, done, appended, room_of}
+use Rattle.settings.specs.Change.{record_of, file_in, change_by, change_of, refusal, appended, room_of}
 
 -- a record of version v that sets s to c, with byte z at its end
 abbrev rec : ℕ → ℕ → ℕ → ℕ → List ℕ

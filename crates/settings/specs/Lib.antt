@@ -1,4 +1,5 @@
 pub mod Settings
 pub mod Change
+pub mod Judged
 pub mod Laws
 pub mod Cases

@@ -1,6 +1,6 @@
 -- The settings file (document 02, order 12): "a file of 16-byte records without a header". What each version knows, what a record
 -- is, and what a reader of a version makes of a file.
-use Rattle.std.specs.Prelude.{Bool, true, false, cond, ◌&&◌, List, [], ◌∷◌, ℕ, zero, suc, ◌+◌, ◌*◌, ◌/◌, ◌%◌, length, get_or, take, drop, eqb, leb}
+use Rattle.std.specs.Prelude.{Bool, false, cond, ◌&&◌, List, [], ◌∷◌, ℕ, zero, suc, ◌+◌, ◌*◌, ◌/◌, ◌%◌, length, get_or, take, drop, eqb, leb}
 use Rattle.basis.specs.Lists.{all, any}
 use Rattle.basis.specs.Guard.{guard}
 use Rattle.settings.specs.declared.Settings.{Settings}

@@ -1,13 +1,16 @@
 // The settings file (document 02, order 12): reading it, and changing one setting by appending a record.
 #![tactic(auto)]
 
-ghost use Rattle.std.specs.Prelude.{◌≡◌, ◌+◌, ◌≤◌, ◌<◌, length};
+ghost use Rattle.std.specs.List.{list_all};
+ghost use Rattle.std.specs.Prelude.{◌≡◌, ◌==◌, ◌+◌, ◌≤◌, ◌<◌, length};
 ghost use Rattle.settings.specs.Settings.{fits_content, lowest, knows, choice_of, entries_of, zeros, judged_record, setting_put, refused, defaults};
 ghost use Rattle.settings.specs.Settings.{settings_from, settings_of};
+ghost use Rattle.settings.specs.Judged.{found, refusal_number, number_said};
 ghost use Rattle.settings.specs.Change.{refusal, change_of, room_of, appended};
 
-use basis::byte;
+use basis::get;
 
+// Kept: the C interface: `urzulempa_settings_read` hands it out.
 // What a file says: 0 and the three settings, or a refusal with its place and three zeros.
 #[repr(C)]
 #[derive(Clone, Copy)]
@@ -19,6 +22,7 @@ pub struct Settings {
     pub edition: u64,
 }
 
+// Kept: the C interface: the number, place and counts that `urzulempa_settings_set` hands out.
 // What became of a change: 0 with the bytes and units that were appended, or a refusal with its place and two zeros.
 #[derive(Clone, Copy)]
 pub struct Change {
@@ -28,88 +32,63 @@ pub struct Change {
     pub units: u64,
 }
 
-// A byte as a number.
-fn wide64(x: u8) -> u64
-    ensures { (result ≡ x) × (result < 256) }
-{
-    x as u64
-}
-
 // Whether s may be c by a row of the table: its setting, and its contents from low to high.
 fn in_row(s: u64, c: u64, setting: u64, low: u64, high: u64) -> bool
     ensures { result ≡ fits_content s c setting low high }
 {
-    if s != setting {
-        return false;
-    }
-    if c < low {
-        return false;
-    }
-    c <= high
+    s == setting && low <= c && c <= high
 }
 
-// The table of versions, row by row: the lowest version that knows s with content c, 0 where none does.
-fn lowest_of(s: u64, c: u64) -> u64
-    ensures { result ≡ lowest s c }
+// The table of versions, row by row: the lowest version that knows s with content c, if one does.
+fn lowest_of(s: u64, c: u64) -> Option<u64>
+    ensures { result ≡ found (lowest s c) }
 {
     if in_row(s, c, 1, 0, 1) {
-        return 1;
+        return Some(1);
     }
     if in_row(s, c, 2, 0, 1) {
-        return 1;
+        return Some(1);
     }
     if in_row(s, c, 3, 1, 2) {
-        return 2;
+        return Some(2);
     }
-    0
+    None
 }
 
 // A record of version v may set s to c.
 fn known(v: u64, s: u64, c: u64) -> bool
     ensures { result ≡ knows v s c }
 {
-    let l = lowest_of(s, c);
-    if l < 1 {
-        return false;
-    }
-    l <= v
+    lowest_of(s, c).is_some_and(|l| l <= v)
 }
 
 // Each byte is 0.
 fn all_zero(s: &[u8]) -> bool
-    ensures { result ≡ zeros s.now }
+    ensures { result ≡ list_all (λ b. b == 0) s.now }
 {
-    let mut k = 0;
-    while k < s.len() {
-        let b = s[k];
-        if 0 < b {
-            return false;
-        }
-        k += 1;
-    }
-    true
+    s.iter().all(|b| *b == 0)
 }
 
 // The version of a record.
 fn version_of(s: &[u8]) -> u64
     ensures { result ≡ (choice_of s.now).version }
 {
-    wide64(byte(s, 0))
+    u64::from(get(s, 0))
 }
 
 // The setting that a record names.
 fn setting_of(s: &[u8]) -> u64
     ensures { result ≡ (choice_of s.now).setting }
 {
-    wide64(byte(s, 1))
+    u64::from(get(s, 1))
 }
 
 // The content of a record.
 fn content_of(s: &[u8]) -> u64
     ensures { result ≡ (choice_of s.now).content }
 {
-    let low = wide64(byte(s, 2));
-    let high = wide64(byte(s, 3));
+    let low = u64::from(get(s, 2));
+    let high = u64::from(get(s, 3));
     low + 256 * high
 }
 
@@ -121,61 +100,57 @@ fn rest_zero(s: &[u8]) -> bool
     all_zero(&s[4..])
 }
 
-// The refusal of a record, or 0.
-fn judge(s: &[u8], reader: u64) -> u64
+// Why a record is refused: its version is unknown to the reader, or its shape or content to the version.
+#[derive(Clone, Copy)]
+enum Refusal {
+    Version,
+    Content,
+}
+
+impl Refusal {
+    fn number(self) -> u64
+        ensures { result ≡ refusal_number self }
+    {
+        match self {
+            Refusal::Version => 18,
+            Refusal::Content => 3,
+        }
+    }
+}
+
+// Whether a record is good.
+fn judge(s: &[u8], reader: u64) -> Result<(), Refusal>
     requires { 4 ≤ length s.now }
-    ensures { result ≡ judged_record reader (choice_of s.now) }
+    ensures { number_said result ≡ judged_record reader (choice_of s.now) }
 {
     let v = version_of(s);
     if v < 1 {
-        return 18;
+        return Err(Refusal::Version);
     }
     if reader < v {
-        return 18;
+        return Err(Refusal::Version);
     }
     let a = setting_of(s);
     let c = content_of(s);
     if !known(v, a, c) {
-        return 3;
+        return Err(Refusal::Content);
     }
     if !rest_zero(s) {
-        return 3;
+        return Err(Refusal::Content);
     }
-    0
+    Ok(())
 }
 
 // The settings with s set to c.
 fn with(s: u64, c: u64, x: Settings) -> Settings
     ensures { result ≡ setting_put s c x }
 {
-    if s == 1 {
-        return Settings {
-            number: x.number,
-            place: x.place,
-            indent: c,
-            simplify: x.simplify,
-            edition: x.edition,
-        };
+    match s {
+        1 => Settings { indent: c, ..x },
+        2 => Settings { simplify: c, ..x },
+        3 => Settings { edition: c, ..x },
+        _ => x,
     }
-    if s == 2 {
-        return Settings {
-            number: x.number,
-            place: x.place,
-            indent: x.indent,
-            simplify: c,
-            edition: x.edition,
-        };
-    }
-    if s == 3 {
-        return Settings {
-            number: x.number,
-            place: x.place,
-            indent: x.indent,
-            simplify: x.simplify,
-            edition: c,
-        };
-    }
-    x
 }
 
 // A refusal in place of the settings.
@@ -203,18 +178,13 @@ fn read_all(file: &[u8], reader: u64) -> Settings
         simplify: 1,
         edition: 1,
     };
-    let mut i = 0;
-    while i < n {
+    for i in 0..n {
         let a = 16 * i;
-        let e = a + 16;
-        let k = judge(&file[a..e], reader);
-        if k != 0 {
-            return refuse(k, i as u64);
+        let s = &file[a..a + 16];
+        if let Err(e) = judge(s, reader) {
+            return refuse(e.number(), i as u64);
         }
-        let s = setting_of(&file[a..e]);
-        let c = content_of(&file[a..e]);
-        x = with(s, c, x);
-        i += 1;
+        x = with(setting_of(s), content_of(s), x);
     }
     x
 }
@@ -255,7 +225,7 @@ fn append(room: &mut [u8], used: usize, s: u64, c: u64)
     requires { used + 16 ≤ length room.old }
     ensures { room.new ≡ appended room.old used s c }
 {
-    let w = lowest_of(s, c);
+    let w = lowest_of(s, c).unwrap_or(0);
     let v = (w % 256) as u8;
     let b = (s % 256) as u8;
     let l = (c % 256) as u8;

@@ -1,9 +1,9 @@
 -- Building from valid tables keeps what `Shaped` says: each clause of the core links nodes that are known and of kinds that fit.
 use Rattle.std.proofs.Math.Path.{◌≡◌, refl, sym}
 use Rattle.std.proofs.Common.{ap, ◌∙◌, length-set, get_or-set_same, get_or-set_other, ltb-true, ltb-false, eqb-true}
-use Rattle.std.specs.Prelude.{Bool, true, false, ℕ, zero, suc, ◌<◌, ◌≤◌, get_or, set, replicate, ltb}
+use Rattle.std.specs.Prelude.{Bool, true, false, ℕ, zero, suc, ◌<◌, ◌≤◌, get_or, set, replicate, ltb, Option, Some, None}
 use mathlib.Core.List.{List, [], ◌∷◌, ◌++◌, map}
-use Rattle.std.proofs.Math.Option.{Option, none, some}
+use Rattle.std.proofs.Math.Option.{Option as Maybe, none, some}
 use native.Mathlib.Omega.{arith}
 use Rattle.std.proofs.Math.ListN.{length, get_or-eq_default}
 use Rattle.std.proofs.lemmas.List.{get_or-replicate, length-replicate}
@@ -31,8 +31,6 @@ use Rattle.store.specs.declared.ConflictEdge.{ConflictEdge}
 use Rattle.store.specs.declared.ConflictEdge.TheVariants as W
 use Rattle.store.specs.Graph.{Graph, Added, added, full, add_node, add_link}
 use Rattle.expansion.specs.Triple.{Triple, triple, same_triple}
-use Rattle.linking.specs.declared.Party.{Party}
-use Rattle.linking.specs.declared.Party.TheVariants.{Node, Neither}
 use Rattle.linking.specs.Links.{party_by, party_of, as_list, nodes_named, solvable_in, name_forbidden, any_of_in, parent_in, excluded_in, gate_reason, parent_reason}
 use Rattle.linking.specs.Links.{excluded_reason, partners_or, requirers, requirers_by, Link, link, Linked, more, short, link_all, require_link, require_links}
 use Rattle.linking.specs.Links.{requires_of, excluded_links, lock_links, constrains_links, previous_links, forbid_all}
@@ -241,8 +239,8 @@ module _ (T : Tables) (valid : Valid T) where
   excluded_end (C.ConstrainsExcluded a b v) = party_end a
   excluded_end (C.AnyOf a b) = tt
 
-  reason_end : (f : Clause → Party) → ((c : Clause) → All (End T) (as_list (f c))) → (o : Option ℕ)
-      → All (End T) (as_list (elim o [ none ↦ Neither | some i ↦ f (clause_of T i) ]))
+  reason_end : (f : Clause → Option ConflictNode) → ((c : Clause) → All (End T) (as_list (f c))) → (o : Maybe ℕ)
+      → All (End T) (as_list (elim o [ none ↦ None | some i ↦ f (clause_of T i) ]))
   reason_end f h none = tt
   reason_end f h (some i) = h (clause_of T i)
 
@@ -258,7 +256,7 @@ module _ (T : Tables) (valid : Valid T) where
   unfolding excluded_reason
   excludeds_end v = reason_end (excluded_in T) excluded_end (assigned_by T v)
 
-  partners_end : (vs : List ℕ) (p : Party) → All (End T) (as_list p) → All (End T) (partners_or T vs p)
+  partners_end : (vs : List ℕ) (p : Option ConflictNode) → All (End T) (as_list p) → All (End T) (partners_or T vs p)
   unfolding partners_or
   partners_end vs p h = all_or (End T) (concat_map (nodes_named T) vs) (as_list p) (all_concat (End T) (nodes_named T) vs party_end) h
 
@@ -355,20 +353,20 @@ module _ (T : Tables) (valid : Valid T) where
   unfolding triples_of
   pairs_good side n v ms h k = all_map_in (End T) (GoodTriple T) (triple_by side n v) ms (λ m l. triple_good side n v m h l) k
 
-  pair_by : (side : Side) (b v : ℕ) (r : Party) → All (End T) (as_list r) → (c d : Build) → Sane T c → pair_all T side b v r c ≡ on d → Sane T d
-  pair_by side b v Neither h c d P e = let z : c ≡ d = cc in rw (← z) P
-  pair_by side b v (Node n) h c d P e =
+  pair_by : (side : Side) (b v : ℕ) (r : Option ConflictNode) → All (End T) (as_list r) → (c d : Build) → Sane T c → pair_all T side b v r c ≡ on d → Sane T d
+  pair_by side b v None h c d P e = let z : c ≡ d = cc in rw (← z) P
+  pair_by side b v (Some n) h c d P e =
       onces_sane T (triples_of side n v (others T side b)) c d (pairs_good side n v (others T side b) h.0 (others_end side b)) P e
 
   pair_sane : (side : Side) (a b v : ℕ) (c d : Build) → Sane T c → pair T side a b v c ≡ on d → Sane T d
   unfolding pair
   pair_sane side a b v c d P e = pair_by side b v (party_of T a) (party_end a) c d P e
 
-  previous_good : (l : Option ℕ) (s : ℕ) → ((p : ℕ) → l ≡ some p → p < length T.solvables) → s < length T.solvables → All (GoodLink T) (previous_links l s)
+  previous_good : (l : Maybe ℕ) (s : ℕ) → ((p : ℕ) → l ≡ some p → p < length T.solvables) → s < length T.solvables → All (GoodLink T) (previous_links l s)
   previous_good none s h k = tt
   previous_good (some p) s h k = (record { source_known = h p refl; target_known = k; source_end = refl; target_fits = refl }, tt)
 
-  forbid_graph : (g h : Graph) (l : Option ℕ) (s : ℕ) → ((p : ℕ) → l ≡ some p → p < length T.solvables) → s < length T.solvables → Shaped T g
+  forbid_graph : (g h : Graph) (l : Maybe ℕ) (s : ℕ) → ((p : ℕ) → l ≡ some p → p < length T.solvables) → s < length T.solvables → Shaped T g
       → forbid_all g l s ≡ more h → Shaped T h
   unfolding forbid_all
   forbid_graph g h l s f k P e = go (add_node g (N.Solvable s)) refl
@@ -377,7 +375,7 @@ module _ (T : Tables) (valid : Valid T) where
       go (added i j) q = links_shaped T (previous_links l s) j h (previous_good l s f k) (shaped_node T g j (N.Solvable s) i P k q) (rw (q, forbid_all) at e)
       go full q = let z : short ≡ more h = rw (q, forbid_all) at e in clash (cc)
 
-  lasts_more : (last : List (Option ℕ)) (n s : ℕ) → ((m p : ℕ) → get_or last m none ≡ some p → p < length T.solvables)
+  lasts_more : (last : List (Maybe ℕ)) (n s : ℕ) → ((m p : ℕ) → get_or last m none ≡ some p → p < length T.solvables)
       → s < length T.solvables → (m p : ℕ) → get_or (set last n (some s)) m none ≡ some p → p < length T.solvables
   lasts_more last n s f k m p e =
       split (eqb m n)
@@ -387,7 +385,7 @@ module _ (T : Tables) (valid : Valid T) where
       let x : some s ≡ some p = sym y ∙ e in
       let w : s ≡ p = cc in
       rw (← w) k)
-      (λ u. f m p (sym (ap (λ (l : List (Option ℕ)). get_or l m none) (set_out last n (some s) (ltb-false n (length last) u))) ∙ e)))
+      (λ u. f m p (sym (ap (λ (l : List (Maybe ℕ)). get_or l m none) (set_out last n (some s) (ltb-false n (length last) u))) ∙ e)))
       (λ t. f m p (sym (get_or-set_other last n m (some s) none (eqb-false m n t)) ∙ e))
 
   forbid_by : (ss ns : List ℕ) → All (λ s. s < length T.solvables) ss → (c d : Build) → Sane T c → forbid_in c ss ns ≡ on d → Sane T d
@@ -431,7 +429,7 @@ module _ (T : Tables) (valid : Valid T) where
 pub start_sane : (T : Tables) → Sane T start_build
 start_sane T = record { shaped = shaped_start T; lasts = λ n p e. absurd (never 128 n p e) }
   where
-    never : (k n p : ℕ) → get_or (replicate {A = Option ℕ} k none) n none ≡ some p → ⊥
+    never : (k n p : ℕ) → get_or (replicate {A = Maybe ℕ} k none) n none ≡ some p → ⊥
     never zero n p e = clash (cc)
     never (suc k) zero p e = clash (cc)
     never (suc k) (suc n) p e = never k n p e

@@ -2,7 +2,7 @@
 // Of a record that is refused it says which one it is.
 #![tactic(auto)]
 
-ghost use Rattle.std.specs.Prelude.{◌≡◌, ◌≢◌, ℕ, ◌<◌, ◌≤◌, min, length, slice_index, IfOk, IfSome};
+ghost use Rattle.std.specs.Prelude.{◌≡◌, ◌≤◌, min, length, IfOk, IfSome};
 ghost use Rattle.records.specs.Text.{all_text};
 ghost use Rattle.shift_log.specs.Log.{Numbered, counted, unread_more};
 
@@ -22,212 +22,125 @@ struct Shift {
     unread: u64,
 }
 
-fn say<W: Write>(out: &mut W, text: &[u8]) -> io::Result<()> {
-    out.write_all(text)
-}
-
-fn say_number<W: Write>(out: &mut W, n: u64) -> io::Result<()> {
-    write!(out, "{n}")
-}
-
-fn say_with<W: Write>(out: &mut W, text: &[u8], n: u64) -> io::Result<()> {
-    say(out, text)?;
-    say_number(out, n)
-}
-
-// Where the first bar of a list stands from `at` on, or the list's end.
-fn find_bar(list: &[u8], at: usize) -> usize
-    requires { at ≤ length list.now }
-    ensures within { (at ≤ result) × (result ≤ length list.now) }
-    ensures before { (k : ℕ) → at ≤ k → k < result → slice_index list.now k ≢ 124 }
-    ensures found { result < length list.now → slice_index list.now result ≡ 124 }
-{
-    let mut e = at;
-    while e < list.len() {
-        if list[e] == b'|' {
-            return e;
-        }
-        e += 1;
-    }
-    e
-}
-
-// Where the text behind the one at `at` begins. The texts of a list stand behind one another, each ends with a bar.
-fn behind(list: &[u8], at: usize) -> usize
-    requires { at ≤ length list.now }
-    ensures { result ≤ length list.now }
-{
-    let e = find_bar(list, at);
-    if e < list.len() {
-        return e + 1;
-    }
-    e
-}
-
-// Where text n of a list begins, counted from 0.
-fn nth(list: &[u8], n: u64) -> usize
-    ensures { result ≤ length list.now }
-{
-    let mut at: usize = 0;
-    let mut k: u64 = 0;
-    while k < n {
-        at = behind(list, at);
-        k = k + 1;
-    }
-    at
-}
-
-fn say_nth<W: Write>(out: &mut W, list: &[u8], n: u64) -> io::Result<()> {
-    let at = nth(list, n);
-    let e = find_bar(list, at);
-    say(out, &list[at..e])
-}
-
-// A clause, by its kind.
-fn say_clause<W: Write>(out: &mut W, kind: u64) -> io::Result<()> {
-    if kind < 16 {
-        return say_with(out, b"kind ", kind);
-    }
-    if kind > 25 {
-        return say_with(out, b"kind ", kind);
-    }
-    say_nth(
-        out,
-        b"InstallRoot|Excluded|Learnt|Requires|Lock|ForbidMultipleInstances|Constrains|ConstrainsParent|ConstrainsExcluded|AnyOf|",
-        kind - 16,
-    )
-}
-
-// A kind of record.
-fn say_kind<W: Write>(out: &mut W, kind: u64) -> io::Result<()> {
-    if kind < 9 {
-        return say_nth(
-            out,
-            b"kind 0|name|solvable|version set|requirement|candidate|reason|variable|assigned-by|",
-            kind,
-        );
-    }
-    say_clause(out, kind)
+// A kind of record, or a clause by its kind.
+fn say_kind<W: Write>(out: &mut W, kind: u8) -> io::Result<()> {
+    let name = match kind {
+        1 => "name",
+        2 => "solvable",
+        3 => "version set",
+        4 => "requirement",
+        5 => "candidate",
+        6 => "reason",
+        7 => "variable",
+        8 => "assigned-by",
+        16 => "InstallRoot",
+        17 => "Excluded",
+        18 => "Learnt",
+        19 => "Requires",
+        20 => "Lock",
+        21 => "ForbidMultipleInstances",
+        22 => "Constrains",
+        23 => "ConstrainsParent",
+        24 => "ConstrainsExcluded",
+        25 => "AnyOf",
+        _ => return write!(out, "kind {kind}"),
+    };
+    write!(out, "{name}")
 }
 
 // Each byte can be shown: "each from 32 to 126".
 fn printable(text: &[u8]) -> bool
     ensures { result ≡ all_text text.now }
 {
-    let mut k = 0;
-    while k < text.len() {
-        let b = text[k];
-        if b < 32 {
-            return false;
-        }
-        if 126 < b {
-            return false;
-        }
-        k += 1;
-    }
-    true
+    text.iter().all(|b| 32 <= *b && *b <= 126)
 }
 
 // A text in quotes, if there is one and it can be shown.
 fn say_quoted<W: Write>(out: &mut W, text: &[u8]) -> io::Result<()> {
-    if text.len() == 0 {
+    if text.is_empty() || !printable(text) {
         return Ok(());
     }
-    if !printable(text) {
-        return Ok(());
-    }
-    say(out, b" \"")?;
-    say(out, text)?;
-    say(out, b"\"")
+    write!(out, " \"")?;
+    out.write_all(text)?;
+    write!(out, "\"")
 }
 
 // Which record it is: its kind, and its text.
 fn say_which<W: Write>(out: &mut W, file: &[u8], i: usize) -> io::Result<()> {
-    say(out, b" (")?;
-    say_kind(out, kind_of(file, i) as u64)?;
+    write!(out, " (")?;
+    say_kind(out, kind_of(file, i))?;
     say_quoted(out, text_of(file, i))?;
-    say(out, b")")
+    write!(out, ")")
 }
 
 // What a refusal's place counts.
 fn say_place<W: Write>(out: &mut W, file: &[u8], number: u64, place: u64) -> io::Result<()> {
-    if number < 2 {
-        return Ok(());
+    match number {
+        2..=6 => {
+            write!(out, " at record {place}")?;
+            say_which(out, file, place as usize)
+        }
+        7 | 8 => write!(out, " at clause {place}"),
+        9 => write!(out, " at node {place}"),
+        11 => write!(out, " at solvable {place}"),
+        _ => Ok(()),
     }
-    if number < 7 {
-        say_with(out, b" at record ", place)?;
-        return say_which(out, file, place as usize);
-    }
-    if number < 9 {
-        return say_with(out, b" at clause ", place);
-    }
-    if number == 9 {
-        return say_with(out, b" at node ", place);
-    }
-    if number == 11 {
-        return say_with(out, b" at solvable ", place);
-    }
-    Ok(())
 }
 
 // Why a file has no whole explanation.
 fn say_reason<W: Write>(out: &mut W, number: u64) -> io::Result<()> {
-    let n = if number < 13 { number } else { 0 };
-    say_nth(
-        out,
-        b"no such refusal|\
-        no file of 32-byte records, or too long|\
-        a kind of record that does not exist|\
-        a bad length, flag, text byte or origin, or a byte that has to be 0|\
-        out of order, or names what is not defined before it|\
-        names a variable of an origin that is not allowed there|\
-        one more than its table holds|\
-        a learnt clause in the core|\
-        the conflict is too large to draw|\
-        not reached from the root|\
-        the room was full|\
-        its package comes to be opened below itself, the lines before that are whole|\
-        the option is neither 0 nor 1|",
-        n,
-    )
+    let reason = match number {
+        1 => "no file of 32-byte records, or too long",
+        2 => "a kind of record that does not exist",
+        3 => "a bad length, flag, text byte or origin, or a byte that has to be 0",
+        4 => "out of order, or names what is not defined before it",
+        5 => "names a variable of an origin that is not allowed there",
+        6 => "one more than its table holds",
+        7 => "a learnt clause in the core",
+        8 => "the conflict is too large to draw",
+        9 => "not reached from the root",
+        10 => "the room was full",
+        11 => "its package comes to be opened below itself, the lines before that are whole",
+        12 => "the option is neither 0 nor 1",
+        _ => "no such refusal",
+    };
+    write!(out, "{reason}")
 }
 
 fn say_refusal<W: Write>(out: &mut W, file: &[u8], number: u64, place: u64) -> io::Result<()> {
-    say_with(out, b"refused with ", number)?;
+    write!(out, "refused with {number}")?;
     say_place(out, file, number, place)?;
-    say(out, b": ")?;
+    write!(out, ": ")?;
     say_reason(out, number)
 }
 
 fn say_result<W: Write>(out: &mut W, file: &[u8], a: Answer) -> io::Result<()> {
     if a.number == 0 {
-        return say(out, b"done");
+        return write!(out, "done");
     }
     say_refusal(out, file, a.number, a.place)
 }
 
 fn say_counts<W: Write>(out: &mut W, a: Answer) -> io::Result<()> {
-    say_with(out, b"; ", a.units)?;
-    say_with(out, b" lines, ", a.bytes)?;
-    say_with(out, b" bytes, depth ", a.depth)?;
-    say(out, b"\n")
+    writeln!(
+        out,
+        "; {} lines, {} bytes, depth {}",
+        a.units, a.bytes, a.depth
+    )
 }
 
+// Kept: no plainer: this program and `panel_feed` share this, `read_full` and `argument`, too little for a crate between them.
 // The bytes of a room that a text of that many takes.
 fn within(bytes: u64, room: usize) -> usize
     ensures { (result ≡ min bytes room) × (result ≤ room) }
 {
-    if bytes < room as u64 {
-        bytes as usize
-    } else {
-        room
-    }
+    (bytes as usize).min(room)
 }
 
 fn say_text<W: Write>(out: &mut W, room: &[u8], bytes: u64) -> io::Result<()> {
     let n = within(bytes, room.len());
-    say(out, &room[..n])?;
-    say(out, b"\n")
+    out.write_all(&room[..n])?;
+    writeln!(out)
 }
 
 // Explains the file, and answers with the number.
@@ -242,20 +155,19 @@ fn tell<W: Write>(out: &mut W, file: &[u8]) -> io::Result<u64>
     Ok(a.number)
 }
 
+#[tactic(auto, unfolding(crate::specs::Log::counted))]
 fn one_more(s: Shift, number: u64) -> Shift
     ensures { result ≡ counted s number }
 {
     if number == 0 {
         return Shift {
             done: s.done.wrapping_add(1),
-            refused: s.refused,
-            unread: s.unread,
+            ..s
         };
     }
     Shift {
-        done: s.done,
         refused: s.refused.wrapping_add(1),
-        unread: s.unread,
+        ..s
     }
 }
 
@@ -263,12 +175,12 @@ fn not_read(s: Shift) -> Shift
     ensures { result ≡ unread_more s }
 {
     Shift {
-        done: s.done,
-        refused: s.refused,
         unread: s.unread.wrapping_add(1),
+        ..s
     }
 }
 
+// Kept: what may not change, nothing new is assumed: `read_to_end` into a Vec reaches three more calls of libc.
 // Reads until buf is full, the file ends or a read fails; answers how many bytes of buf it filled.
 fn read_full<F: Read>(file: &mut F, buf: &mut [u8]) -> usize
     ensures { result ≤ length buf.new }
@@ -300,7 +212,7 @@ fn readable<F: Read>(file: &mut F) -> bool {
 fn cannot<W: Write>(out: &mut W, s: Shift) -> io::Result<Shift>
     ensures { IfOk result (λ t. t ≡ unread_more s) }
 {
-    say(out, b"cannot be read\n\n")?;
+    writeln!(out, "cannot be read\n")?;
     Ok(not_read(s))
 }
 
@@ -315,8 +227,8 @@ fn log_file<W: Write, F: Read>(out: &mut W, file: &mut F, s: Shift) -> io::Resul
 
 // The file of that name.
 fn log<W: Write, R: Files>(out: &mut W, rt: &R, name: &[u8], s: Shift) -> io::Result<Shift> {
-    say(out, name)?;
-    say(out, b": ")?;
+    out.write_all(name)?;
+    write!(out, ": ")?;
     let Ok(path) = str::from_utf8(name) else {
         return cannot(out, s);
     };
@@ -326,6 +238,7 @@ fn log<W: Write, R: Files>(out: &mut W, rt: &R, name: &[u8], s: Shift) -> io::Re
     log_file(out, &mut file, s)
 }
 
+// Kept: what may not change, what the programs do: `env::args` fails on a name that is not UTF-8, which is shown here as it stands.
 // Puts argument i at the start of `buf`, and answers its length, which is 0 for one that is longer than `buf`.
 fn argument<R: Env>(rt: &R, i: usize, buf: &mut [u8]) -> Option<usize>
     ensures { IfSome result (λ n. n ≤ length buf.new) }
@@ -357,8 +270,9 @@ fn log_all<W: Write, R: Env + Files>(out: &mut W, rt: &R) -> io::Result<Shift> {
 fn main(rt: HostRuntime) -> io::Result<()> {
     let mut out = io::writer(&rt);
     let s = log_all(&mut out, &rt)?;
-    say_with(&mut out, b"The shift: ", s.done)?;
-    say_with(&mut out, b" explained, ", s.refused)?;
-    say_with(&mut out, b" refused, ", s.unread)?;
-    say(&mut out, b" not read.\n")
+    writeln!(
+        out,
+        "The shift: {} explained, {} refused, {} not read.",
+        s.done, s.refused, s.unread,
+    )
 }

@@ -1,6 +1,6 @@
 -- Adding a node, an edge, a link: what table and answer hold after each way out of a function is what the definitions of `Working` say, and
 -- the graph can grow on.
-use Rattle.std.specs.Prelude.{◌≡◌, List, ℕ, ◌+◌, ◌*◌, ◌<◌, ◌≤◌}
+use Rattle.std.specs.Prelude.{Result, Ok, Err, ◌≡◌, List, ℕ, ◌+◌, ◌*◌, ◌<◌, ◌≤◌}
 use Rattle.std.proofs.Math.Path.{refl}
 use Rattle.std.proofs.Common.{sym, ap, ◌∙◌, arith}
 use borrow.Author.Tests.{lt-ltb, le-ltb, lt-leb, le-leb}
@@ -9,7 +9,7 @@ use Rattle.store.specs.declared.ConflictEdge.{ConflictEdge}
 use Rattle.store.specs.declared.Edge.{Edge}
 use Rattle.store.specs.declared.Size.{Size}
 use Rattle.store.specs.declared.Put.{Put}
-use Rattle.store.specs.declared.Put.TheVariants.{At, Full}
+use Rattle.store.specs.declared.Full.{Full}
 use Rattle.store.specs.Direct.{entry_in, more, with_nodes, put_at}
 use Rattle.store.specs.Graph.{Graph}
 use Rattle.store.specs.Working.{AddedSoFar, added_to, full_at, add_node_in, add_edge_in, add_link_in}
@@ -19,7 +19,7 @@ use Rattle.store.specs.Finding.{find_of}
 use Rattle.store.specs.Keeping.{one_node, one_edge, node_put, edge_put, found, missed, wider, grow_node, more_edges, edge_grows}
 
 -- ---- a node: w is its word, i the number that was found for it, the number of nodes where there is none. Each way out has three laws:
--- what was added (`add-`), that the graph can grow on (`held-`), and that the number is that of a node (`below-`)
+-- what was added (`add_`), that the graph can grow on (`held_`), and that the number is that of a node (`below_`)
 
 module _ (g : List ℕ) (s : Size) (x : ConflictNode) (w : ℕ) (P : Growing g s) (e : NodeWord x w) where
   module _ (i : ℕ) (f : i ≡ find_of g s.nodes w) where
@@ -43,7 +43,7 @@ module _ (g : List ℕ) (s : Size) (x : ConflictNode) (w : ℕ) (P : Growing g s
     unfolding add_node_in put_at
     add_full h l = rw (missed g s x w P.stored e i f h, add_node_in, nodes_count g s P.stored, le-ltb s.nodes 128 l)
 
-    put_new : s.nodes < 128 → put_at s s.nodes ≡ At s.nodes (one_node s)
+    put_new : s.nodes < 128 → put_at s s.nodes ≡ Ok (record { place = s.nodes; size = one_node s })
     unfolding put_at
     put_new l = rw (lt-leb 128 s.nodes l, le-ltb s.nodes s.nodes (omega arith))
 
@@ -100,11 +100,11 @@ add_target h i y w =
     ]
 
 -- what the number i of a node says: 128 that there was no room; else n nodes are there now
-put_full : (s : Size) (i : ℕ) → 128 ≤ i → put_at s i ≡ Full s
+put_full : (s : Size) (i : ℕ) → 128 ≤ i → put_at s i ≡ Err (record { size = s })
 unfolding put_at
 put_full s i h = rw (le-leb 128 i h)
 
-put_at_lem : (s : Size) (i n : ℕ) → i < 128 → n ≡ more s.nodes i → put_at s i ≡ At i (with_nodes s n)
+put_at_lem : (s : Size) (i n : ℕ) → i < 128 → n ≡ more s.nodes i → put_at s i ≡ Ok (record { place = i; size = with_nodes s n })
 unfolding put_at
 put_at_lem s i n h q = rw (lt-leb 128 i h, q)
 
@@ -129,7 +129,7 @@ module _ (g h : List ℕ) (s : Size) (x : ConflictNode) (i : ℕ) (p : added_in 
     unfolding add_target
     target_full j b = rw (full_is b, add_target)
 
-    pub target_edge : (m : List ℕ) (c : Put) (n j i' : ℕ) → i < 128 → n ≡ more s.nodes i
+    pub target_edge : (m : List ℕ) (c : Result Put Full) (n j i' : ℕ) → i < 128 → n ≡ more s.nodes i
         → added_in m c ≡ add_edge_in (graph_in h (with_nodes s n)) (record { source = j; target = i'; weight = w; clause = s.hand })
         → i' ≡ i → added_in m c ≡ add_target (graph_in g s) j x w
     unfolding add_target graph_in
@@ -140,7 +140,7 @@ module _ (g h : List ℕ) (s : Size) (x : ConflictNode) (i : ℕ) (p : added_in 
     unfolding add_link_in
     link_full b = rw (full_is b, add_link_in)
 
-    pub link_edge : (m : List ℕ) (c : Put) (n i' : ℕ) → i < 128 → n ≡ more s.nodes i
+    pub link_edge : (m : List ℕ) (c : Result Put Full) (n i' : ℕ) → i < 128 → n ≡ more s.nodes i
         → added_in m c ≡ add_target (graph_in h (with_nodes s n)) i' y w
         → i' ≡ i → added_in m c ≡ add_link_in (graph_in g s) x y w
     unfolding add_link_in add_target

@@ -1,12 +1,12 @@
 -- The table and its size are known from the graph that they hold: what the contracts of `start`, `add_node`, `link` and `settle` say of
 -- the graph and the promise determines every word that was lent.
-use Rattle.std.specs.Prelude.{◌≡◌, refl, List, ℕ, ◌+◌, ◌*◌, ◌-◌, ◌%◌, ◌<◌, ◌≤◌, length, get_or, ltb, leb}
+use Rattle.std.specs.Prelude.{Result, Ok, Err, ◌≡◌, refl, List, ℕ, ◌+◌, ◌*◌, ◌-◌, ◌%◌, ◌<◌, ◌≤◌, length, get_or, ltb, leb}
 use Rattle.std.proofs.Common.{sym, ap, ◌∙◌, arith, ext_get_or, ltb-true, ltb-false, leb-true}
 use Rattle.basis.specs.Members.{split, clash}
 use Rattle.store.specs.declared.ConflictNode.{ConflictNode}
 use Rattle.store.specs.declared.Size.{Size}
 use Rattle.store.specs.declared.Put.{Put}
-use Rattle.store.specs.declared.Put.TheVariants.{At, Full}
+use Rattle.store.specs.declared.Full.{Full}
 use Rattle.store.specs.Direct.{entry_in, with_nodes}
 use Rattle.store.specs.Laws.Direct.{both_parts, entry_one}
 use Rattle.store.specs.Keeping.{one_edge}
@@ -88,35 +88,51 @@ module _ (g h : List ℕ) (s t : Size) (S : Stored g s) (T : Stored h t) (q : gr
           let z : i ≡ 1024 + (i - 1024) = omega arith in
           rw z (node (i - 1024) (omega (arith, S.long))))
 
+put_same : (p q : Put) → p.place ≡ q.place → p.size ≡ q.size → p ≡ q
+put_same p q e f = ap (λ (i : ℕ). put i p.size) e ∙ ap (λ (s : Size). put q.place s) f
+  where
+    put : ℕ → Size → Put
+    put i s = record { place = i; size = s }
+
+pub full_same : (p q : Full) → p.size ≡ q.size → p ≡ q
+full_same p q e = ap full e
+  where
+    full : Size → Full
+    full s = record { size = s }
+
 -- two answers of `add_node`, or of `link`, to the same call
-pub put_one : (g h : List ℕ) (a b : Put) → Growing g (size_of a) → Growing h (size_of b) → added_in g a ≡ added_in h b → (a ≡ b) × (g ≡ h)
-put_one g h (At i s) (At j t) P Q e =
-    let z : i ≡ j = cc in
-    let q : graph_in g s ≡ graph_in h t = cc in
-    let y : s ≡ t = size_one g h s t P.stored Q.stored q in
-    (cc, table_one g h s t P.stored Q.stored q)
-put_one g h (At i s) (Full t) P Q e = clash cc
-put_one g h (Full s) (At j t) P Q e = clash cc
-put_one g h (Full s) (Full t) P Q e =
-    let q : graph_in g s ≡ graph_in h t = cc in
-    let y : s ≡ t = size_one g h s t P.stored Q.stored q in
-    (cc, table_one g h s t P.stored Q.stored q)
+pub put_one : (g h : List ℕ) (a b : Result Put Full) → Growing g (size_of a) → Growing h (size_of b) → added_in g a ≡ added_in h b → (a ≡ b) × (g ≡ h)
+put_one g h (Ok p) (Ok r) P Q e =
+    let z : p.place ≡ r.place = cc in
+    let q : graph_in g p.size ≡ graph_in h r.size = cc in
+    (ap Ok (put_same p r z (size_one g h p.size r.size P.stored Q.stored q)), table_one g h p.size r.size P.stored Q.stored q)
+put_one g h (Ok p) (Err r) P Q e = clash cc
+put_one g h (Err p) (Ok r) P Q e = clash cc
+put_one g h (Err p) (Err r) P Q e =
+    let q : graph_in g p.size ≡ graph_in h r.size = cc in
+    (ap Err (full_same p r (size_one g h p.size r.size P.stored Q.stored q)), table_one g h p.size r.size P.stored Q.stored q)
 
 -- ---- a link's answer as a plain number
+
+abbrev full_by : Size → ℕ → Result Put Full
+full_by s r = Err (record { size = with_nodes s (s.nodes + (r - 2)) })
+
+abbrev put_by : Size → ℕ → Result Put Full
+put_by s r = Ok (record { place = s.edges; size = one_edge (with_nodes s (s.nodes + r)) })
 
 pub linked_one : (s : Size) (r q : ℕ) → linked_by s r ≡ linked_by s q → r ≡ q
 unfolding linked_by
 linked_one s r q e =
     split (leb 2 r)
     (λ t. split (leb 2 q)
-    (λ u. let z : Full (with_nodes s (s.nodes + (r - 2))) ≡ Full (with_nodes s (s.nodes + (q - 2))) = rw (t, u) at e in
-    let y : s.nodes + (r - 2) ≡ s.nodes + (q - 2) = ap (λ (p : Put). (size_of p).nodes) z in
+    (λ u. let z : full_by s r ≡ full_by s q = rw (t, u) at e in
+    let y : s.nodes + (r - 2) ≡ s.nodes + (q - 2) = ap (λ (p : Result Put Full). (size_of p).nodes) z in
     omega (arith, leb-true 2 r t, leb-true 2 q u))
-    (λ u. let z : Full (with_nodes s (s.nodes + (r - 2))) ≡ At s.edges (one_edge (with_nodes s (s.nodes + q))) = rw (t, u) at e in clash cc))
+    (λ u. let z : full_by s r ≡ put_by s q = rw (t, u) at e in clash cc))
     (λ t. split (leb 2 q)
-    (λ u. let z : At s.edges (one_edge (with_nodes s (s.nodes + r))) ≡ Full (with_nodes s (s.nodes + (q - 2))) = rw (t, u) at e in clash cc)
-    (λ u. let z : At s.edges (one_edge (with_nodes s (s.nodes + r))) ≡ At s.edges (one_edge (with_nodes s (s.nodes + q))) = rw (t, u) at e in
-    let y : s.nodes + r ≡ s.nodes + q = ap (λ (p : Put). (size_of p).nodes) z in
+    (λ u. let z : put_by s r ≡ full_by s q = rw (t, u) at e in clash cc)
+    (λ u. let z : put_by s r ≡ put_by s q = rw (t, u) at e in
+    let y : s.nodes + r ≡ s.nodes + q = ap (λ (p : Result Put Full). (size_of p).nodes) z in
     omega arith))
 
 -- a node has one word

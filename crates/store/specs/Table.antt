@@ -1,6 +1,6 @@
 -- What the table of words holds: edges from place 0 on, nodes from place 1024 on, above the edges the direct table of `Direct`. These two
 -- files say where they stand.
-use Rattle.std.specs.Prelude.{◌≡◌, refl, true, false, List, [], ◌∷◌, map, ℕ, zero, suc, ◌+◌, ◌*◌, ◌/◌, ◌%◌, ◌<◌, ◌≤◌, length, get_or, take, drop, ltb, eqb}
+use Rattle.std.specs.Prelude.{Result, Ok, Err, ◌≡◌, refl, true, false, List, [], ◌∷◌, map, ℕ, zero, suc, ◌+◌, ◌*◌, ◌/◌, ◌%◌, ◌<◌, ◌≤◌, length, get_or, take, drop, ltb, eqb}
 use Rattle.std.proofs.Math.Path.{sym, ap}
 use Rattle.std.proofs.Common.{◌∙◌, inl, inr, arith, length-drop, lt-ltb, le-ltb, get_or-take}
 use Rattle.std.proofs.Math.ListN.{length-map, get_or-map}
@@ -14,7 +14,7 @@ use Rattle.store.specs.declared.ConflictEdge.TheVariants as W
 use Rattle.store.specs.declared.Edge.{Edge}
 use Rattle.store.specs.declared.Size.{Size}
 use Rattle.store.specs.declared.Put.{Put}
-use Rattle.store.specs.declared.Put.TheVariants.{At, Full}
+use Rattle.store.specs.declared.Full.{Full}
 use Rattle.store.specs.Direct.{Direct}
 use Rattle.store.specs.Graph.{Graph, handing, node_at, first_at, is_solvable, is_unresolved, is_excluded}
 use Rattle.store.specs.Working.{AddedSoFar, added_to, full_at}
@@ -112,17 +112,17 @@ taken_graph g s i = refl
 
 -- ---- how adding went, as the definitions say it
 
-abbrev pub added_in : List ℕ → Put → AddedSoFar
-added_in g (At i s) = added_to i (graph_in g s)
-added_in g (Full s) = full_at (graph_in g s)
+abbrev pub added_in : List ℕ → Result Put Full → AddedSoFar
+added_in g (Ok p) = added_to p.place (graph_in g p.size)
+added_in g (Err e) = full_at (graph_in g e.size)
 
-abbrev pub size_of : Put → Size
-size_of (At i s) = s
-size_of (Full s) = s
+abbrev pub size_of : Result Put Full → Size
+size_of (Ok p) = p.size
+size_of (Err e) = e.size
 
-abbrev pub place_of : Put → ℕ
-place_of (At i s) = i
-place_of (Full s) = 0
+abbrev pub place_of : Result Put Full → ℕ
+place_of (Ok p) = p.place
+place_of (Err e) = 0
 
 -- ---- the table read place by place
 

@@ -16,14 +16,12 @@ fn find_settled(g: &GraphWords, s: Size, w: u64) -> usize
     ensures { result ≡ find_of g.now s.nodes w }
 {
     let k = s.nodes;
-    if w < 2048 {
-        if w % 2 == 1 {
-            let e = entry_at(g, (w / 2) as usize);
-            if e == 0 {
-                return k;
-            }
-            return (e - 1) as usize;
+    if w < 2048 && w % 2 == 1 {
+        let e = entry_at(g, (w / 2) as usize);
+        if e == 0 {
+            return k;
         }
+        return (e - 1) as usize;
     }
     find_node(g, k, w)
 }
@@ -45,14 +43,10 @@ pub fn push_node(g: &mut GraphWords, s: Size, x: ConflictNode) -> Size
 {
     let w = node_word(x);
     let k = s.nodes;
-    let c = s.hand as u64;
+    let c = u64::from(s.hand);
     g[1024 + k] = w + 262144 * c;
     enter(g, w, (k + 1) as u64);
-    Size {
-        nodes: k + 1,
-        edges: s.edges,
-        hand: s.hand,
-    }
+    Size { nodes: k + 1, ..s }
 }
 
 // One more edge, the newest.
@@ -66,9 +60,5 @@ pub fn push_edge(g: &mut GraphWords, s: Size, e: Edge) -> Size
     let w = edge_word(e);
     let k = entry_at(g, m);
     g[m] = w + 72057594037927936 * k;
-    Size {
-        nodes: s.nodes,
-        edges: m + 1,
-        hand: s.hand,
-    }
+    Size { edges: m + 1, ..s }
 }

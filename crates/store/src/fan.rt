@@ -1,5 +1,5 @@
 // Links of one node to several solvables, one after another, as a requirement has them with its candidates. The source is found once,
-// and an answer is a plain number: a struct or an enum that a call returns costs more than the link.
+// and an answer is a plain number.
 ghost use Rattle.std.specs.Prelude.{◌≡◌, ◌<◌, ◌≤◌};
 ghost use Rattle.store.specs.Adding.{add_target};
 ghost use Rattle.store.specs.Fan.{known_at, edge_by, linked_by};
@@ -7,22 +7,22 @@ ghost use Rattle.store.specs.Working.{add_edge_in};
 ghost use Rattle.store.specs.Table.{graph_in, Growing, added_in, size_of};
 
 use crate::{
-    ConflictEdge, ConflictNode, Edge, GraphWords, Size, edge_word, entry_at, more, put_node, small,
+    ConflictEdge, ConflictNode, Edge, GraphWords, Size, edge_word, entry_at, more, put_node,
 };
-use basis::wide16;
 
 // One more than the number of the node of solvable c, by the direct table; 0 where that has none, or no entry for c.
 fn known(g: &GraphWords, c: u16) -> u64
     ensures { (result ≡ known_at g.now c) × (result < 256) }
 {
     if c < 512 {
-        let k = wide16(c);
+        let k = usize::from(c);
         return entry_at(g, 2 * k);
     }
     0
 }
 
 // The edge; whether there was no room.
+// Kept: tried, and it misses a bar of speed. It is a part of each link, see `link_from`.
 fn put_edge(g: &mut GraphWords, s: Size, e: Edge) -> bool
     requires growing { Growing g.old s }
     requires source_bound { (e.source < 128) × (e.target < s.nodes) }
@@ -53,15 +53,10 @@ fn link_new(g: &mut GraphWords, s: Size, source: u8, c: u16, q: u16) -> usize
     }
     let k = s.nodes;
     let n = more(k, j);
-    let t = Size {
-        nodes: n,
-        edges: s.edges,
-        hand: s.hand,
-    };
-    let target = small(j);
+    let t = Size { nodes: n, ..s };
     let e = Edge {
         source,
-        target,
+        target: j as u8,
         weight: ConflictEdge::Requires(q),
         clause: s.hand,
     };
@@ -72,6 +67,7 @@ fn link_new(g: &mut GraphWords, s: Size, source: u8, c: u16, q: u16) -> usize
 }
 
 // The link from node `source` to solvable c: how many nodes it added, 0 or 1, and 2 more where there was no room.
+// Kept: tried, and it misses a bar of speed. A Result that this call returns costs more than the link itself (docs/DECISIONS.md).
 pub fn link_from(g: &mut GraphWords, s: Size, source: u8, c: u16, q: u16) -> usize
     requires growing { Growing g.old s }
     requires source_bound { source < 128 }
@@ -83,7 +79,7 @@ pub fn link_from(g: &mut GraphWords, s: Size, source: u8, c: u16, q: u16) -> usi
     if k == 0 {
         return link_new(g, s, source, c, q);
     }
-    let target = small((k - 1) as usize);
+    let target = (k - 1) as u8;
     let e = Edge {
         source,
         target,
@@ -103,29 +99,19 @@ pub fn size_after(s: Size, r: usize) -> Size
 {
     if r == 0 {
         return Size {
-            nodes: s.nodes,
             edges: s.edges + 1,
-            hand: s.hand,
+            ..s
         };
     }
     if 2 <= r {
         return Size {
             nodes: s.nodes + (r - 2),
-            edges: s.edges,
-            hand: s.hand,
+            ..s
         };
     }
     Size {
         nodes: s.nodes + r,
         edges: s.edges + 1,
-        hand: s.hand,
+        ..s
     }
-}
-
-// A node's number as a source.
-pub fn source_of(i: usize) -> u8
-    requires { i < 128 }
-    ensures { (result ≡ i) × (result < 128) }
-{
-    small(i)
 }

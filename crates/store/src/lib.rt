@@ -18,15 +18,19 @@ ghost use Rattle.store.specs.Direct.{entry_in, entered, more, put_at};
 ghost use Rattle.store.specs.Table.{graph_in, edge_in, node_in, first_in, Stored, Growing, added_in, size_of, place_of};
 
 // A number for each node.
+// Kept: the project's rule: no heap, fixed memory.
 pub type PerNode = [u16; 128];
 
 // Working words, lent to one pass after another; each says how many it takes.
+// Kept: the project's rule: no heap, fixed memory.
 pub type Scratch = [u64; 1280];
 
 // Chains over a graph: of each node's edges; while it is built, of what building remembers.
+// Kept: the project's rule: no heap, fixed memory; the chains are links by number in it.
 pub type ChainWords = [u16; 3456];
 
 // A graph: 128 words for its nodes, then one an edge.
+// Kept: the project's rule: no heap, fixed memory.
 pub type GraphWords = [u64; 1152];
 
 // A node (conflict.rs: `ConflictNode`), with the number of the solvable or reason.
@@ -48,6 +52,7 @@ pub enum ConflictCause {
 }
 
 // What an edge says (conflict.rs: `ConflictEdge`).
+// Kept: the new form is no plainer: both variants are conflict.rs's own (`ConflictEdge`), and neither is an absence or an error.
 #[derive(Clone, Copy)]
 pub enum ConflictEdge {
     Requires(u16),
@@ -71,19 +76,25 @@ pub struct Size {
     pub hand: u16,
 }
 
-// How adding went: the number of the node or edge, or no room; with how much the table holds now.
+// The number of the node or edge that was put in, and how much the table holds now.
 #[derive(Clone, Copy)]
-pub enum Put {
-    At(usize, Size),
-    Full(Size),
+pub struct Put {
+    pub place: usize,
+    pub size: Size,
+}
+
+// No room for a node or an edge; how much the table holds.
+#[derive(Clone, Copy)]
+pub struct Full {
+    pub size: Size,
 }
 
 fn cause_word(c: ConflictCause) -> u64
     ensures { CauseWord c result }
 {
     match c {
-        ConflictCause::Locked(s) => 1 + 256 * (s as u64),
-        ConflictCause::Constrains(v) => 2 + 256 * (v as u64),
+        ConflictCause::Locked(s) => 1 + 256 * u64::from(s),
+        ConflictCause::Constrains(v) => 2 + 256 * u64::from(v),
         ConflictCause::ForbidMultipleInstances => 3,
         ConflictCause::Excluded => 4,
     }
@@ -94,7 +105,7 @@ fn weight_word(w: ConflictEdge) -> u64
     ensures { WeightWord w result }
 {
     match w {
-        ConflictEdge::Requires(q) => 256 * (q as u64),
+        ConflictEdge::Requires(q) => 256 * u64::from(q),
         ConflictEdge::Conflict(c) => cause_word(c),
     }
 }
@@ -115,9 +126,9 @@ fn edge_word(e: Edge) -> u64
     ensures { EdgeWord e result }
 {
     let w = e.weight;
-    let s = e.source as u64;
-    let t = e.target as u64;
-    let c = e.clause as u64;
+    let s = u64::from(e.source);
+    let t = u64::from(e.target);
+    let c = u64::from(e.clause);
     s + 256 * t + 65536 * (weight_word(w) + 16777216 * c)
 }
 
@@ -125,7 +136,7 @@ fn edge_word(e: Edge) -> u64
 pub fn edge_at(g: &GraphWords, e: usize) -> Edge
     ensures { result ≡ edge_in g.now e }
 {
-    let w = basis::get64(g, e);
+    let w = basis::get(g, e);
     let k = weight_of(w / 65536 % 256, (w / 16777216 % 65536) as u16);
     Edge {
         source: (w % 256) as u8,
@@ -135,38 +146,25 @@ pub fn edge_at(g: &GraphWords, e: usize) -> Edge
     }
 }
 
+// The ends of edge e, as places.
 pub fn source_at(g: &GraphWords, e: usize) -> usize
     ensures { (result ≡ (edge_in g.now e).source) × (result < 256) }
 {
-    (basis::get64(g, e) % 256) as usize
+    (basis::get(g, e) % 256) as usize
 }
 
 pub fn target_at(g: &GraphWords, e: usize) -> usize
     ensures { (result ≡ (edge_in g.now e).target) × (result < 256) }
 {
-    (basis::get64(g, e) / 256 % 256) as usize
-}
-
-// The ends of an edge whose place is known to be one of the table's: no test.
-pub fn source_there(g: &GraphWords, e: usize) -> usize
-    requires { e < 1024 }
-    ensures { (result ≡ (edge_in g.now e).source) × (result < 256) }
-{
-    (g[e] % 256) as usize
-}
-
-pub fn target_there(g: &GraphWords, e: usize) -> usize
-    requires { e < 1024 }
-    ensures { (result ≡ (edge_in g.now e).target) × (result < 256) }
-{
-    (g[e] / 256 % 256) as usize
+    (basis::get(g, e) / 256 % 256) as usize
 }
 
 // One more than the requirement's number, or 0 for a conflict: conflict.rs's `try_requires` as one number.
+// Kept: an Option is no plainer here. Groups put this number into a key as it is.
 pub fn requires_at(g: &GraphWords, e: usize) -> u64
     ensures { (result ≡ requirement_code (edge_in g.now e).weight) × (result ≤ 65536) }
 {
-    let w = basis::get64(g, e);
+    let w = basis::get(g, e);
     let t = w / 65536 % 256;
     let n = w / 16777216 % 65536;
     if t == 0 { n + 1 } else { 0 }
@@ -175,20 +173,20 @@ pub fn requires_at(g: &GraphWords, e: usize) -> u64
 pub fn excluded_at(g: &GraphWords, e: usize) -> bool
     ensures { result ≡ is_excluded (edge_in g.now e).weight }
 {
-    let w = basis::get64(g, e);
-    let t = w / 65536 % 256;
-    if 3 < t { true } else { false }
+    let w = basis::get(g, e);
+    3 < w / 65536 % 256
 }
 
 // The word that stands for a node, whatever its clause: what other tables may keep of it.
+// Kept: the new form is no plainer: a match on the four kinds of node, whose arms are the packing.
 pub fn node_word(x: ConflictNode) -> u64
     ensures { NodeWord x result }
 {
     match x {
         ConflictNode::Root => 0,
-        ConflictNode::Solvable(s) => 1 + 4 * (s as u64),
+        ConflictNode::Solvable(s) => 1 + 4 * u64::from(s),
         ConflictNode::UnresolvedDependency => 2,
-        ConflictNode::Excluded(r) => 3 + 4 * (r as u64),
+        ConflictNode::Excluded(r) => 3 + 4 * u64::from(r),
     }
 }
 
@@ -208,29 +206,31 @@ pub fn node_at(g: &GraphWords, n: usize) -> ConflictNode
     ensures { result ≡ node_in g.now n }
 {
     if n < 128 {
-        let w = basis::get64(g, 1024 + n);
+        let w = basis::get(g, 1024 + n);
         return node_of(w % 4, (w / 4 % 65536) as u16);
     }
     ConflictNode::Root
 }
 
 // Node n is a solvable.
+// Kept: the new form is no plainer: a test of a node's tag, whose promise names another predicate than `unresolved_at`.
 pub fn solvable_at(g: &GraphWords, n: usize) -> bool
     ensures { result ≡ is_solvable (node_in g.now n) }
 {
     if n < 128 {
-        let w = basis::get64(g, 1024 + n);
+        let w = basis::get(g, 1024 + n);
         return w % 4 == 1;
     }
     false
 }
 
 // Node n is unresolved.
+// Kept: the new form is no plainer: see `solvable_at`.
 pub fn unresolved_at(g: &GraphWords, n: usize) -> bool
     ensures { result ≡ is_unresolved (node_in g.now n) }
 {
     if n < 128 {
-        let w = basis::get64(g, 1024 + n);
+        let w = basis::get(g, 1024 + n);
         return w % 4 == 2;
     }
     false
@@ -241,7 +241,7 @@ pub fn first_at(g: &GraphWords, n: usize) -> u16
     ensures { result ≡ first_in g.now n }
 {
     if n < 128 {
-        let w = basis::get64(g, 1024 + n);
+        let w = basis::get(g, 1024 + n);
         return (w / 262144 % 65536) as u16;
     }
     65535
@@ -263,16 +263,15 @@ pub fn start(g: &mut GraphWords) -> Size
 }
 
 // The place of word w among the first k nodes, or k; a node's clause is not looked at.
+// Kept: what may not change. `find_of`, on which the theorems of Finding.antt and of whatif rest, is this number.
 fn find_node(g: &GraphWords, k: usize, w: u64) -> usize
     requires { (length g.now ≡ 1152) × (k ≤ 128) }
     ensures { result ≡ find_of g.now k w }
 {
-    let mut i: usize = 0;
-    while i < k {
+    for i in 0..k {
         if g[1024 + i] % 262144 == w {
             return i;
         }
-        i += 1;
     }
     k
 }
@@ -281,7 +280,7 @@ fn find_node(g: &GraphWords, k: usize, w: u64) -> usize
 fn entry_at(g: &GraphWords, k: usize) -> u64
     ensures { (result ≡ entry_in g.now k) × (result < 256) }
 {
-    basis::get64(g, k) / 72057594037927936
+    basis::get(g, k) / 72057594037927936
 }
 
 // The place of word w among the nodes, or their count. Root is node 0 and unresolved node 1 while the graph grows; solvables and reasons
@@ -311,10 +310,7 @@ fn enter(g: &mut GraphWords, w: u64, n: u64)
     requires { n < 256 }
     ensures { g.new ≡ entered g.old w n }
 {
-    if 2048 <= w {
-        return;
-    }
-    if w % 2 == 0 {
+    if 2048 <= w || w % 2 == 0 {
         return;
     }
     let k = (w / 2) as usize;
@@ -323,6 +319,7 @@ fn enter(g: &mut GraphWords, w: u64, n: u64)
 }
 
 // The node's number, a new one where it is not there yet; 128 where there is no room.
+// Kept: tried, and it misses a bar of speed. It is a part of each link, see `fan::link_from`.
 fn put_node(g: &mut GraphWords, s: Size, x: ConflictNode) -> usize
     requires { Growing g.old s }
     ensures result_after { added_in g.new (put_at s result) ≡ add_node_in (graph_in g.old s) x }
@@ -337,7 +334,7 @@ fn put_node(g: &mut GraphWords, s: Size, x: ConflictNode) -> usize
     if 128 <= k {
         return 128;
     }
-    let c = s.hand as u64;
+    let c = u64::from(s.hand);
     g[1024 + k] = w + 262144 * c;
     enter(g, w, (k + 1) as u64);
     k
@@ -352,27 +349,23 @@ fn more(k: usize, i: usize) -> usize
 }
 
 // The node's number, a new one where it is not there yet (conflict.rs: `add_node`).
-pub fn add_node(g: &mut GraphWords, s: Size, x: ConflictNode) -> Put
+pub fn add_node(g: &mut GraphWords, s: Size, x: ConflictNode) -> Result<Put, Full>
     requires { Growing g.old s }
     ensures result_after { added_in g.new result ≡ add_node_in (graph_in g.old s) x }
     ensures growing { Growing g.new (size_of result) × (place_of result < (size_of result).nodes) }
 {
     let i = put_node(g, s, x);
     if 128 <= i {
-        return Put::Full(s);
+        return Err(Full { size: s });
     }
     let n = more(s.nodes, i);
-    Put::At(
-        i,
-        Size {
-            nodes: n,
-            edges: s.edges,
-            hand: s.hand,
-        },
-    )
+    Ok(Put {
+        place: i,
+        size: Size { nodes: n, ..s },
+    })
 }
 
-fn add_edge(g: &mut GraphWords, s: Size, e: Edge) -> Put
+fn add_edge(g: &mut GraphWords, s: Size, e: Edge) -> Result<Put, Full>
     requires growing { Growing g.old s }
     requires source_bound { (e.source < 128) × (e.target < s.nodes) }
     ensures result_after { added_in g.new result ≡ add_edge_in (graph_in g.old s) e }
@@ -380,30 +373,25 @@ fn add_edge(g: &mut GraphWords, s: Size, e: Edge) -> Put
 {
     let m = s.edges;
     if 1024 <= m {
-        return Put::Full(s);
+        return Err(Full { size: s });
     }
     let w = edge_word(e);
     let k = entry_at(g, m);
     g[m] = w + 72057594037927936 * k;
-    Put::At(
-        m,
-        Size {
-            nodes: s.nodes,
-            edges: m + 1,
-            hand: s.hand,
-        },
-    )
-}
-
-fn small(i: usize) -> u8
-    requires { i < 128 }
-    ensures { (result ≡ i) × (result < 128) }
-{
-    i as u8
+    Ok(Put {
+        place: m,
+        size: Size { edges: m + 1, ..s },
+    })
 }
 
 // The target, then the edge from node `source`.
-fn link_to(g: &mut GraphWords, s: Size, source: u8, y: ConflictNode, w: ConflictEdge) -> Put
+fn link_to(
+    g: &mut GraphWords,
+    s: Size,
+    source: u8,
+    y: ConflictNode,
+    w: ConflictEdge,
+) -> Result<Put, Full>
     requires growing { Growing g.old s }
     requires source_bound { source < 128 }
     ensures result_after { added_in g.new result ≡ add_target (graph_in g.old s) source y w }
@@ -411,18 +399,13 @@ fn link_to(g: &mut GraphWords, s: Size, source: u8, y: ConflictNode, w: Conflict
 {
     let j = put_node(g, s, y);
     if 128 <= j {
-        return Put::Full(s);
+        return Err(Full { size: s });
     }
     let n = more(s.nodes, j);
-    let t = Size {
-        nodes: n,
-        edges: s.edges,
-        hand: s.hand,
-    };
-    let target = small(j);
+    let t = Size { nodes: n, ..s };
     let e = Edge {
         source,
-        target,
+        target: j as u8,
         weight: w,
         clause: s.hand,
     };
@@ -430,23 +413,24 @@ fn link_to(g: &mut GraphWords, s: Size, source: u8, y: ConflictNode, w: Conflict
 }
 
 // Both ends, the source first, then the edge.
-pub fn link(g: &mut GraphWords, s: Size, x: ConflictNode, y: ConflictNode, w: ConflictEdge) -> Put
+pub fn link(
+    g: &mut GraphWords,
+    s: Size,
+    x: ConflictNode,
+    y: ConflictNode,
+    w: ConflictEdge,
+) -> Result<Put, Full>
     requires { Growing g.old s }
     ensures result_after { added_in g.new result ≡ add_link_in (graph_in g.old s) x y w }
     ensures growing { Growing g.new (size_of result) }
 {
     let i = put_node(g, s, x);
     if 128 <= i {
-        return Put::Full(s);
+        return Err(Full { size: s });
     }
     let n = more(s.nodes, i);
-    let t = Size {
-        nodes: n,
-        edges: s.edges,
-        hand: s.hand,
-    };
-    let source = small(i);
-    link_to(g, t, source, y, w)
+    let t = Size { nodes: n, ..s };
+    link_to(g, t, i as u8, y, w)
 }
 
 // No edge leads to node 1.
@@ -454,13 +438,10 @@ fn spared(g: &GraphWords, m: usize) -> bool
     requires { m ≤ 1024 }
     ensures { result ≡ all_below (spares g.now) m }
 {
-    let mut i: usize = 0;
-    while i < m {
-        let t = g[i] / 256 % 256;
-        if t == 1 {
+    for i in 0..m {
+        if g[i] / 256 % 256 == 1 {
             return false;
         }
-        i += 1;
     }
     true
 }
@@ -485,10 +466,7 @@ fn renumbered_word(w: u64, last: u64) -> u64
 fn touches(w: u64, last: u64) -> bool
     ensures { result ≡ touches last w }
 {
-    if w % 256 == last {
-        return true;
-    }
-    w / 256 % 256 == last
+    w % 256 == last || w / 256 % 256 == last
 }
 
 // Edge i renumbered; most words stay as they are, and those are not stored again.
@@ -497,22 +475,17 @@ fn renumber_at(g: &mut GraphWords, i: usize, last: u64)
     ensures { g.new ≡ renumber_at last g.old i }
 {
     let w = g[i];
-    let b = touches(w, last);
-    if !b {
-        return;
+    if touches(w, last) {
+        g[i] = renumbered_word(w, last);
     }
-    let r = renumbered_word(w, last);
-    g[i] = r;
 }
 
 fn renumber_all(g: &mut GraphWords, m: usize, last: u64)
     requires { m ≤ 1024 }
     ensures { g.new ≡ renumber_to last g.old m }
 {
-    let mut i: usize = 0;
-    while i < m {
+    for i in 0..m {
         renumber_at(g, i, last);
-        i += 1;
     }
 }
 
@@ -534,15 +507,10 @@ pub fn settle(g: &mut GraphWords, s: Size) -> Size
     ensures { (graph_in g.new result ≡ settle (graph_in g.old s)) × Stored g.new result }
 {
     let m = s.edges;
-    let b = spared(g, m);
-    if !b {
+    if !spared(g, m) {
         return s;
     }
     let last = s.nodes - 1;
     remove(g, last, m);
-    Size {
-        nodes: last,
-        edges: m,
-        hand: s.hand,
-    }
+    Size { nodes: last, ..s }
 }

@@ -1,8 +1,8 @@
 -- The levels above a line's own, eight or four a step where their marks stand in one word: the marks as a number, and stores of two levels
 -- by tables of words and widths.
-use Rattle.std.specs.Prelude.{◌≡◌, refl, Bool, true, false, cond, ℕ, zero, suc, ◌+◌, ◌*◌, ◌-◌, ◌/◌, ◌%◌, ◌^◌, ◌≤◌, ◌<◌, length, take, drop, eqb, ltb}
+use Rattle.std.specs.Prelude.{◌≡◌, refl, Bool, cond, ℕ, zero, suc, ◌+◌, ◌*◌, ◌-◌, ◌/◌, ◌%◌, ◌^◌, ◌≤◌, ◌<◌, length, take, drop, eqb, ltb}
 use Rattle.std.proofs.Math.Path.{sym}
-use Rattle.std.proofs.Common.{ap, ◌∙◌, not-suc-le-zero, length-append, length-take, length-drop, lt-ltb, le-ltb, ltb-false, eq-eqb, ne_eqb}
+use Rattle.std.proofs.Common.{ap, ◌∙◌, length-append, length-take, length-drop, lt-ltb, le-ltb, ltb-false, eq-eqb, ne_eqb}
 use mathlib.Core.List.{List, [], ◌∷◌, ◌++◌, append_assoc, append-nil}
 use native.Mathlib.Omega.{arith}
 use Rattle.std.proofs.Math.ListN.{get_or}

@@ -1,11 +1,10 @@
 -- Laws of the levels held: one for each way out of the indenter's methods, and those by which a loop that keeps one
 -- indenter knows the marks of every level above it.
-use Rattle.std.specs.Prelude.{◌≡◌, refl, Bool, true, false, cond, List, [], ◌∷◌, ◌++◌, ℕ, zero, suc, ◌+◌, ◌*◌, ◌-◌, ◌/◌, ◌%◌, ◌^◌, ◌≤◌, ◌<◌, length, get_or, set, drop, eqb, ltb}
-use Rattle.std.proofs.Common.{sym, ap, ◌∙◌, add-one, arith, length-drop, get_or-set_same, get_or-set_other, drop-drop}
-use Rattle.std.proofs.Math.Seq.{drop-append_seam}
+use Rattle.std.specs.Prelude.{◌≡◌, refl, Bool, true, false, List, ◌∷◌, ℕ, zero, suc, ◌+◌, ◌-◌, ◌/◌, ◌%◌, ◌≤◌, ◌<◌, length, get_or, set, drop, eqb, ltb}
+use Rattle.std.proofs.Common.{ap, ◌∙◌, add-one, arith, length-drop, get_or-set_same, get_or-set_other, drop-drop}
 use borrow.Author.Tests.{eqb-true, eqb-false, ltb-true, ltb-false, lt-ltb, le-ltb, eq-eqb, ne_eqb}
 use Rattle.basis.specs.Members.{split}
-use Rattle.texts.specs.MarkBits.{digit, bit, marks_at, marks_in, pushed, last_set, upper, kept_of, marked, put_at, last_at, level_count, level_words, digit_same}
+use Rattle.texts.specs.MarkBits.{bit, marks_at, marks_in, pushed, last_set, upper, kept_of, marked, put_at, last_at, level_count, level_words, digit_same}
 use Rattle.texts.specs.MarkBits.{digit_low}
 use Rattle.texts.specs.declared.Indenter.{Indenter}
 

@@ -1,5 +1,5 @@
 -- The marks as bits: level i, counted from 0 at the top, is digit i % 64 of word i / 64.
-use Rattle.std.specs.Prelude.{◌≡◌, refl, Bool, true, false, cond, List, [], ◌∷◌, ◌++◌, ℕ, zero, suc, ◌+◌, ◌*◌, ◌-◌, ◌/◌, ◌%◌, ◌^◌, ◌≤◌, ◌<◌, length, get_or, set, drop, eqb, ltb}
+use Rattle.std.specs.Prelude.{◌≡◌, Bool, true, false, cond, List, [], ◌∷◌, ℕ, zero, suc, ◌+◌, ◌*◌, ◌-◌, ◌/◌, ◌%◌, ◌^◌, ◌≤◌, ◌<◌, length, get_or, set, drop, eqb, ltb}
 use Rattle.std.proofs.Common.{sym, ap, ◌∙◌, mod-lt, mul_assoc, arith, pow_pos, pow_mono, pow-add, shl_exact, lit<, Fits}
 use Rattle.std.proofs.Math.Nat.{mul-add-mod_self_right}
 use Rattle.std.proofs.Math.Pow.{field, high, mod-mod-pow}

@@ -1,13 +1,12 @@
 -- The levels above a line's own, two to a store of ten bytes of which six to ten count. What a store leaves beyond them is
 -- written over by the next, and at the end by the seven bytes of the deepest level.
-use Rattle.std.specs.Prelude.{◌≡◌, refl, Bool, true, false, cond, List, [], ◌∷◌, ◌++◌, ℕ, zero, suc, ◌+◌, ◌*◌, ◌-◌, ◌/◌, ◌%◌, ◌≤◌, ◌<◌, length, take, drop}
-use Rattle.std.proofs.Common.{sym, ap, ◌∙◌, append_assoc, append-nil, add-one, arith, length-append, length-drop, length-take, take_all, drop-drop}
-use Rattle.std.proofs.Math.Seq.{take-length, drop-length, take-append-add, drop-append-add, take-append_seam}
+use Rattle.std.specs.Prelude.{◌≡◌, Bool, true, false, List, [], ◌∷◌, ◌++◌, ℕ, zero, suc, ◌+◌, ◌-◌, ◌/◌, ◌%◌, ◌≤◌, length, take, drop}
+use Rattle.std.proofs.Common.{sym, ap, ◌∙◌, append_assoc, append-nil, arith, length-append, length-drop, take_all, drop-drop}
+use Rattle.std.proofs.Math.Seq.{drop-length, take-append-add, drop-append-add}
 use Rattle.std.proofs.lemmas.List.{take-append-le}
 use borrow.Rule.Slice.PartMut.{put_mid}
 use Rattle.basis.specs.Quote.{utf8}
-use Rattle.texts.specs.Indent.{older, deepest, above, indent}
-use Rattle.texts.specs.MarkBits.{bit, marks_at}
+use Rattle.texts.specs.Indent.{older}
 use Rattle.texts.specs.Wrote.{over, Wrote}
 
 -- the third byte of "└" and of "├"

@@ -1,5 +1,5 @@
 -- The levels above a line's own as text, level by level: laws of the loop that writes them.
-use Rattle.std.specs.Prelude.{◌≡◌, refl, Bool, true, false, cond, List, [], ◌∷◌, ◌++◌, ℕ, zero, suc, ◌+◌, ◌*◌, ◌-◌, ◌≤◌, ◌<◌, length, take, drop}
+use Rattle.std.specs.Prelude.{◌≡◌, refl, Bool, true, false, List, [], ◌∷◌, ◌++◌, ℕ, zero, suc, ◌+◌, ◌*◌, ◌-◌, ◌≤◌, ◌<◌, length, take, drop}
 use Rattle.std.proofs.Common.{sym, ap, ◌∙◌, append_assoc, append-nil, not-suc-le-zero, add-one, arith, length-append, length-drop, length-take}
 use borrow.Rule.Slice.PartMut.{put_mid}
 use Rattle.texts.specs.Indent.{older, deepest, unless_top, above, indent}

@@ -1,6 +1,6 @@
 -- Ways out of the small functions of a mark, and of those that put one piece.
 use Rattle.std.specs.Prelude.{◌≡◌, refl, Bool, true, false, List, [], ◌∷◌, ◌++◌, ℕ, ◌+◌, ◌≤◌, length, take}
-use Rattle.std.proofs.Common.{sym, ap, ◌∙◌, append_assoc, arith, length-append}
+use Rattle.std.proofs.Common.{arith, length-append}
 use Rattle.texts.specs.Indent.{older, deepest}
 use Rattle.texts.specs.Wrote.{Wrote}
 use Rattle.texts.specs.Pieces.{corner_of, bytes_of, pair_word, pair_bytes, BytesLaid}

@@ -17,6 +17,7 @@ use pieces::{length_of, put_indent};
 
 // The levels above a line, as `Indenter` of conflict.rs: a bit a level, set for `ChildOrder::Last`; `top` is its
 // `top_level_indent`. Pushing hands back a new one, and the old stays usable.
+// Kept: the project's rule (fixed memory): the marks of 4,160 levels with their count; `top` is an option of the text, not of another field.
 #[derive(Clone, Copy)]
 pub struct Indenter {
     pub levels: [u64; 65],

@@ -45,11 +45,9 @@ pub fn lasts(levels: &[u64; 65], n: usize) -> usize
     ensures { (result ≡ last_count (marks_at levels.now n)) × (result ≤ 4224) }
 {
     let words = n / 64;
-    let mut k: usize = 0;
     let mut s: usize = 0;
-    while k < words {
+    for k in 0..words {
         s += set_bits(levels[k]);
-        k += 1;
     }
     s + set_bits(levels[words] % power(n % 64))
 }
@@ -58,7 +56,7 @@ pub fn lasts(levels: &[u64; 65], n: usize) -> usize
 pub fn kept(count: usize, level: usize) -> usize
     ensures { (result ≡ kept_of count level) × (result ≤ count) }
 {
-    if level < count { level } else { count }
+    level.min(count)
 }
 
 // Back to the `level` upper levels of lent marks, and one more pushed: the entry of a level's next sibling. The answer is how many are held

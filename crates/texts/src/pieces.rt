@@ -11,6 +11,16 @@ ghost use Rattle.texts.specs.Fours.{pair_words, pair_widths, pair_text, four_tex
 use super::marks::{lasts, mark};
 use super::writers::put;
 
+// Two levels by the number of their marks: the word that is stored first, and how many bytes count.
+const WORDS: [u64; 4] = [
+    0x8294E220208294E2,
+    0x20208294E2202020,
+    0x20202020208294E2,
+    0x2020202020202020,
+];
+
+const WIDTHS: [usize; 4] = [10, 8, 8, 6];
+
 // The first level that is shown: the top one is skipped without the option.
 fn first(top: bool) -> usize
     ensures { (result ≡ shown_first top) × (result ≤ 1) }
@@ -42,14 +52,7 @@ fn put_eight(out: &mut [u8], w: u64) -> usize
     ensures value { result ≡ 8 }
     ensures wrote { Wrote (bytes_of 8 w) out.old out.new result }
 {
-    let mut x = w;
-    let mut i: usize = 0;
-    while i < 8 {
-        out[i] = (x % 256) as u8;
-        x /= 256;
-        i += 1;
-    }
-    i
+    put(out, &w.to_le_bytes())
 }
 
 // Eight of the ten bytes of two levels.
@@ -110,44 +113,42 @@ fn put_one(out: &mut [u8], levels: &[u64; 65], i: usize) -> usize
     width(a)
 }
 
-// Two levels by the number of their marks, through lent tables of words and widths.
-fn put_code(out: &mut [u8], words: &[u64; 4], widths: &[usize; 4], c: usize) -> usize
-    requires words_value { (words.now ≡ pair_words) × (widths.now ≡ pair_widths) }
+// Two levels by the number of their marks.
+fn put_code(out: &mut [u8], c: usize) -> usize
     requires c_bound { c < 4 }
     requires in_bounds { 10 ≤ length out.old }
     ensures near { Near (pair_text c) out.old out.new result }
     ensures upper_bound { result ≤ 10 }
 {
-    let at = put_eight(out, words[c]);
+    let at = put_eight(out, WORDS[c]);
     put(&mut out[at..], b"  ");
-    widths[c]
+    WIDTHS[c]
 }
 
 // Four levels by the number of their marks.
-fn put_four(out: &mut [u8], words: &[u64; 4], widths: &[usize; 4], c: usize) -> usize
-    requires words_value { (words.now ≡ pair_words) × (widths.now ≡ pair_widths) }
+fn put_four(out: &mut [u8], c: usize) -> usize
     requires c_bound { c < 16 }
     requires c_in_bounds { length (four_text c) + 7 ≤ length out.old }
     ensures near { Near (four_text c) out.old out.new result }
     ensures upper_bound { result ≤ 20 }
 {
-    let a = put_code(out, words, widths, c % 4);
-    a + put_code(&mut out[a..], words, widths, c / 4)
+    let a = put_code(out, c % 4);
+    a + put_code(&mut out[a..], c / 4)
 }
 
 // Eight levels by the number of their marks.
-fn put_byte(out: &mut [u8], words: &[u64; 4], widths: &[usize; 4], c: usize) -> usize
-    requires words_value { (words.now ≡ pair_words) × (widths.now ≡ pair_widths) }
+fn put_byte(out: &mut [u8], c: usize) -> usize
     requires c_bound { c < 256 }
     requires c_in_bounds { length (byte_text c) + 7 ≤ length out.old }
     ensures near { Near (byte_text c) out.old out.new result }
     ensures upper_bound { result ≤ 40 }
 {
-    let a = put_four(out, words, widths, c % 16);
-    a + put_four(&mut out[a..], words, widths, c / 16)
+    let a = put_four(out, c % 16);
+    a + put_four(&mut out[a..], c / 16)
 }
 
 // The marks of the four levels from i on as a number, of k levels that are left; 16 where they are fewer or stand in two words.
+// Kept: the new form is no plainer: 16 is behind all codes of four levels, as `code_in` says, and an Option would be taken apart at each level.
 fn code_at(levels: &[u64; 65], i: usize, k: usize) -> usize
     requires { i < 4160 }
     ensures { result ≡ code_in levels.now i k }
@@ -162,6 +163,7 @@ fn code_at(levels: &[u64; 65], i: usize, k: usize) -> usize
 }
 
 // The same of eight levels, with 256 for none.
+// Kept: the new form is no plainer: 256 is behind all codes of eight levels, as `byte_in` says, and with one size for both the shifts would be products.
 fn byte_at(levels: &[u64; 65], i: usize, k: usize) -> usize
     requires { i < 4160 }
     ensures { result ≡ byte_in levels.now i k }
@@ -176,16 +178,7 @@ fn byte_at(levels: &[u64; 65], i: usize, k: usize) -> usize
 }
 
 // The next levels, of k that are left: one, two, or four by their number c.
-fn put_few(
-    out: &mut [u8],
-    levels: &[u64; 65],
-    words: &[u64; 4],
-    widths: &[usize; 4],
-    i: usize,
-    k: usize,
-    c: usize,
-) -> usize
-    requires words_value { (words.now ≡ pair_words) × (widths.now ≡ pair_widths) }
+fn put_few(out: &mut [u8], levels: &[u64; 65], i: usize, k: usize, c: usize) -> usize
     requires k_nonzero { (0 < k) × (i + k ≤ 4160) }
     requires c_value { c ≡ code_in levels.now i k }
     requires c_in_bounds { length (levels_from levels.now i (few_of k c)) + 7 ≤ length out.old }
@@ -199,12 +192,13 @@ fn put_few(
         return put_two(out, levels, i);
     }
     if c < 16 {
-        return put_four(out, words, widths, c);
+        return put_four(out, c);
     }
     put_two(out, levels, i)
 }
 
 // How many levels that is.
+// Kept: the new form is no plainer: it answers how many levels, a number.
 fn few(k: usize, c: usize) -> usize
     requires { 0 < k }
     ensures { (result ≡ few_of k c) × (0 < result) × (result ≤ k) }
@@ -234,16 +228,7 @@ fn evened(i: usize, k: usize) -> usize
 }
 
 // The next levels: eight by their number b, or fewer.
-fn put_step(
-    out: &mut [u8],
-    levels: &[u64; 65],
-    words: &[u64; 4],
-    widths: &[usize; 4],
-    i: usize,
-    k: usize,
-    b: usize,
-) -> usize
-    requires words_value { (words.now ≡ pair_words) × (widths.now ≡ pair_widths) }
+fn put_step(out: &mut [u8], levels: &[u64; 65], i: usize, k: usize, b: usize) -> usize
     requires k_nonzero { (0 < k) × (i + k ≤ 4160) }
     requires b_value { b ≡ byte_in levels.now i k }
     requires b_in_bounds { length (levels_from levels.now i (step_of levels.now i k b)) + 7 ≤ length out.old }
@@ -251,11 +236,11 @@ fn put_step(
     ensures upper_bound { result ≤ 40 }
 {
     if b < 256 {
-        return put_byte(out, words, widths, b);
+        return put_byte(out, b);
     }
     let j = evened(i, k);
     let c = code_at(levels, i, j);
-    put_few(out, levels, words, widths, i, j, c)
+    put_few(out, levels, i, j, c)
 }
 
 // How many levels that is.
@@ -273,26 +258,19 @@ fn step(levels: &[u64; 65], i: usize, k: usize, b: usize) -> usize
 }
 
 // The levels above, and up to seven bytes more that are not the room's own.
-fn put_above(
-    out: &mut [u8],
-    levels: &[u64; 65],
-    words: &[u64; 4],
-    widths: &[usize; 4],
-    top: bool,
-    n: usize,
-) -> usize
-    requires words_value { (words.now ≡ pair_words) × (widths.now ≡ pair_widths) }
+fn put_above(out: &mut [u8], levels: &[u64; 65], top: bool, n: usize) -> usize
     requires top_bound { (shown_first top ≤ n) × (n < 4160) }
     requires n_in_bounds { length (above_text top levels.now n) + 7 ≤ length out.old }
     ensures { Near (above_text top levels.now n) out.old out.new result }
 {
     let mut i = first(top);
     let mut at: usize = 0;
+    // Kept: the new form is no plainer: a turn takes one, two, four or eight levels, and `step` says how many.
     while i < n {
         let k = n - i;
         let b = byte_at(levels, i, k);
         let s = step(levels, i, k, b);
-        at += put_step(&mut out[at..], levels, words, widths, i, k, b);
+        at += put_step(&mut out[at..], levels, i, k, b);
         i += s;
     }
     at
@@ -309,14 +287,7 @@ pub fn put_indent(out: &mut [u8], levels: &[u64; 65], count: usize, top: bool) -
     }
     let own = count - 1;
     let last = mark(levels, own);
-    let words = [
-        0x8294E220208294E2u64,
-        0x20208294E2202020,
-        0x20202020208294E2,
-        0x2020202020202020,
-    ];
-    let widths = [10usize, 8, 8, 6];
-    let at = put_above(out, levels, &words, &widths, top, own);
+    let at = put_above(out, levels, top, own);
     at + put_deepest(&mut out[at..], last)
 }
 

@@ -8,10 +8,7 @@ pub fn put(out: &mut [u8], src: &[u8]) -> usize
     ensures value { result ≡ length src.now }
     ensures wrote { Wrote src.now out.old out.new result }
 {
-    let mut i: usize = 0;
-    while i < src.len() {
-        out[i] = src[i];
-        i += 1;
-    }
-    i
+    let n = src.len();
+    out[..n].copy_from_slice(src);
+    n
 }

@@ -1,9 +1,9 @@
 -- Small texts by computation, each with the wrong reader that it shuts out.
-use Rattle.std.specs.Prelude.{◌≡◌, refl, List, [], ◌∷◌, ◌++◌, ℕ, replicate}
+use Rattle.std.specs.Prelude.{◌≡◌, refl, [], ◌∷◌, ◌++◌, ℕ, replicate}
 use Rattle.basis.specs.Guard.{guard}
 use Rattle.basis.specs.Quote.{utf8}
 use Rattle.tgf.specs.Lines.{Label, WallEdge}
-use Rattle.tgf.specs.Read.{number_on, number_at, label_in, label_at, node_line_at, end_at, edge_at, WallText, good, bad, edges_from, hash_at, nodes_from, read_text}
+use Rattle.tgf.specs.Read.{number_on, number_at, label_in, label_at, node_line_at, end_at, edge_at, good, bad, edges_from, hash_at, nodes_from, read_text}
 
 abbrev edge : ℕ → ℕ → Label → WallEdge
 edge a b l = record { source = a; target = b; label = l }

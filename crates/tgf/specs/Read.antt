@@ -1,6 +1,6 @@
 -- Order 14, the reader: "takes such a text back to nodes, edges and label texts", or "gives 3 with the line number, from 1, of
 -- the first bad or missing line". It reads line by line from the front; what one line leaves is the rest of the text.
-use Rattle.std.specs.Prelude.{Bool, true, false, cond, ◌&&◌, List, [], ◌∷◌, ◌++◌, ℕ, zero, suc, ◌+◌, ◌*◌, ◌-◌, length, leb, ltb, eqb}
+use Rattle.std.specs.Prelude.{Bool, true, false, ◌&&◌, List, [], ◌∷◌, ℕ, zero, suc, ◌+◌, ◌*◌, ◌-◌, leb, ltb, eqb}
 use Rattle.std.proofs.Math.Option.{Option, none, some}
 use Rattle.basis.specs.Guard.{guard}
 use Rattle.tgf.specs.Lines.{Label, WallEdge, in_label}

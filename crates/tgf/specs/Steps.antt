@@ -1,5 +1,6 @@
 -- What the functions of the reader answer: values and places in the lent text for what the definition gives as values and rests.
-use Rattle.std.specs.Prelude.{◌≡◌, Bool, true, false, List, [], ◌∷◌, ℕ, suc, ◌+◌, ◌≤◌, length, take, drop, set}
+use Rattle.std.specs.Prelude.{◌≡◌, Bool, true, false, List, [], ℕ, suc, ◌+◌, ◌≤◌, length, take, drop, set}
+use Rattle.std.specs.Prelude.{Option as Maybe, Some, None, Result, Ok, Err}
 use Rattle.std.proofs.Math.Option.{Option, none, some}
 use Rattle.tgf.specs.declared.Part.{Part}
 use Rattle.tgf.specs.declared.NodeLine.{NodeLine}
@@ -13,34 +14,29 @@ use Rattle.tgf.specs.Lent.{edges_read}
 unfoldable pub rest : ℕ → List ℕ → List ℕ
 rest at text = drop at text
 
--- the place behind a label and its newline, where there is one
-abbrev pub behind : Bool → ℕ → ℕ → ℕ
-behind true at n = at + n + 1
-behind false at n = 0
-
 -- what an answer says
-unfoldable pub number_out : List ℕ → Part → Option (ℕ × List ℕ)
-number_out text r = elim r.ok [ true ↦ some (r.value, rest r.next text) | false ↦ none ]
+unfoldable pub number_out : List ℕ → Maybe Part → Option (ℕ × List ℕ)
+number_out text None = none
+number_out text (Some r) = some (r.value, rest r.next text)
 
-unfoldable pub label_out : List ℕ → ℕ → Part → Option (Label × List ℕ)
-label_out text at r = elim r.ok [ true ↦ some (take r.value (rest at text), rest r.next text) | false ↦ none ]
+unfoldable pub label_out : List ℕ → ℕ → Maybe Part → Option (Label × List ℕ)
+label_out text at None = none
+label_out text at (Some r) = some (take r.value (rest at text), rest r.next text)
 
-unfoldable pub node_out : List ℕ → NodeLine → Option (Label × List ℕ)
-node_out text r = elim r.ok [ true ↦ some (take r.size (rest r.begin text), rest r.next text) | false ↦ none ]
+unfoldable pub node_out : List ℕ → Maybe NodeLine → Option (Label × List ℕ)
+node_out text None = none
+node_out text (Some r) = some (take r.size (rest r.begin text), rest r.next text)
 
-unfoldable pub edge_out : List ℕ → EdgeLine → Option (WallEdge × List ℕ)
-edge_out text r =
-    elim r.ok [
-      | true ↦ some (record { source = r.source; target = r.target; label = take r.size (rest r.begin text) }, rest r.next text)
-      | false ↦ none
-    ]
+unfoldable pub edge_out : List ℕ → Maybe EdgeLine → Option (WallEdge × List ℕ)
+edge_out text None = none
+edge_out text (Some r) = some (record { source = r.source; target = r.target; label = take r.size (rest r.begin text) }, rest r.next text)
 
 -- with i nodes and k edges counted before
-abbrev pub seen_of : ℕ → ℕ → WallText → Seen
-seen_of i k (good ns es) = record { ok = true; bad = 0; nodes = i + length ns; edges = k + length es }
-seen_of i k (bad n) = record { ok = false; bad = n; nodes = 0; edges = 0 }
+abbrev pub seen_of : ℕ → ℕ → WallText → Result Seen ℕ
+seen_of i k (good ns es) = Ok (record { nodes = i + length ns; edges = k + length es })
+seen_of i k (bad n) = Err n
 
-unfoldable pub edges_seen : List ℕ → ℕ → ℕ → Seen
+unfoldable pub edges_seen : List ℕ → ℕ → ℕ → Result Seen ℕ
 edges_seen text from m = seen_of m 0 (edges_from 1024 m (suc (suc m)) (rest from text))
 
 unfoldable pub hash_out : List ℕ → ℕ → Bool → Option (List ℕ)

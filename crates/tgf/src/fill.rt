@@ -7,33 +7,15 @@ ghost use Rattle.tgf.specs.Steps.{two_put, HashAt, EdgesAt};
 
 use crate::EdgeLine;
 use crate::lines::{edge_at, node_at};
-
-// Stores a 32-bit number; past the end it does nothing.
-fn put32(t: &mut [u32], at: usize, v: u32)
-    ensures { t.new ≡ set t.old at v }
-{
-    if at < t.len() {
-        t[at] = v;
-    }
-}
-
-// A place of the text as a list holds it.
-fn word(x: usize) -> u32
-    requires { x < 4294967296 }
-    ensures { result ≡ x }
-{
-    x as u32
-}
+use basis::put;
 
 // Two numbers side by side.
 fn put_two(list: &mut [u32], at: usize, a: usize, b: usize)
     requires { (at < 8192) × (a < 4294967296) × (b < 4294967296) }
     ensures { list.new ≡ two_put list.old at a b }
 {
-    let v = word(a);
-    let w = word(b);
-    put32(list, at, v);
-    put32(list, at + 1, w);
+    put(list, at, a as u32);
+    put(list, at + 1, b as u32);
 }
 
 // The two numbers of node i.
@@ -53,7 +35,7 @@ fn put_edge(list: &mut [u32], k: usize, x: EdgeLine)
     put_two(list, 4 * k + 2, x.begin, x.size);
 }
 
-// Two numbers for each of the n nodes of a good text; the answer is the place of the #.
+// Two numbers for each of the n nodes of a good text, in which each line is one; the answer is the place of the #.
 pub fn fill_nodes(text: &[u8], n: usize, nodes: &mut [u32]) -> usize
     requires text_value { is_good (read_text text.now) ≡ true }
     requires text_len { length (labels_in (read_text text.now)) ≡ n }
@@ -63,12 +45,12 @@ pub fn fill_nodes(text: &[u8], n: usize, nodes: &mut [u32]) -> usize
     ensures hash_at { HashAt text.now n result }
 {
     let mut at: usize = 0;
-    let mut i: usize = 0;
-    while i < n {
-        let x = node_at(text, at, i);
+    for i in 0..n {
+        let Some(x) = node_at(text, at, i) else {
+            break;
+        };
         put_node(nodes, i, x.begin, x.size);
         at = x.next;
-        i += 1;
     }
     at
 }
@@ -80,11 +62,11 @@ pub fn fill_edges(text: &[u8], from: usize, m: usize, n: usize, edges: &mut [u32
     ensures { edges.new ≡ sets edges.old 0 (edge_spots from (edges_read (read_text text.now))) }
 {
     let mut at = from;
-    let mut k: usize = 0;
-    while k < n {
-        let x = edge_at(text, at, m);
+    for k in 0..n {
+        let Some(x) = edge_at(text, at, m) else {
+            break;
+        };
         put_edge(edges, k, x);
         at = x.next;
-        k += 1;
     }
 }

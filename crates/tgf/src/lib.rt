@@ -14,18 +14,16 @@ ghost use Rattle.tgf.specs.Lent.{refused, tgf_counts, tgf_nodes, tgf_edges};
 use count::count;
 use fill::{fill_edges, fill_nodes};
 
-// A number or the length of a label, and the place behind it; or nothing.
+// A number or the length of a label, and the place behind it.
 #[derive(Clone, Copy)]
 pub struct Part {
-    pub ok: bool,
     pub value: usize,
     pub next: usize,
 }
 
-// Where a node's label begins, how long it is, and the place behind its line; or nothing.
+// Where a node's label begins, how long it is, and the place behind its line.
 #[derive(Clone, Copy)]
 pub struct NodeLine {
-    pub ok: bool,
     pub begin: usize,
     pub size: usize,
     pub next: usize,
@@ -33,7 +31,6 @@ pub struct NodeLine {
 
 #[derive(Clone, Copy)]
 pub struct EdgeLine {
-    pub ok: bool,
     pub source: usize,
     pub target: usize,
     pub begin: usize,
@@ -41,15 +38,14 @@ pub struct EdgeLine {
     pub next: usize,
 }
 
-// What is seen of a text: the number of its first bad or missing line; or 0, and how many nodes and edges it has.
+// How many nodes and edges a good text has.
 #[derive(Clone, Copy)]
 pub struct Seen {
-    pub ok: bool,
-    pub bad: usize,
     pub nodes: usize,
     pub edges: usize,
 }
 
+// Kept: the C interface: `urzulempa_tgf_read` hands it out.
 #[repr(C)]
 #[derive(Clone, Copy)]
 pub struct Counts {
@@ -59,38 +55,35 @@ pub struct Counts {
     pub edges: u64,
 }
 
+// A refusal in place of the counts.
+fn refuse(number: u64, place: u64) -> Counts
+    ensures { result ≡ refused number place }
+{
+    Counts {
+        number,
+        place,
+        nodes: 0,
+        edges: 0,
+    }
+}
+
 // Reads a text of the wall display: two numbers for each node, four for each edge.
 pub fn read(text: &[u8], nodes: &mut [u32], edges: &mut [u32]) -> Counts
     ensures value { result ≡ tgf_counts (read_text text.now) (length nodes.old) (length edges.old) }
     ensures nodes_after { nodes.new ≡ tgf_nodes (read_text text.now) nodes.old (length edges.old) }
     ensures edges_after { edges.new ≡ tgf_edges (read_text text.now) (length nodes.old) edges.old }
 {
-    let s = count(text);
-    if !s.ok {
-        return Counts {
-            number: 3,
-            place: s.bad as u64,
-            nodes: 0,
-            edges: 0,
-        };
-    }
+    let s = match count(text) {
+        Ok(s) => s,
+        Err(line) => return refuse(3, line as u64),
+    };
     let n = s.nodes;
     let k = s.edges;
     if nodes.len() < 2 * n {
-        return Counts {
-            number: 10,
-            place: 0,
-            nodes: 0,
-            edges: 0,
-        };
+        return refuse(10, 0);
     }
     if edges.len() < 4 * k {
-        return Counts {
-            number: 10,
-            place: 0,
-            nodes: 0,
-            edges: 0,
-        };
+        return refuse(10, 0);
     }
     let h = fill_nodes(text, n, nodes);
     fill_edges(text, h + 2, n, k, edges);

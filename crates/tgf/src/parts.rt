@@ -1,225 +1,102 @@
 // Numbers and labels at a place of the text, with the place behind them.
-ghost use Rattle.std.specs.Prelude.{◌≡◌, ◌+◌, ◌<◌, ◌≤◌, length};
+ghost use Rattle.std.specs.Prelude.{◌≡◌, ◌+◌, ◌*◌, ◌^◌, ◌<◌, ◌≤◌, length, slice_get, IfSome};
 ghost use Rattle.tgf.specs.Read.{number_on, number_at, label_in, label_at};
-ghost use Rattle.tgf.specs.Steps.{rest, behind, number_out, label_out};
+ghost use Rattle.tgf.specs.Steps.{rest, number_out, label_out};
 
 use crate::Part;
-use basis::{byte, wide};
+use basis::get;
 
-// The space behind a number of three digits, or behind 0.
-fn on_last(text: &[u8], at: usize, n: usize) -> Part
-    requires { n < 1000 }
-    ensures result_value { number_out text.now result ≡ number_on 0 n (rest at text.now) }
-    ensures next_in_bounds { (result.next ≤ length text.now) × (result.next ≤ at + 1) × (result.value < 1000) }
+// The byte at a place, if the text is that long.
+fn byte_at(text: &[u8], at: usize) -> Option<u8>
+    ensures { result ≡ slice_get text.now at }
 {
-    if text.len() <= at {
-        return Part {
-            ok: false,
-            value: 0,
-            next: 0,
-        };
-    }
-    let c = byte(text, at);
-    if c != 32 {
-        return Part {
-            ok: false,
-            value: 0,
-            next: 0,
-        };
-    }
-    Part {
-        ok: true,
-        value: n,
-        next: at + 1,
-    }
+    text.get(at).copied()
 }
 
-// The third digit, if there is one, and the space.
-fn on_one(text: &[u8], at: usize, n: usize) -> Part
-    requires { n < 100 }
-    ensures result_value { number_out text.now result ≡ number_on 1 n (rest at text.now) }
-    ensures next_in_bounds { (result.next ≤ length text.now) × (result.next ≤ at + 2) × (result.value < 1000) }
+// The space behind the number n, or up to k more digits before it.
+fn number_on(text: &[u8], at: usize, n: usize, k: usize) -> Option<Part>
+    requires k_bound { k ≤ 2 }
+    requires n_bound { n * 10 ^ k < 1000 }
+    ensures result_value { number_out text.now result ≡ number_on k n (rest at text.now) }
+    ensures in_bounds { IfSome result (λ p. (p.next ≤ length text.now) × (p.next ≤ at + k + 1) × (p.value < 1000)) }
 {
-    if text.len() <= at {
-        return Part {
-            ok: false,
-            value: 0,
-            next: 0,
-        };
-    }
-    let c = byte(text, at);
+    let c = byte_at(text, at)?;
     if c == 32 {
-        return Part {
-            ok: true,
+        return Some(Part {
             value: n,
             next: at + 1,
-        };
+        });
+    }
+    if k == 0 {
+        return None;
     }
     if c < 48 {
-        return Part {
-            ok: false,
-            value: 0,
-            next: 0,
-        };
+        return None;
     }
     if 57 < c {
-        return Part {
-            ok: false,
-            value: 0,
-            next: 0,
-        };
+        return None;
     }
-    let w = wide(c);
-    on_last(text, at + 1, 10 * n + (w - 48))
-}
-
-// The second digit, if there is one, and what is behind it.
-fn on_two(text: &[u8], at: usize, n: usize) -> Part
-    requires { n < 10 }
-    ensures result_value { number_out text.now result ≡ number_on 2 n (rest at text.now) }
-    ensures next_in_bounds { (result.next ≤ length text.now) × (result.next ≤ at + 3) × (result.value < 1000) }
-{
-    if text.len() <= at {
-        return Part {
-            ok: false,
-            value: 0,
-            next: 0,
-        };
-    }
-    let c = byte(text, at);
-    if c == 32 {
-        return Part {
-            ok: true,
-            value: n,
-            next: at + 1,
-        };
-    }
-    if c < 48 {
-        return Part {
-            ok: false,
-            value: 0,
-            next: 0,
-        };
-    }
-    if 57 < c {
-        return Part {
-            ok: false,
-            value: 0,
-            next: 0,
-        };
-    }
-    let w = wide(c);
-    on_one(text, at + 1, 10 * n + (w - 48))
+    let w = usize::from(c);
+    number_on(text, at + 1, 10 * n + (w - 48), k - 1)
 }
 
 // A number and the space behind it.
-pub fn number_at(text: &[u8], at: usize) -> Part
+pub fn number_at(text: &[u8], at: usize) -> Option<Part>
     ensures result_value { number_out text.now result ≡ number_at (rest at text.now) }
-    ensures next_in_bounds { (result.next ≤ length text.now) × (result.next ≤ at + 4) × (result.value < 1000) }
+    ensures in_bounds { IfSome result (λ p. (p.next ≤ length text.now) × (p.next ≤ at + 4) × (p.value < 1000)) }
 {
-    if text.len() <= at {
-        return Part {
-            ok: false,
-            value: 0,
-            next: 0,
-        };
-    }
-    let c = byte(text, at);
+    let c = byte_at(text, at)?;
     if c < 48 {
-        return Part {
-            ok: false,
-            value: 0,
-            next: 0,
-        };
+        return None;
     }
     if 57 < c {
-        return Part {
-            ok: false,
-            value: 0,
-            next: 0,
-        };
+        return None;
     }
     if c == 48 {
-        return on_last(text, at + 1, 0);
+        return number_on(text, at + 1, 0, 0);
     }
-    let w = wide(c);
-    on_two(text, at + 1, w - 48)
+    let w = usize::from(c);
+    number_on(text, at + 1, w - 48, 2)
 }
 
 // A label of 49 bytes at most and the newline behind it.
-fn label_in(text: &[u8], at: usize) -> Part
+fn label_in(text: &[u8], at: usize) -> Option<Part>
     requires { at ≤ length text.now }
     ensures result_value { label_out text.now at result ≡ label_in 49 (rest at text.now) }
-    ensures next_in_bounds { (result.next ≤ length text.now) × (result.next ≤ at + 50) × (result.value ≤ 49) }
-    ensures next_value { result.next ≡ behind result.ok at result.value }
+    ensures in_bounds { IfSome result (λ p. (p.next ≤ length text.now) × (p.next ≡ at + p.value + 1) × (p.value ≤ 49)) }
 {
-    let mut n: usize = 0;
-    while at + n < text.len() {
-        let c = byte(text, at + n);
+    for n in 0..text.len() - at {
+        let c = get(text, at + n);
         if c == 10 {
-            return Part {
-                ok: true,
+            return Some(Part {
                 value: n,
                 next: at + n + 1,
-            };
+            });
         }
         if 49 <= n {
-            return Part {
-                ok: false,
-                value: 0,
-                next: 0,
-            };
+            return None;
         }
         if c < 32 {
-            return Part {
-                ok: false,
-                value: 0,
-                next: 0,
-            };
+            return None;
         }
         if 126 < c {
-            return Part {
-                ok: false,
-                value: 0,
-                next: 0,
-            };
+            return None;
         }
-        n += 1;
     }
-    Part {
-        ok: false,
-        value: 0,
-        next: 0,
-    }
+    None
 }
 
 // A label of a byte or more.
-pub fn label_at(text: &[u8], at: usize) -> Part
+pub fn label_at(text: &[u8], at: usize) -> Option<Part>
     ensures result_value { label_out text.now at result ≡ label_at (rest at text.now) }
-    ensures next_in_bounds { (result.next ≤ length text.now) × (result.next ≤ at + 50) × (result.value ≤ 49) }
-    ensures next_value { result.next ≡ behind result.ok at result.value }
+    ensures in_bounds { IfSome result (λ p. (p.next ≤ length text.now) × (p.next ≡ at + p.value + 1) × (p.value ≤ 49)) }
 {
-    if text.len() <= at {
-        return Part {
-            ok: false,
-            value: 0,
-            next: 0,
-        };
-    }
-    let c = byte(text, at);
+    let c = byte_at(text, at)?;
     if c < 32 {
-        return Part {
-            ok: false,
-            value: 0,
-            next: 0,
-        };
+        return None;
     }
     if 126 < c {
-        return Part {
-            ok: false,
-            value: 0,
-            next: 0,
-        };
+        return None;
     }
     label_in(text, at)
 }

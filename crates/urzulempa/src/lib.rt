@@ -130,14 +130,7 @@ pub fn urzulempa_settings_set(
     ensures value { result ≡ change_answer (change_of room.old used version setting content) }
     ensures room_after { room.new ≡ room_of room.old used version setting content }
 {
-    let c = settings::set(room, used, version, setting, content);
-    Answer {
-        number: c.number,
-        place: c.place,
-        bytes: c.bytes,
-        units: c.units,
-        depth: 0,
-    }
+    Answer::from(settings::set(room, used, version, setting, content))
 }
 
 // Writes the record file that the rows make into the room (order 1): kinds 1 to 7 in ascending order with their own numbers, the clauses
@@ -147,14 +140,7 @@ pub fn urzulempa_write(rows: &[u8], room: &mut [u8]) -> Answer
     ensures value { result ≡ written_answer (write_answer rows.now (length room.old)) }
     ensures room_after { room.new ≡ write_room rows.now room.old }
 {
-    let w = writing::write(rows, room);
-    Answer {
-        number: w.number,
-        place: w.place,
-        bytes: w.bytes,
-        units: w.units,
-        depth: 0,
-    }
+    Answer::from(writing::write(rows, room))
 }
 
 // The graph for the wall display in Trivial Graph Format (order 14): a line a node, a line with #, a line an edge. 1 to 9, then 10,

@@ -16,11 +16,5 @@ pub fn urzulempa_nodes(file: &[u8], list: &mut [NodeEntry]) -> Answer
     let mut words = [0; 128];
     let c = node_words(file, &mut words, room);
     fill(list, &words, c.count);
-    Answer {
-        number: c.number,
-        place: c.place,
-        bytes: 0,
-        units: c.units,
-        depth: 0,
-    }
+    Answer::from(c)
 }

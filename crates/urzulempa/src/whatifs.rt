@@ -16,11 +16,5 @@ pub fn urzulempa_what_if(file: &[u8], solvable: u64, reason: u64, list: &mut [No
     let mut words = [0; 128];
     let c = ask_words(file, solvable, reason, &mut words, room);
     fill(list, &words, c.count);
-    Answer {
-        number: c.number,
-        place: c.place,
-        bytes: 0,
-        units: c.units,
-        depth: 0,
-    }
+    Answer::from(c)
 }

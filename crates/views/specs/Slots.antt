@@ -164,6 +164,8 @@ module _ (file ix : List ℕ) (l : Loaded file ix) (k v i b : ℕ) (p : i ≡ re
       other (suc (suc (suc (suc zero)))) c q0 q1 q2 q3 q4 = absurd (q4 refl)
       other (suc (suc (suc (suc (suc b))))) c q0 q1 q2 q3 q4 = refl
 
+pub ruleset origins = (origin_root, origin_solvable, origin_forbid, origin_gate, origin_auxiliary, origin_other)
+
 -- ---- a clause, by its record
 
 module _ (r : Rec) (k : ℕ) (e : k ≡ r.kind) where
@@ -221,6 +223,9 @@ module _ (r : Rec) (k : ℕ) (e : k ≡ r.kind) where
         ne_eqb k 24 h24,
         ne_eqb k 25 h25,
       )
+
+pub ruleset clauses =
+    (clause_root, clause_excluded, clause_requires, clause_lock, clause_forbid, clause_any, clause_constrains, clause_parent, clause_excluded_by, clause_learnt)
 
 module _ (file ix : List ℕ) (l : Loaded file ix) (i j : ℕ) (p : j ≡ record_no 4032 1024 ix i) where
   its_record : at (records_of file) j ≡ at (tables_of file).clauses i

@@ -11,7 +11,6 @@ ghost use Rattle.index.specs.Index.{Loaded};
 ghost use Rattle.index.specs.Found.{assigned_mark};
 ghost use Rattle.views.specs.Walks.{first_candidate, next_candidate, candidate_at, first_gate, first_parent, first_excluded, next_partner, gate_at, aux_at};
 
-use basis::wide16;
 use index::{Slots, place, record_no, regions};
 use records::fields::{a_at, b_at, c_at, first_at, kind_at, text_at};
 use records::{Clause, Origin};
@@ -21,7 +20,7 @@ pub fn name_text<'a>(file: &'a [u8], ix: &Slots, n: u16) -> &'a [u8]
     requires { Loaded file.now ix.now }
     ensures { result.now ≡ name_text (tables_of file.now) n }
 {
-    let k = wide16(n);
+    let k = usize::from(n);
     let i = record_no(ix, regions::NAMES, regions::NAMES_MOST, k);
     text_at(file, i)
 }
@@ -31,7 +30,7 @@ pub fn version_text<'a>(file: &'a [u8], ix: &Slots, s: u16) -> &'a [u8]
     requires { Loaded file.now ix.now }
     ensures { result.now ≡ version_text (tables_of file.now) s }
 {
-    let k = wide16(s);
+    let k = usize::from(s);
     let i = record_no(ix, regions::SOLVABLES, regions::SOLVABLES_MOST, k);
     text_at(file, i)
 }
@@ -41,7 +40,7 @@ pub fn set_text<'a>(file: &'a [u8], ix: &Slots, v: u16) -> &'a [u8]
     requires { Loaded file.now ix.now }
     ensures { result.now ≡ set_text (tables_of file.now) v }
 {
-    let k = wide16(v);
+    let k = usize::from(v);
     let i = record_no(ix, regions::SETS, regions::SETS_MOST, k);
     text_at(file, i)
 }
@@ -51,7 +50,7 @@ pub fn requirement_text<'a>(file: &'a [u8], ix: &Slots, q: u16) -> &'a [u8]
     requires { Loaded file.now ix.now }
     ensures { result.now ≡ requirement_text (tables_of file.now) q }
 {
-    let k = wide16(q);
+    let k = usize::from(q);
     let i = record_no(ix, regions::REQUIREMENTS, regions::REQUIREMENTS_MOST, k);
     text_at(file, i)
 }
@@ -61,37 +60,40 @@ pub fn reason_text<'a>(file: &'a [u8], ix: &Slots, n: u16) -> &'a [u8]
     requires { Loaded file.now ix.now }
     ensures { result.now ≡ reason_text (tables_of file.now) n }
 {
-    let k = wide16(n);
+    let k = usize::from(n);
     let i = record_no(ix, regions::REASONS, regions::REASONS_MOST, k);
     text_at(file, i)
 }
 
 // The name of a solvable.
+#[tactic(auto, using(index::specs::Found::solvable_name_lem))]
 pub fn solvable_name(file: &[u8], ix: &Slots, s: u16) -> u16
     requires { Loaded file.now ix.now }
     ensures { result ≡ solvable_name (tables_of file.now) s }
 {
-    let k = wide16(s);
+    let k = usize::from(s);
     let i = record_no(ix, regions::SOLVABLES, regions::SOLVABLES_MOST, k);
     b_at(file, i)
 }
 
 // The name of a version set.
+#[tactic(auto, using(index::specs::Found::set_name))]
 pub fn set_name(file: &[u8], ix: &Slots, v: u16) -> u16
     requires { Loaded file.now ix.now }
     ensures { result ≡ set_name (tables_of file.now) v }
 {
-    let k = wide16(v);
+    let k = usize::from(v);
     let i = record_no(ix, regions::SETS, regions::SETS_MOST, k);
     b_at(file, i)
 }
 
 // What a variable stands for.
+#[tactic(auto, using(crate::specs::Slots::origins))]
 pub fn origin(file: &[u8], ix: &Slots, v: u16) -> Origin
     requires { Loaded file.now ix.now }
     ensures { result ≡ origin_of (tables_of file.now) v }
 {
-    let k = wide16(v);
+    let k = usize::from(v);
     let i = record_no(ix, regions::VARIABLES, regions::VARIABLES_MOST, k);
     let o = b_at(file, i);
     let c = c_at(file, i);
@@ -106,6 +108,7 @@ pub fn origin(file: &[u8], ix: &Slots, v: u16) -> Origin
 }
 
 // The clause that record i is.
+#[tactic(auto, using(crate::specs::Slots::clauses))]
 fn clause_at(file: &[u8], i: usize) -> Clause
     ensures { result ≡ clause_in (at (records_of file.now) i) }
 {
@@ -128,6 +131,7 @@ fn clause_at(file: &[u8], i: usize) -> Clause
 }
 
 // Clause i.
+#[tactic(auto, using(crate::specs::Slots::clause_found_lem))]
 pub fn clause(file: &[u8], ix: &Slots, i: usize) -> Clause
     requires { Loaded file.now ix.now }
     ensures { result ≡ clause_of (tables_of file.now) i }
@@ -137,6 +141,7 @@ pub fn clause(file: &[u8], ix: &Slots, i: usize) -> Clause
 }
 
 // Whether clause i is in the core.
+#[tactic(auto, using(crate::specs::Slots::core_yes, crate::specs::Slots::core_no))]
 pub fn in_core(file: &[u8], ix: &Slots, i: usize) -> bool
     requires { Loaded file.now ix.now }
     ensures { result ≡ core_at (tables_of file.now) i }
@@ -146,20 +151,22 @@ pub fn in_core(file: &[u8], ix: &Slots, i: usize) -> bool
 }
 
 // The clause that assigned a variable, plus one, or 0.
+#[tactic(auto, using(index::specs::Found::assigned_mark_lem, index::specs::Found::assigned_small))]
 pub fn assigned_by(file: &[u8], ix: &Slots, v: u16) -> usize
     requires { Loaded file.now ix.now }
     ensures { (result ≡ assigned_mark (tables_of file.now) v) × (result ≤ 1024) }
 {
-    let k = wide16(v);
+    let k = usize::from(v);
     place(ix, regions::ASSIGNED, regions::ASSIGNED_MOST, k)
 }
 
 // The place, plus one, of the first candidate of a requirement, or 0.
+#[tactic(auto, using(crate::specs::Slots::first_candidate_lem, crate::specs::Slots::candidate_head_small))]
 pub fn first_candidate(file: &[u8], ix: &Slots, q: u16) -> usize
     requires { Loaded file.now ix.now }
     ensures { (result ≡ first_candidate (tables_of file.now) q) × (result ≤ 1024) }
 {
-    let k = wide16(q);
+    let k = usize::from(q);
     place(
         ix,
         regions::CANDIDATE_HEADS,
@@ -169,6 +176,7 @@ pub fn first_candidate(file: &[u8], ix: &Slots, q: u16) -> usize
 }
 
 // The same of the next candidate after the one at place k.
+#[tactic(auto, using(crate::specs::Slots::next_candidate_lem, crate::specs::Slots::candidate_link_small))]
 pub fn next_candidate(file: &[u8], ix: &Slots, k: usize) -> usize
     requires { Loaded file.now ix.now }
     ensures { (result ≡ next_candidate (tables_of file.now) k) × (result ≤ 1024) }
@@ -182,6 +190,7 @@ pub fn next_candidate(file: &[u8], ix: &Slots, k: usize) -> usize
 }
 
 // The solvable of the candidate at place k.
+#[tactic(auto, using(index::specs::Found::candidate_b))]
 pub fn candidate(file: &[u8], ix: &Slots, k: usize) -> u16
     requires { Loaded file.now ix.now }
     ensures { result ≡ candidate_at (tables_of file.now) k }
@@ -191,33 +200,37 @@ pub fn candidate(file: &[u8], ix: &Slots, k: usize) -> u16
 }
 
 // The first AnyOf of the core whose a is v: its number plus one, or 0.
+#[tactic(auto, using(crate::specs::Slots::first_gate_lem, crate::specs::Slots::gate_small))]
 pub fn first_gate(file: &[u8], ix: &Slots, v: u16) -> usize
     requires { Loaded file.now ix.now }
     ensures { (result ≡ first_gate (tables_of file.now) v) × (result ≤ 1024) }
 {
-    let k = wide16(v);
+    let k = usize::from(v);
     place(ix, regions::GATES, regions::GATES_MOST, k)
 }
 
 // The first ConstrainsParent of the core whose b is v.
+#[tactic(auto, using(crate::specs::Slots::first_parent_lem, crate::specs::Slots::parent_small))]
 pub fn first_parent(file: &[u8], ix: &Slots, v: u16) -> usize
     requires { Loaded file.now ix.now }
     ensures { (result ≡ first_parent (tables_of file.now) v) × (result ≤ 1024) }
 {
-    let k = wide16(v);
+    let k = usize::from(v);
     place(ix, regions::PARENTS, regions::PARENTS_MOST, k)
 }
 
 // The first ConstrainsExcluded of the core whose b is v.
+#[tactic(auto, using(crate::specs::Slots::first_excluded_lem, crate::specs::Slots::excluded_small))]
 pub fn first_excluded(file: &[u8], ix: &Slots, v: u16) -> usize
     requires { Loaded file.now ix.now }
     ensures { (result ≡ first_excluded (tables_of file.now) v) × (result ≤ 1024) }
 {
-    let k = wide16(v);
+    let k = usize::from(v);
     place(ix, regions::EXCLUDED, regions::EXCLUDED_MOST, k)
 }
 
 // The next clause of the core of the same kind and variable as clause i.
+#[tactic(auto, using(crate::specs::Slots::next_partner_lem, crate::specs::Slots::partner_link_small))]
 pub fn next_partner(file: &[u8], ix: &Slots, i: usize) -> usize
     requires { Loaded file.now ix.now }
     ensures { (result ≡ next_partner (tables_of file.now) i) × (result ≤ 1024) }
@@ -226,6 +239,7 @@ pub fn next_partner(file: &[u8], ix: &Slots, i: usize) -> usize
 }
 
 // The partner that an AnyOf tells of its gate.
+#[tactic(auto, using(index::specs::Found::clause_b))]
 pub fn gate_partner(file: &[u8], ix: &Slots, i: usize) -> u16
     requires { Loaded file.now ix.now }
     ensures { result ≡ gate_at (tables_of file.now) i }
@@ -235,6 +249,7 @@ pub fn gate_partner(file: &[u8], ix: &Slots, i: usize) -> u16
 }
 
 // The partner that a clause of kind 23 or 24 tells of its auxiliary.
+#[tactic(auto, using(index::specs::Found::clause_a))]
 pub fn aux_partner(file: &[u8], ix: &Slots, i: usize) -> u16
     requires { Loaded file.now ix.now }
     ensures { result ≡ aux_at (tables_of file.now) i }

@@ -1,6 +1,6 @@
 -- The text of the wall display (document 02, order 14): "a line per node with its number, a space and a label, a line with #, then a
 -- line per edge with source, target and label. Nodes are in number order, edges oldest first". A unit is a line.
-use Rattle.std.specs.Prelude.{List, [], ◌∷◌, ◌++◌, map, ℕ}
+use Rattle.std.specs.Prelude.{List, ◌∷◌, ◌++◌, map, ℕ}
 use Rattle.records.specs.Tables.{Tables}
 use Rattle.store.specs.declared.ConflictNode.{ConflictNode}
 use Rattle.store.specs.declared.ConflictEdge.{ConflictEdge}
@@ -9,7 +9,7 @@ use Rattle.store.specs.Graph.{Graph}
 use Rattle.machine.specs.Units.{Result}
 use Rattle.drawing.specs.Graphviz.{fit_units}
 use Rattle.wall.specs.Captions.{node_caption, edge_caption}
-use Rattle.tgf.specs.Lines.{Label, WallEdge, node_line, hash_line, edge_line, node_lines, lines_of}
+use Rattle.tgf.specs.Lines.{Label, WallEdge, node_line, hash_line, edge_line, node_lines}
 
 -- the line of node i
 unfoldable pub node_text : Tables → ℕ → ConflictNode → List ℕ

@@ -7,35 +7,24 @@ ghost use Rattle.wall.specs.Captions.{solvable_caption, excluded_caption, node_c
 use index::Slots;
 use store::{ConflictCause, ConflictEdge, ConflictNode};
 
-// A text's length.
-fn short(text: &[u8]) -> usize
-    requires { length text.now ≤ 24 }
-    ensures { (result ≡ length text.now) × (result ≤ 24) }
-{
-    text.len()
-}
-
 fn solvable_size(file: &[u8], ix: &Slots, s: u16) -> usize
     requires { Loaded file.now ix.now }
     ensures { (result ≡ length (solvable_caption (tables_of file.now) s)) × (result ≤ 49) }
 {
     let name = views::name_text(file, ix, views::solvable_name(file, ix, s));
     let version = views::version_text(file, ix, s);
-    let a = short(name);
-    let b = short(version);
-    a + 1 + b
+    name.len() + 1 + version.len()
 }
 
 fn excluded_size(file: &[u8], ix: &Slots, n: u16) -> usize
     requires { Loaded file.now ix.now }
     ensures { (result ≡ length (excluded_caption (tables_of file.now) n)) × (result ≤ 32) }
 {
-    let text = views::reason_text(file, ix, n);
-    let a = short(text);
-    8 + a
+    8 + views::reason_text(file, ix, n).len()
 }
 
 // The length that `put_node` writes.
+// Kept: the project's rule: sizes of plain texts and of quoted ones stand apart (docs/DECISIONS.md).
 pub fn node_size(file: &[u8], ix: &Slots, x: ConflictNode) -> usize
     requires { Loaded file.now ix.now }
     ensures { (result ≡ length (node_caption (tables_of file.now) x)) × (result ≤ 49) }
@@ -54,10 +43,7 @@ fn cause_size(file: &[u8], ix: &Slots, c: ConflictCause) -> usize
 {
     match c {
         ConflictCause::Locked(_) => 17,
-        ConflictCause::Constrains(v) => {
-            let text = views::set_text(file, ix, v);
-            short(text)
-        }
+        ConflictCause::Constrains(v) => views::set_text(file, ix, v).len(),
         ConflictCause::ForbidMultipleInstances => 17,
         ConflictCause::Excluded => 8,
     }
@@ -69,10 +55,7 @@ pub fn label_size(file: &[u8], ix: &Slots, w: ConflictEdge) -> usize
     ensures { (result ≡ length (edge_caption (tables_of file.now) w)) × (result ≤ 24) }
 {
     match w {
-        ConflictEdge::Requires(q) => {
-            let text = views::requirement_text(file, ix, q);
-            short(text)
-        }
+        ConflictEdge::Requires(q) => views::requirement_text(file, ix, q).len(),
         ConflictEdge::Conflict(c) => cause_size(file, ix, c),
     }
 }

@@ -1,4 +1,5 @@
-// The plain text of a node and of an edge: its length, and its bytes at the start of the room.
+// The plain text of a node and of an edge, at the start of the room.
+// Kept: the project's rule: these stand apart from the graph text's, so that what that does to a quote can't reach the wall (docs/DECISIONS.md).
 
 ghost use Rattle.std.specs.Prelude.{◌≡◌, ◌++◌, ◌+◌, ◌≤◌, length};
 ghost use Rattle.basis.specs.Quote.{utf8};
@@ -27,7 +28,7 @@ fn put_reason(out: &mut [u8], text: &[u8]) -> usize
     requires { 8 + length text.now ≤ length out.old }
     ensures { Wrote (utf8 "reason: " ++ text.now) out.old out.new result }
 {
-    let a = graphviz::reason(out);
+    let a = put(out, graphviz::REASON);
     a + put(&mut out[a..], text)
 }
 
@@ -47,9 +48,9 @@ pub fn put_node(file: &[u8], ix: &Slots, out: &mut [u8], x: ConflictNode) -> usi
     ensures { Wrote (node_caption (tables_of file.now) x) out.old out.new result }
 {
     match x {
-        ConflictNode::Root => wordings::root(out),
+        ConflictNode::Root => put(out, wordings::ROOT),
         ConflictNode::Solvable(s) => put_solvable(file, ix, out, s),
-        ConflictNode::UnresolvedDependency => graphviz::unresolved(out),
+        ConflictNode::UnresolvedDependency => put(out, graphviz::UNRESOLVED),
         ConflictNode::Excluded(r) => put_excluded(file, ix, out, r),
     }
 }
@@ -60,10 +61,10 @@ fn put_cause(file: &[u8], ix: &Slots, out: &mut [u8], c: ConflictCause) -> usize
     ensures { Wrote (edge_caption (tables_of file.now) (ConflictEdge.Conflict c)) out.old out.new result }
 {
     match c {
-        ConflictCause::Locked(_) => graphviz::already_installed(out),
+        ConflictCause::Locked(_) => put(out, graphviz::ALREADY_INSTALLED),
         ConflictCause::Constrains(v) => put(out, views::set_text(file, ix, v)),
-        ConflictCause::ForbidMultipleInstances => graphviz::already_installed(out),
-        ConflictCause::Excluded => graphviz::excluded(out),
+        ConflictCause::ForbidMultipleInstances => put(out, graphviz::ALREADY_INSTALLED),
+        ConflictCause::Excluded => put(out, graphviz::EXCLUDED),
     }
 }
 

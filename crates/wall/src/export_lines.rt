@@ -1,17 +1,17 @@
 // One line behind the earlier ones: its length first, then the test of the room, then its bytes. A line that does not fit leaves the
-// room as it is, and the answer is 10.
+// room as it is.
 ghost use Rattle.std.specs.Prelude.{◌≡◌, [], ◌∷◌, ◌<◌, ◌≤◌, length};
 ghost use Rattle.records.specs.Read.{tables_of};
 ghost use Rattle.index.specs.Index.{Loaded};
 ghost use Rattle.store.specs.Table.{node_in, edge_in};
 ghost use Rattle.texts.specs.Wrote.{Wrote};
-ghost use Rattle.drawing.specs.Pen.{Fine, Adds};
+ghost use Rattle.drawing.specs.Pen.{going, ended, Fine, Adds};
 ghost use Rattle.tgf.specs.Lines.{hash_line};
 ghost use Rattle.wall.specs.Export.{node_text, edge_text};
 ghost use Rattle.wall.specs.ExportSteps.{node_size, edge_size};
 
 use crate::numbers::{number_size, put_ends, put_spaced};
-use drawing::PenAnswer;
+use drawing::{Full, Pen};
 use index::Slots;
 use store::{ConflictEdge, ConflictNode, GraphWords};
 use texts::wordings;
@@ -35,42 +35,29 @@ fn put_node(file: &[u8], ix: &Slots, out: &mut [u8], i: usize, x: ConflictNode) 
 {
     let a = put_spaced(out, i);
     let b = a + crate::captions::put_node(file, ix, &mut out[a..], x);
-    b + wordings::newline(&mut out[b..])
+    b + put(&mut out[b..], wordings::NEWLINE)
 }
 
 fn add_node_line(
     file: &[u8],
     ix: &Slots,
     out: &mut [u8],
-    p: PenAnswer,
+    p: Pen,
     i: usize,
     x: ConflictNode,
-) -> PenAnswer
+) -> Result<Pen, Full>
     requires loaded { Loaded file.now ix.now }
     requires i_bound { i < 1000 }
-    requires fine { Fine out.old p }
-    requires number_value { p.number ≡ 0 }
-    ensures { Adds (node_text (tables_of file.now) i x ∷ []) out.old p out.new result }
+    requires fine { Fine out.old (going p) }
+    ensures { Adds (node_text (tables_of file.now) i x ∷ []) out.old (going p) out.new (ended result) }
 {
-    let at = p.bytes;
     let n = node_size(file, ix, i, x);
-    if out.len() - at < n {
-        return PenAnswer {
-            number: 10,
-            place: p.units,
-            bytes: at,
-            units: p.units,
-            depth: 0,
-        };
-    }
-    let k = put_node(file, ix, &mut out[at..], i, x);
-    PenAnswer {
-        number: 0,
-        place: 0,
-        bytes: at + k,
+    p.fits(out.len(), n)?;
+    let k = put_node(file, ix, &mut out[p.bytes..], i, x);
+    Ok(Pen {
+        bytes: p.bytes + k,
         units: p.units + 1,
-        depth: 0,
-    }
+    })
 }
 
 // Node i of the graph.
@@ -80,42 +67,28 @@ pub fn add_node(
     g: &GraphWords,
     i: usize,
     out: &mut [u8],
-    p: PenAnswer,
-) -> PenAnswer
+    p: Pen,
+) -> Result<Pen, Full>
     requires loaded { Loaded file.now ix.now }
     requires i_bound { i < 1000 }
-    requires fine { Fine out.old p }
-    requires number_value { p.number ≡ 0 }
-    ensures { Adds (node_text (tables_of file.now) i (node_in g.now i) ∷ []) out.old p out.new result }
+    requires fine { Fine out.old (going p) }
+    ensures { Adds (node_text (tables_of file.now) i (node_in g.now i) ∷ []) out.old (going p) out.new (ended result) }
 {
     let x = store::node_at(g, i);
     add_node_line(file, ix, out, p, i, x)
 }
 
 // The line with #.
-pub fn add_hash(out: &mut [u8], p: PenAnswer) -> PenAnswer
-    requires fine { Fine out.old p }
-    requires number_value { p.number ≡ 0 }
-    ensures { Adds (hash_line ∷ []) out.old p out.new result }
+pub fn add_hash(out: &mut [u8], p: Pen) -> Result<Pen, Full>
+    requires fine { Fine out.old (going p) }
+    ensures { Adds (hash_line ∷ []) out.old (going p) out.new (ended result) }
 {
-    let at = p.bytes;
-    if out.len() - at < 2 {
-        return PenAnswer {
-            number: 10,
-            place: p.units,
-            bytes: at,
-            units: p.units,
-            depth: 0,
-        };
-    }
-    let k = put(&mut out[at..], b"#\n");
-    PenAnswer {
-        number: 0,
-        place: 0,
-        bytes: at + k,
+    p.fits(out.len(), 2)?;
+    let k = put(&mut out[p.bytes..], b"#\n");
+    Ok(Pen {
+        bytes: p.bytes + k,
         units: p.units + 1,
-        depth: 0,
-    }
+    })
 }
 
 fn edge_size(file: &[u8], ix: &Slots, a: usize, b: usize, w: ConflictEdge) -> usize
@@ -137,43 +110,30 @@ fn put_edge(file: &[u8], ix: &Slots, out: &mut [u8], a: usize, b: usize, w: Conf
 {
     let d = put_ends(out, a, b);
     let e = d + crate::captions::put_label(file, ix, &mut out[d..], w);
-    e + wordings::newline(&mut out[e..])
+    e + put(&mut out[e..], wordings::NEWLINE)
 }
 
 fn add_edge_line(
     file: &[u8],
     ix: &Slots,
     out: &mut [u8],
-    p: PenAnswer,
+    p: Pen,
     a: usize,
     b: usize,
     w: ConflictEdge,
-) -> PenAnswer
+) -> Result<Pen, Full>
     requires loaded { Loaded file.now ix.now }
     requires a_bound { (a < 1000) × (b < 1000) }
-    requires fine { Fine out.old p }
-    requires number_value { p.number ≡ 0 }
-    ensures { Adds (edge_text (tables_of file.now) a b w ∷ []) out.old p out.new result }
+    requires fine { Fine out.old (going p) }
+    ensures { Adds (edge_text (tables_of file.now) a b w ∷ []) out.old (going p) out.new (ended result) }
 {
-    let at = p.bytes;
     let n = edge_size(file, ix, a, b, w);
-    if out.len() - at < n {
-        return PenAnswer {
-            number: 10,
-            place: p.units,
-            bytes: at,
-            units: p.units,
-            depth: 0,
-        };
-    }
-    let k = put_edge(file, ix, &mut out[at..], a, b, w);
-    PenAnswer {
-        number: 0,
-        place: 0,
-        bytes: at + k,
+    p.fits(out.len(), n)?;
+    let k = put_edge(file, ix, &mut out[p.bytes..], a, b, w);
+    Ok(Pen {
+        bytes: p.bytes + k,
         units: p.units + 1,
-        depth: 0,
-    }
+    })
 }
 
 // Edge i of the graph.
@@ -183,13 +143,12 @@ pub fn add_edge(
     g: &GraphWords,
     i: usize,
     out: &mut [u8],
-    p: PenAnswer,
-) -> PenAnswer
+    p: Pen,
+) -> Result<Pen, Full>
     requires loaded { Loaded file.now ix.now }
-    requires fine { Fine out.old p }
-    requires number_value { p.number ≡ 0 }
+    requires fine { Fine out.old (going p) }
     ensures { Adds (edge_text (tables_of file.now) (edge_in g.now i).source (edge_in g.now i).target
-        (edge_in g.now i).weight ∷ []) out.old p out.new result }
+        (edge_in g.now i).weight ∷ []) out.old (going p) out.new (ended result) }
 {
     let e = store::edge_at(g, i);
     let w = e.weight;

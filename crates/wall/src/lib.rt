@@ -13,10 +13,10 @@ ghost use Rattle.index.specs.Index.{Loaded};
 ghost use Rattle.store.specs.Table.{graph_in, Stored};
 ghost use Rattle.texts.specs.Wrote.{over};
 ghost use Rattle.drawing.specs.Graphviz.{answer_in};
-ghost use Rattle.drawing.specs.Pen.{Fine, Adds};
+ghost use Rattle.drawing.specs.Pen.{going, ended, Fine, Adds};
 ghost use Rattle.wall.specs.Export.{rest_units, export_units, export_shown};
 
-use drawing::PenAnswer;
+use drawing::{Full, Pen, PenAnswer};
 use index::Slots;
 use store::{GraphWords, Size};
 
@@ -27,18 +27,14 @@ fn export_rest(
     g: &GraphWords,
     s: Size,
     out: &mut [u8],
-    p: PenAnswer,
-) -> PenAnswer
+    p: Pen,
+) -> Result<Pen, Full>
     requires loaded { Loaded file.now ix.now }
     requires stored { Stored g.now s }
-    requires fine { Fine out.old p }
-    requires number_value { p.number ≡ 0 }
-    ensures { Adds (rest_units (tables_of file.now) (graph_in g.now s)) out.old p out.new result }
+    requires fine { Fine out.old (going p) }
+    ensures { Adds (rest_units (tables_of file.now) (graph_in g.now s)) out.old (going p) out.new (ended result) }
 {
-    let q = export_lines::add_hash(out, p);
-    if q.number != 0 {
-        return q;
-    }
+    let q = export_lines::add_hash(out, p)?;
     walk::add_edges(file, ix, g, s, out, q)
 }
 
@@ -49,18 +45,14 @@ fn export_from(
     g: &GraphWords,
     s: Size,
     out: &mut [u8],
-    p: PenAnswer,
-) -> PenAnswer
+    p: Pen,
+) -> Result<Pen, Full>
     requires loaded { Loaded file.now ix.now }
     requires stored { Stored g.now s }
-    requires fine { Fine out.old p }
-    requires number_value { p.number ≡ 0 }
-    ensures { Adds (export_units (tables_of file.now) (graph_in g.now s)) out.old p out.new result }
+    requires fine { Fine out.old (going p) }
+    ensures { Adds (export_units (tables_of file.now) (graph_in g.now s)) out.old (going p) out.new (ended result) }
 {
-    let q = walk::add_nodes(file, ix, g, s, out, p);
-    if q.number != 0 {
-        return q;
-    }
+    let q = walk::add_nodes(file, ix, g, s, out, p)?;
     export_rest(file, ix, g, s, out, q)
 }
 
@@ -72,12 +64,6 @@ pub fn export(file: &[u8], ix: &Slots, g: &GraphWords, s: Size, out: &mut [u8]) 
     ensures out_after { out.new ≡ over (export_shown (tables_of file.now) (graph_in g.now s) (length out.old)).text
         out.old }
 {
-    let p = PenAnswer {
-        number: 0,
-        place: 0,
-        bytes: 0,
-        units: 0,
-        depth: 0,
-    };
-    export_from(file, ix, g, s, out, p)
+    let p = Pen { bytes: 0, units: 0 };
+    drawing::answer_of(export_from(file, ix, g, s, out, p))
 }

@@ -11,13 +11,11 @@ use texts::writers::put;
 pub fn number_size(n: usize) -> usize
     ensures { (result ≡ length (decimal n)) × (result ≤ 3) }
 {
-    if n < 10 {
-        return 1;
+    match n {
+        0..=9 => 1,
+        10..=99 => 2,
+        _ => 3,
     }
-    if n < 100 {
-        return 2;
-    }
-    3
 }
 
 fn put_number(out: &mut [u8], n: usize) -> usize
@@ -50,7 +48,7 @@ pub fn put_spaced(out: &mut [u8], n: usize) -> usize
     ensures wrote { Wrote (decimal n ++ utf8 " ") out.old out.new result }
 {
     let a = put_number(out, n);
-    a + wordings::space(&mut out[a..])
+    a + put(&mut out[a..], wordings::SPACE)
 }
 
 // Both ends of an edge, a space behind each.
@@ -62,5 +60,5 @@ pub fn put_ends(out: &mut [u8], a: usize, b: usize) -> usize
 {
     let d = put_spaced(out, a);
     let e = d + put_number(&mut out[d..], b);
-    e + wordings::space(&mut out[e..])
+    e + put(&mut out[e..], wordings::SPACE)
 }

@@ -10,13 +10,10 @@ pub fn clauses(file: &[u8], ix: &Slots) -> usize
     requires { Loaded file.now ix.now }
     ensures { (result ≡ length (tables_of file.now).clauses) × (result ≤ 1024) }
 {
-    let mut i: usize = 0;
-    while i < 1024 {
-        let p = index::place(ix, 4032, 1024, i);
-        if p == 0 {
+    for i in 0..1024 {
+        if index::place(ix, 4032, 1024, i) == 0 {
             return i;
         }
-        i += 1;
     }
     1024
 }
@@ -25,6 +22,5 @@ pub fn is_reason(file: &[u8], ix: &Slots, r: usize) -> bool
     requires { Loaded file.now ix.now }
     ensures { result ≡ ltb r (length (tables_of file.now).reasons) }
 {
-    let p = index::place(ix, 1920, 64, r);
-    if p == 0 { false } else { true }
+    index::place(ix, 1920, 64, r) != 0
 }

@@ -7,13 +7,6 @@ ghost use Rattle.whatif.specs.Laws.Exclusion.{with_reason, asked_from};
 
 use store::{ConflictCause, ConflictEdge, ConflictNode, Edge, GraphWords, Size};
 
-fn small(i: usize) -> u8
-    requires { i < 128 }
-    ensures { (result ≡ i) × (result < 128) }
-{
-    i as u8
-}
-
 // "A reason that already has a node uses it"; a new one stands at the end.
 fn with_reason(g: &mut GraphWords, s: Size, reason: u16) -> Size
     requires stored { Stored g.old s }
@@ -36,17 +29,11 @@ pub fn exclude(g: &mut GraphWords, s: Size, a: usize, reason: u16, n: u16) -> Si
     ensures { (graph_in g.new result ≡ asked_from (graph_in g.old s) n a reason) × Stored g.new result }
 {
     let b = store::behind::place_of(g, s, ConflictNode::Excluded(reason));
-    let h = Size {
-        nodes: s.nodes,
-        edges: s.edges,
-        hand: n,
-    };
+    let h = Size { hand: n, ..s };
     let t = with_reason(g, h, reason);
-    let source = small(a);
-    let target = small(b);
     let e = Edge {
-        source,
-        target,
+        source: a as u8,
+        target: b as u8,
         weight: ConflictEdge::Conflict(ConflictCause::Excluded),
         clause: n,
     };

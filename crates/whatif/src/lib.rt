@@ -19,9 +19,8 @@ ghost use Rattle.whatif.specs.Asked.{question_of};
 ghost use Rattle.whatif.specs.Asks.{Asks};
 ghost use Rattle.whatif.specs.Laws.Asks.{Placed, After, Passing};
 
-use crate::tests::Test;
-use graph::Made;
 use index::Slots;
+use records::Refused;
 use store::{ChainWords, GraphWords, PerNode, Size};
 
 // The exclusion and the chains anew.
@@ -80,7 +79,7 @@ pub fn ask(
     marks: &mut PerNode,
     solvable: u64,
     reason: u64,
-) -> Made
+) -> Result<Size, Refused>
     requires loaded { Loaded file.now ix.now }
     requires chains { Chains g.old s ls.old }
     requires file_value { graph_of (tables_of file.now) ≡ drawn (graph_in g.old s) }
@@ -88,13 +87,7 @@ pub fn ask(
     ensures { Asks (question_of (tables_of file.now) (graph_in g.old s) solvable reason) g.old ls.old
         marks.old g.new ls.new marks.new result }
 {
-    let x = tests::tested(file, ix, g, s, ls, solvable, reason);
-    match x {
-        Test::Refused(k, p) => Made::Refused(k, p),
-        Test::Passed(a, n) => {
-            let y = (reason % 65536) as u16;
-            let t = exclude(g, s, ls, marks, a, y, n);
-            Made::Whole(t)
-        }
-    }
+    let c = tests::tested(file, ix, g, s, ls, solvable, reason)?;
+    let t = exclude(g, s, ls, marks, c.node, (reason % 65536) as u16, c.clause);
+    Ok(t)
 }

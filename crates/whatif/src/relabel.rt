@@ -21,8 +21,7 @@ fn leads_up(g: &GraphWords, s: Size, ls: &ChainWords, up: &PerNode, n: usize) ->
     while 0 < e {
         let i = e - 1;
         let t = store::target_at(g, i);
-        let u = basis::get16(up, t);
-        if u == 1 {
+        if basis::get(up, t) == 1 {
             return true;
         }
         e = links::next_out(ls, i);
@@ -35,10 +34,7 @@ fn is_touched(g: &GraphWords, s: Size, ls: &ChainWords, up: &PerNode, a: usize, 
     requires n_lt_nodes { n < s.nodes }
     ensures { result ≡ touched (graph_in g.now s) a up.now n }
 {
-    if n == a {
-        return true;
-    }
-    leads_up(g, s, ls, up, n)
+    n == a || leads_up(g, s, ls, up, n)
 }
 
 // The one store to the marks.
@@ -58,8 +54,8 @@ fn store_up(
     ensures up_after { up.new ≡ set up.old n 1 }
 {
     let v = labels::passes::mark_again(g, s, ls, marks, n);
-    basis::put16(marks, n, v);
-    basis::put16(up, n, 1);
+    basis::put(marks, n, v);
+    basis::put(up, n, 1);
 }
 
 fn turn_to(
@@ -75,10 +71,8 @@ fn turn_to(
     requires n_lt_nodes { n < s.nodes }
     ensures { MarkTurned (graph_in g.now s) a n marks.old up.old marks.new up.new }
 {
-    let t = is_touched(g, s, ls, up, a, n);
-    if t {
+    if is_touched(g, s, ls, up, a, n) {
         store_up(g, s, ls, marks, up, a, n);
-        return;
     }
 }
 
@@ -99,10 +93,7 @@ pub fn relabel(
     ensures marks_after { marks.new ≡ relabel (graph_in g.now s) a (order_of (graph_in g.now s)) marks.old }
     ensures up_after { up.new ≡ stored (graph_in g.now s) a (order_of (graph_in g.now s)) marks.old }
 {
-    let mut i: usize = 0;
-    while i < count {
-        let n = basis::wide16(order[i]);
-        turn_to(g, s, ls, marks, up, a, n);
-        i += 1;
+    for x in &order[..count] {
+        turn_to(g, s, ls, marks, up, a, usize::from(*x));
     }
 }

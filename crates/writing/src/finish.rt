@@ -2,8 +2,9 @@
 ghost use Rattle.std.specs.Prelude.{◌≡◌, length};
 ghost use Rattle.writing.specs.Pass.{FileLaid, Concluded};
 
-use crate::{Turn, Work, Written, refusal};
-use reader::pieces::paste_bytes;
+use crate::{Work, Written, refusal};
+use reader::pieces::paste;
+use records::Refused;
 
 // The records of `out` that w counts: "1 when the file would pass 65,536 bytes, then 10 when it doesn't fit".
 fn finish(w: Work, out: &[u8], room: &mut [u8]) -> Written
@@ -18,7 +19,7 @@ fn finish(w: Work, out: &[u8], room: &mut [u8]) -> Written
     if room.len() < bytes {
         return refusal(10, 0);
     }
-    paste_bytes(room, 0, out, bytes);
+    paste(room, 0, out, bytes);
     Written {
         number: 0,
         place: 0,
@@ -28,12 +29,12 @@ fn finish(w: Work, out: &[u8], room: &mut [u8]) -> Written
 }
 
 // The pass over the rows ended with t.
-pub fn conclude(t: Turn, out: &[u8], room: &mut [u8]) -> Written
+pub fn conclude(t: Result<Work, Refused>, out: &[u8], room: &mut [u8]) -> Written
     requires { length out.now ≡ 65536 }
     ensures { Concluded t out.now room.old result room.new }
 {
     match t {
-        Turn::Halt { number, place } => refusal(number, place),
-        Turn::On(w) => finish(w, out, room),
+        Err(e) => refusal(e.number, e.place),
+        Ok(w) => finish(w, out, room),
     }
 }

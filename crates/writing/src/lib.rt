@@ -13,7 +13,7 @@ ghost use Rattle.writing.specs.Write.{refusal_of, write_answer, write_room, Leav
 
 use finish::conclude;
 use pass::phases;
-use records::Counts;
+use records::{Counts, Refused};
 
 // What the records so far come to: the sizes of the tables, and the place of the next one.
 #[derive(Clone, Copy)]
@@ -22,14 +22,8 @@ pub struct Work {
     pub place: usize,
 }
 
-// One record more, or its refusal.
-#[derive(Clone, Copy)]
-pub enum Turn {
-    On(Work),
-    Halt { number: u64, place: u64 },
-}
-
 // 0 means done: the file's length, and how many records it has. On a refusal these are 0.
+// Kept: the C interface: its numbers are those of the answer that C gets.
 #[derive(Clone, Copy)]
 pub struct Written {
     pub number: u64,
@@ -56,14 +50,11 @@ fn judge(
     firsts: &mut [u64],
     seconds: &mut [u64],
     out: &mut [u8],
-) -> Turn
+) -> Result<Work, Refused>
     requires { (firsts.old ≡ replicate 1024 0) × (seconds.old ≡ replicate 1024 0) }
     ensures { Gives (judge_rows rows.now m.old out.old) result m.new out.new }
 {
-    let t = phases(rows, m, out);
-    let Turn::On(w) = t else {
-        return t;
-    };
+    let w = phases(rows, m, out)?;
     let least = eights::pick_all(rows, firsts, seconds);
     eights::eights(rows, firsts, seconds, least, w, m, out)
 }

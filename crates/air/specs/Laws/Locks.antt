@@ -1,20 +1,19 @@
 -- The way through the clauses to the first Lock in the core.
-use Rattle.std.specs.Prelude.{◌≡◌, refl, Bool, false, cond, ◌&&◌, List, [], ◌∷◌, ℕ, zero, suc, ◌+◌, ◌<◌, ◌≤◌, length, get_or, eqb, ltb}
+use Rattle.std.specs.Prelude.{◌≡◌, refl, Bool, false, List, [], ◌∷◌, ℕ, zero, suc, ◌+◌, ◌<◌, ◌≤◌, length, get_or, eqb, ltb}
 use Rattle.std.proofs.Math.Path.{sym}
-use Rattle.std.proofs.Common.{ap, ◌∙◌, true≢false, not-suc-le-zero, arith, eqb-true, ltb-true, ltb-false}
+use Rattle.std.proofs.Common.{ap, ◌∙◌, not-suc-le-zero, arith, eqb-true, ltb-true, ltb-false}
 use Rattle.std.proofs.Math.Bool.{true}
 use Rattle.std.proofs.lemmas.Bool.{false≢true, eqb-false}
-use Rattle.std.proofs.Math.Option.{Option, none, some}
+use Rattle.std.proofs.Math.Option.{none, some}
 use Rattle.basis.specs.Lists.{first, upto}
 use Rattle.basis.specs.Members.{split}
 use Rattle.records.specs.declared.Clause.{Clause}
 use Rattle.records.specs.declared.Table.TheVariants.{Clauses}
 use Rattle.records.specs.Shapes.{Rec}
-use Rattle.records.specs.Tables.{Tables, at, no_rec}
+use Rattle.records.specs.Tables.{Tables, no_rec}
 use Rattle.records.specs.Read.{tables_of}
 use Rattle.records.specs.Views.{clause_of, core_at}
 use Rattle.index.specs.Index.{Loaded}
-use Rattle.index.specs.Promise.{Valid}
 use Rattle.index.specs.Found.{loaded_valid}
 use Rattle.links.specs.Queue.{lowest_of}
 use Rattle.air.specs.Profile.{is_lock, lock_at, first_lock}
@@ -78,6 +77,19 @@ module _ (T : Tables) (i : ℕ) (N : NoLock T i) where
   lock_found t q e =
       let h : lock_at T i ≡ true = sym q ∙ e in
       sym (ap lowest_of (first_at_lem (lock_at T) (length T.clauses) 0 i (omega arith) (omega (arith, lock_there T i h)) N.none_before h))
+
+  pub lock_first_is : (t : Bool) → t ≡ lock_at T i → t ≡ true → first_lock T ≡ some i
+  unfolding first_lock
+  lock_first_is t q e =
+      let h : lock_at T i ≡ true = sym q ∙ e in
+      first_at_lem (lock_at T) (length T.clauses) 0 i (omega arith) (omega (arith, lock_there T i h)) N.none_before h
+
+pub lock_none_is : (file ix : List ℕ) (i : ℕ) → NoLock (tables_of file) i → 1024 ≤ i → Loaded file ix → first_lock (tables_of file) ≡ none
+unfolding first_lock
+lock_none_is file ix i N h L =
+    let T : Tables = tables_of file in
+    let w : length T.clauses ≤ 1024 = (loaded_valid file ix L).within Clauses in
+    first_never (lock_at T) (length T.clauses) 0 (λ m l. N.none_before m (omega arith))
 
 pub lock_none : (file ix : List ℕ) (i : ℕ) → NoLock (tables_of file) i → 1024 ≤ i → Loaded file ix → 0 ≡ lowest_of (first_lock (tables_of file))
 unfolding first_lock

@@ -1,15 +1,15 @@
 -- "Inside it 11 can never come" (document 02, order 9). A package below itself on a branch closes a cycle: each package of a branch offers
 -- the one below it in one of its runs, and what a run offers are targets of its owner's edges.
-use Rattle.std.specs.Prelude.{◌≡◌, refl, ◌⊎◌, Bool, true, false, cond, not, ℕ, zero, suc, eqb}
-use Rattle.std.proofs.Common.{sym, ap, ◌∙◌, inl, inr}
+use Rattle.std.specs.Prelude.{◌≡◌, refl, ◌⊎◌, Bool, true, cond, not, ℕ, zero, suc, eqb}
+use Rattle.std.proofs.Common.{inl, inr}
 use Rattle.std.proofs.lemmas.Bool.{false≢true}
-use mathlib.Core.List.{List, [], ◌∷◌, ◌++◌, map, reverse, reverse_aux}
+use mathlib.Core.List.{List, [], ◌∷◌, ◌++◌, reverse, reverse_aux}
 use Rattle.basis.specs.Lists.{filter, has, take_while}
 use Rattle.basis.specs.Members.{In, All, split, either, clash, has_in, in_append, in_reverse, in_filter, map_in}
 use Rattle.store.specs.declared.ConflictEdge.{ConflictEdge}
 use Rattle.store.specs.declared.ConflictEdge.TheVariants as W
 use Rattle.store.specs.declared.Edge.{Edge}
-use Rattle.store.specs.Graph.{Graph, out, node_at, is_solvable}
+use Rattle.store.specs.Graph.{out, node_at, is_solvable}
 use Rattle.labels.specs.Runs.{Run, add_to, runs_of}
 use Rattle.labels.specs.Labels.{targets}
 use Rattle.labels.specs.Ordered.{Leads, edge, onto, Acyclic}

@@ -1,17 +1,17 @@
 -- The ways through the profile's tests.
-use Rattle.std.specs.Prelude.{◌≡◌, refl, Bool, true, false, cond, List, ℕ, ◌+◌, ◌-◌, ◌<◌, ◌≤◌, length, ltb}
-use Rattle.std.proofs.Common.{sym, ap, ◌∙◌, arith, lt-ltb, le-ltb}
+use Rattle.std.specs.Prelude.{◌≡◌, refl, false, List, ℕ, ◌-◌, ◌<◌, ◌≤◌, length, ltb}
+use Rattle.std.proofs.Common.{ap, arith, lt-ltb, le-ltb}
 use Rattle.std.proofs.Math.Option.{Option, none, some}
 use Rattle.records.specs.Tables.{Tables}
 use Rattle.store.specs.declared.Size.{Size}
 use Rattle.store.specs.Graph.{Graph}
-use Rattle.store.specs.Table.{graph_in, Stored, nodes_count}
+use Rattle.store.specs.Table.{graph_in, nodes_count}
 use Rattle.links.specs.Build.{Chains}
 use Rattle.links.specs.Queue.{lowest_of}
 use Rattle.cycles.specs.Cycles.{cycle_of}
 use Rattle.air.specs.declared.Profile.{Profile}
 use Rattle.air.specs.declared.Profile.TheVariants.{Passed, Refused}
-use Rattle.air.specs.Profile.{first_lock, cycle_profile, graph_profile, lock_profile, profile_of}
+use Rattle.air.specs.Profile.{first_lock, graph_profile, profile_of}
 
 -- an answer that is 0, or one more than the number that was found
 found : (o : Option ℕ) (l p : ℕ) → l ≡ lowest_of o → 0 < l → p ≡ l - 1 → o ≡ some p

@@ -1,5 +1,5 @@
 -- The ways through the code of `urzulempa_explain_air`.
-use Rattle.std.specs.Prelude.{◌≡◌, refl, Bool, true, cond, List, ℕ, ◌≤◌, ◌<◌, leb, eqb}
+use Rattle.std.specs.Prelude.{◌≡◌, refl, Bool, true, cond, List, ℕ, ◌≤◌, ◌<◌, leb, eqb, Err}
 use Rattle.std.proofs.Common.{sym, ◌∙◌, subst}
 use Rattle.std.proofs.Math.Path.{ap}
 use Rattle.std.proofs.Math.Bool.{false}
@@ -10,10 +10,8 @@ use Rattle.index.specs.Index.{Loaded}
 use Rattle.index.specs.Found.{loaded_good}
 use Rattle.store.specs.declared.Size.{Size}
 use Rattle.store.specs.Table.{graph_in}
-use Rattle.graph.specs.declared.Made.{Made}
-use Rattle.graph.specs.declared.Made.TheVariants as M
 use Rattle.graph.specs.Graphs.{drawn, refused, graph_of}
-use Rattle.graph.specs.Files.{Makes}
+use Rattle.graph.specs.Files.{Made, Makes}
 use Rattle.graph.specs.Laws.Files.{makes_refused}
 use Rattle.drawing.specs.Same.{option_of}
 use Rattle.air.specs.declared.Profile.{Profile}
@@ -41,7 +39,7 @@ option_leb false = refl
 
 -- m is what the file makes: 1 to 9
 module _ (file ix g w : List ℕ) (m : Made) (R : Makes file ix g w m) where
-  pub air_unmade : (t : Bool) (out : List ℕ) (r : Answer) (k p : ℕ) → m ≡ M.Refused k p → r ≡ refusal_of k p → SaysAir file (option_of t) out out r
+  pub air_unmade : (t : Bool) (out : List ℕ) (r : Answer) (k p : ℕ) → m ≡ Err (record { number = k; place = p }) → r ≡ refusal_of k p → SaysAir file (option_of t) out out r
   unfolding air_of
   air_unmade t out r k p e h =
       by_profile file (option_of t) out out r Passed

@@ -1,5 +1,5 @@
 -- The explanation's contract determines answer and room; how the code comes to it.
-use Rattle.std.specs.Prelude.{◌≡◌, refl, Bool, true, false, ◌&&◌, List, [], ℕ, zero, suc, ◌≤◌, ◌<◌, length, get_or, leb, eqb}
+use Rattle.std.specs.Prelude.{◌≡◌, refl, Bool, true, false, ◌&&◌, List, [], ℕ, zero, suc, ◌≤◌, ◌<◌, length, get_or, leb, eqb, Err}
 use Rattle.std.proofs.Common.{sym, ap, ◌∙◌, subst, zero-le, arith, length-set, le-leb, ne_eqb}
 use Rattle.std.proofs.Math.Option.{Option, some}
 use Rattle.std.proofs.lemmas.Bool.{lt-leb}
@@ -16,10 +16,8 @@ use Rattle.groups.specs.Groups.{title_of}
 use Rattle.groups.specs.Groups as Groups
 use Rattle.groups.specs.Leads.{leads_to, leads_at}
 use Rattle.groups.specs.Naming.{name_of}
-use Rattle.graph.specs.declared.Made.{Made}
-use Rattle.graph.specs.declared.Made.TheVariants as M
 use Rattle.graph.specs.Graphs.{drawn, graph_of}
-use Rattle.graph.specs.Files.{Makes}
+use Rattle.graph.specs.Files.{Made, Makes}
 use Rattle.graph.specs.Laws.Files.{makes_refused}
 use Rattle.shape.specs.Graphed.{Graphed, graphed}
 use Rattle.machine.specs.Units.{Result}
@@ -185,7 +183,7 @@ says_read e opt room y = elim y [ bad k p ↦ some (refusal k p) | good T ↦ ex
 
 -- m is what the file makes
 module _ (file ix g w : List ℕ) (m : Made) (R : Makes file ix g w m) where
-  pub says_refused : (t every : Bool) (out : List ℕ) (r : Answer) (k p : ℕ) → m ≡ M.Refused k p → r ≡ refusal_of k p
+  pub says_refused : (t every : Bool) (out : List ℕ) (r : Answer) (k p : ℕ) → m ≡ Err (record { number = k; place = p }) → r ≡ refusal_of k p
       → Says (edition_of every) file (option_of t) out out r
   says_refused t every out r k p e h =
       rw h

@@ -1,5 +1,5 @@
 -- The ways through the code of the two calls of order 10.
-use Rattle.std.specs.Prelude.{◌≡◌, refl, Bool, true, false, List, [], ◌++◌, ℕ, zero, suc, ◌≤◌, ◌<◌, length, drop, leb, eqb}
+use Rattle.std.specs.Prelude.{◌≡◌, refl, Bool, true, false, List, [], ◌++◌, ℕ, zero, suc, ◌≤◌, ◌<◌, length, drop, leb, eqb, Ok, Err}
 use Rattle.std.proofs.Common.{sym, ◌∙◌, subst, zero-le, arith, le-leb}
 use Rattle.std.proofs.Math.Path.{ap}
 use Rattle.std.proofs.Math.Option.{Option, some}
@@ -11,10 +11,8 @@ use Rattle.index.specs.Found.{loaded_valid, loaded_good}
 use Rattle.store.specs.declared.Size.{Size}
 use Rattle.store.specs.Graph.{Graph}
 use Rattle.store.specs.Table.{graph_in}
-use Rattle.graph.specs.declared.Made.{Made}
-use Rattle.graph.specs.declared.Made.TheVariants as M
 use Rattle.graph.specs.Graphs.{Outcome, drawn, refused, graph_of}
-use Rattle.graph.specs.Files.{Makes}
+use Rattle.graph.specs.Files.{Made, Makes}
 use Rattle.graph.specs.Laws.Files.{makes_refused}
 use Rattle.shape.specs.Graphed.{Graphed}
 use Rattle.whatif.specs.Asked.{question_of, ask_drawn, ask_tables}
@@ -79,7 +77,7 @@ option_asked t = le-leb (option_of t) 1 (option_low t)
 
 -- the file is refused; m is what it makes
 module _ (file ix g w : List ℕ) (m : Made) (R : Makes file ix g w m) where
-  pub what_if_unmade : (s r : ℕ) (t : Bool) (out : List ℕ) (a : Answer) (k p : ℕ) → m ≡ M.Refused k p → a ≡ refusal_of k p
+  pub what_if_unmade : (s r : ℕ) (t : Bool) (out : List ℕ) (a : Answer) (k p : ℕ) → m ≡ Err (record { number = k; place = p }) → a ≡ refusal_of k p
       → SaysWhatIf file s r (option_of t) out out a
   unfolding ask_tables
   what_if_unmade s r t out a k p e h =
@@ -96,12 +94,12 @@ module _ (file ix g : List ℕ) (z : Size) (s r : ℕ) (L : Loaded file ix) (d :
   asks_are = ap (ask_drawn (tables_of file) s r) d
 
   module _ (w₀ m₀ h w ms : List ℕ) (m : Made) (A : Asks (question_of (tables_of file) (graph_in g z) s r) g w₀ m₀ h w ms m) where
-    pub what_if_denied : (t : Bool) (out : List ℕ) (a : Answer) (k p : ℕ) → m ≡ M.Refused k p → a ≡ refusal_of k p → SaysWhatIf file s r (option_of t) out out a
+    pub what_if_denied : (t : Bool) (out : List ℕ) (a : Answer) (k p : ℕ) → m ≡ Err (record { number = k; place = p }) → a ≡ refusal_of k p → SaysWhatIf file s r (option_of t) out out a
     what_if_denied t out a k p e q =
         let x : ask_tables (tables_of file) s r ≡ refused k p = asks_are ∙ asks_denied (question_of (tables_of file) (graph_in g z) s r) g w₀ m₀ h w ms m A k p e in
         rw q (nothing file s r (option_of t) out k p (rw (option_asked t, explain_what_if, loaded_good file ix L, x)))
 
-    module _ (u : Size) (e : m ≡ M.Whole u) where
+    module _ (u : Size) (e : m ≡ Ok u) where
       gives : question_of (tables_of file) (graph_in g z) s r ≡ drawn (graph_in h u)
       gives = asks_drawn (question_of (tables_of file) (graph_in g z) s r) g w₀ m₀ h w ms m A u e
 

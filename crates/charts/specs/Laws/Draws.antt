@@ -1,5 +1,5 @@
 -- How the code comes to the answer and the room of the graph text.
-use Rattle.std.specs.Prelude.{◌≡◌, Bool, true, false, List, ℕ, zero, suc, ◌≤◌, ◌<◌, length, get_or, eqb}
+use Rattle.std.specs.Prelude.{◌≡◌, Bool, true, false, List, ℕ, zero, suc, ◌≤◌, ◌<◌, length, get_or, eqb, Ok, Err}
 use Rattle.std.proofs.Math.Path.{refl, ap}
 use Rattle.std.proofs.Common.{◌∙◌, arith, le-leb}
 use Rattle.std.proofs.lemmas.Bool.{lt-leb}
@@ -12,9 +12,8 @@ use Rattle.links.specs.Build.{Chains}
 use Rattle.groups.specs.Groups.{title_of, lead_of}
 use Rattle.groups.specs.Leads.{leads_to, leads_at}
 use Rattle.groups.specs.Naming.{name_of}
-use Rattle.graph.specs.declared.Made.{Made}
-use Rattle.graph.specs.declared.Made.TheVariants as M
-use Rattle.graph.specs.Files.{Makes}
+use Rattle.records.specs.declared.Refused.{Refused}
+use Rattle.graph.specs.Files.{Made, Makes}
 use Rattle.graph.specs.Laws.Files.{makes_good, makes_graph, makes_refused}
 use Rattle.machine.specs.Units.{Result}
 use Rattle.texts.specs.Wrote.{over}
@@ -53,25 +52,25 @@ draws_answer x d R q e = q ∙ ap drawing_as e
 
 -- m is what the file makes
 module _ (file ix g w : List ℕ) (m : Made) (R : Makes file ix g w m) (opt room : ℕ) where
-  unread : (k p : ℕ) → m ≡ M.Refused k p → draw_bytes opt room file ≡ refusal k p
+  unread : (k p : ℕ) → m ≡ Err (record { number = k; place = p }) → draw_bytes opt room file ≡ refusal k p
   unfolding draw_bytes
   unread k p e = makes_refused file ix g w m R (draw_read opt room) refusal (λ l i. refl) (λ T l i z. ap (draw_by opt room T) z) k p e
 
-  whole : (s : Size) → m ≡ M.Whole s → draw_bytes opt room file ≡ draw_shown (drawn_of opt (tables_of file) (graph_in g s)) room
+  whole : (s : Size) → m ≡ Ok s → draw_bytes opt room file ≡ draw_shown (drawn_of opt (tables_of file) (graph_in g s)) room
   unfolding draw_bytes
   whole s e = rw (makes_good file ix g w m R s e, makes_graph file ix g w m R s e)
 
-  pub bytes_refused : (x : Answer) (k p : ℕ) → m ≡ M.Refused k p → x ≡ refusal_of k p → x ≡ result_answer (draw_bytes opt room file)
+  pub bytes_refused : (x : Answer) (k p : ℕ) → m ≡ Err (record { number = k; place = p }) → x ≡ refusal_of k p → x ≡ result_answer (draw_bytes opt room file)
   bytes_refused x k p e h = rw (unread k p e) h
 
-  pub bytes_refused_room : (b : List ℕ) (k p : ℕ) → m ≡ M.Refused k p → b ≡ over (draw_bytes opt room file).text b
-  bytes_refused_room b k p e = rw (unread k p e)
+  pub bytes_refused_room : (b : List ℕ) (r : Refused) → m ≡ Err r → b ≡ over (draw_bytes opt room file).text b
+  bytes_refused_room b r e = rw (unread r.number r.place e)
 
-  pub bytes_whole : (x : Answer) (s : Size) → m ≡ M.Whole s → x ≡ result_answer (draw_shown (drawn_of opt (tables_of file) (graph_in g s)) room)
+  pub bytes_whole : (x : Answer) (s : Size) → m ≡ Ok s → x ≡ result_answer (draw_shown (drawn_of opt (tables_of file) (graph_in g s)) room)
       → x ≡ result_answer (draw_bytes opt room file)
   bytes_whole x s e h = rw (whole s e) h
 
-  pub bytes_whole_room : (l b : List ℕ) (s : Size) → m ≡ M.Whole s → b ≡ over (draw_shown (drawn_of opt (tables_of file) (graph_in g s)) room).text l
+  pub bytes_whole_room : (l b : List ℕ) (s : Size) → m ≡ Ok s → b ≡ over (draw_shown (drawn_of opt (tables_of file) (graph_in g s)) room).text l
       → b ≡ over (draw_bytes opt room file).text l
   bytes_whole_room l b s e h = rw (whole s e) h
 

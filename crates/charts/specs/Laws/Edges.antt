@@ -1,15 +1,14 @@
 -- `urzulempa_edges` refuses what `urzulempa_check` refuses, and the ways through its code.
-use Rattle.std.specs.Prelude.{◌≡◌, refl, Bool, true, false, List, ℕ, ◌*◌, ◌≤◌, ◌<◌, length, ltb}
+use Rattle.std.specs.Prelude.{◌≡◌, refl, Bool, true, false, List, ℕ, ◌*◌, ◌≤◌, ◌<◌, length, ltb, Ok, Err}
 use Rattle.std.proofs.Common.{sym, ◌∙◌, lt-ltb, le-ltb}
 use Rattle.std.proofs.Math.Path.{ap}
 use Rattle.records.specs.Read.{Reading, good, bad, read_of}
 use Rattle.store.specs.declared.Size.{Size}
 use Rattle.store.specs.Graph.{Graph}
 use Rattle.store.specs.Table.{graph_in, Stored, edges_count}
-use Rattle.graph.specs.declared.Made.{Made}
-use Rattle.graph.specs.declared.Made.TheVariants as M
 use Rattle.graph.specs.Graphs.{Outcome, drawn, refused, graph_of}
-use Rattle.graph.specs.Files.{outcome_by, outcome_of}
+use Rattle.records.specs.declared.Refused.{Refused}
+use Rattle.graph.specs.Files.{Made, outcome_by, outcome_of}
 use Rattle.graph.specs.Checked.{Checks, checks_outcome}
 use Rattle.lists.specs.Edges.{edges_over}
 use Rattle.calls.specs.declared.Answer.{Answer}
@@ -52,18 +51,18 @@ pub ruleset wholes = (short_answer, short_list, whole_answer, whole_list)
 -- ---- m is what the file makes
 
 module _ (file g : List ℕ) (m : Made) (R : Checks file g m) (l : List ℕ) where
-  pub bytes_refused : (x : Answer) (k p : ℕ) → m ≡ M.Refused k p → x ≡ refusal_of k p → x ≡ edges_answer file (length l)
+  pub bytes_refused : (x : Answer) (k p : ℕ) → m ≡ Err (record { number = k; place = p }) → x ≡ refusal_of k p → x ≡ edges_answer file (length l)
   unfolding edges_answer
-  bytes_refused x k p e h = h ∙ ap (λ (o : Outcome). edges_by o (length l)) (checks_outcome file g m R (M.Refused k p) e)
+  bytes_refused x k p e h = h ∙ ap (λ (o : Outcome). edges_by o (length l)) (checks_outcome file g m R (Err (record { number = k; place = p })) e)
 
-  pub bytes_refused_list : (k p : ℕ) → m ≡ M.Refused k p → l ≡ edges_left file l
+  pub bytes_refused_list : (r : Refused) → m ≡ Err r → l ≡ edges_left file l
   unfolding edges_left
-  bytes_refused_list k p e = ap (λ (o : Outcome). leaves_by o l) (checks_outcome file g m R (M.Refused k p) e)
+  bytes_refused_list r e = ap (λ (o : Outcome). leaves_by o l) (checks_outcome file g m R (Err r) e)
 
-  pub bytes_whole : (x : Answer) (s : Size) → m ≡ M.Whole s → x ≡ edges_asked (graph_in g s) (length l) → x ≡ edges_answer file (length l)
+  pub bytes_whole : (x : Answer) (s : Size) → m ≡ Ok s → x ≡ edges_asked (graph_in g s) (length l) → x ≡ edges_answer file (length l)
   unfolding edges_answer
-  bytes_whole x s e h = h ∙ ap (λ (o : Outcome). edges_by o (length l)) (checks_outcome file g m R (M.Whole s) e)
+  bytes_whole x s e h = h ∙ ap (λ (o : Outcome). edges_by o (length l)) (checks_outcome file g m R (Ok s) e)
 
-  pub bytes_whole_list : (k : List ℕ) (s : Size) → m ≡ M.Whole s → k ≡ edges_into (graph_in g s) l → k ≡ edges_left file l
+  pub bytes_whole_list : (k : List ℕ) (s : Size) → m ≡ Ok s → k ≡ edges_into (graph_in g s) l → k ≡ edges_left file l
   unfolding edges_left
-  bytes_whole_list k s e h = h ∙ ap (λ (o : Outcome). leaves_by o l) (checks_outcome file g m R (M.Whole s) e)
+  bytes_whole_list k s e h = h ∙ ap (λ (o : Outcome). leaves_by o l) (checks_outcome file g m R (Ok s) e)

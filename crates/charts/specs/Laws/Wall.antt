@@ -1,6 +1,6 @@
 -- What was exported is read back to the graph's nodes, edges and labels, over the contracts of `urzulempa_tgf` and `urzulempa_tgf_read`;
 -- and the ways through the exporter's code.
-use Rattle.std.specs.Prelude.{◌≡◌, refl, List, [], ℕ, length, take}
+use Rattle.std.specs.Prelude.{◌≡◌, refl, List, [], ℕ, length, take, Ok, Err}
 use Rattle.std.proofs.Common.{sym, ◌∙◌}
 use Rattle.std.proofs.Math.Path.{ap}
 use Rattle.std.proofs.Math.Seq.{take-append_seam}
@@ -10,10 +10,9 @@ use Rattle.index.specs.Promise.{promise}
 use Rattle.store.specs.declared.Size.{Size}
 use Rattle.store.specs.Graph.{Graph}
 use Rattle.store.specs.Table.{graph_in}
-use Rattle.graph.specs.declared.Made.{Made}
-use Rattle.graph.specs.declared.Made.TheVariants as M
 use Rattle.graph.specs.Graphs.{Outcome, drawn, refused, graph_of}
-use Rattle.graph.specs.Files.{Makes}
+use Rattle.records.specs.declared.Refused.{Refused}
+use Rattle.graph.specs.Files.{Made, Makes}
 use Rattle.graph.specs.Laws.Files.{makes_good, makes_graph, makes_refused}
 use Rattle.texts.specs.Wrote.{over}
 use Rattle.explanation.specs.Explain.{refusal}
@@ -28,25 +27,25 @@ use Rattle.charts.specs.Wall.{export_by, export_read, export_file}
 -- ---- m is what the file makes
 
 module _ (file ix g w : List ℕ) (m : Made) (R : Makes file ix g w m) (room : ℕ) where
-  unread : (k p : ℕ) → m ≡ M.Refused k p → export_file file room ≡ refusal k p
+  unread : (k p : ℕ) → m ≡ Err (record { number = k; place = p }) → export_file file room ≡ refusal k p
   unfolding export_file
   unread k p e = makes_refused file ix g w m R (export_read room) refusal (λ l i. refl) (λ T l i z. ap (export_by room T) z) k p e
 
-  whole : (s : Size) → m ≡ M.Whole s → export_file file room ≡ export_shown (tables_of file) (graph_in g s) room
+  whole : (s : Size) → m ≡ Ok s → export_file file room ≡ export_shown (tables_of file) (graph_in g s) room
   unfolding export_file
   whole s e = rw (makes_good file ix g w m R s e, makes_graph file ix g w m R s e)
 
-  pub export_refused : (x : Answer) (k p : ℕ) → m ≡ M.Refused k p → x ≡ refusal_of k p → x ≡ result_answer (export_file file room)
+  pub export_refused : (x : Answer) (k p : ℕ) → m ≡ Err (record { number = k; place = p }) → x ≡ refusal_of k p → x ≡ result_answer (export_file file room)
   export_refused x k p e h = rw (unread k p e) h
 
-  pub export_refused_room : (b : List ℕ) (k p : ℕ) → m ≡ M.Refused k p → b ≡ over (export_file file room).text b
-  export_refused_room b k p e = rw (unread k p e)
+  pub export_refused_room : (b : List ℕ) (r : Refused) → m ≡ Err r → b ≡ over (export_file file room).text b
+  export_refused_room b r e = rw (unread r.number r.place e)
 
-  pub export_whole : (x : Answer) (s : Size) → m ≡ M.Whole s → x ≡ result_answer (export_shown (tables_of file) (graph_in g s) room)
+  pub export_whole : (x : Answer) (s : Size) → m ≡ Ok s → x ≡ result_answer (export_shown (tables_of file) (graph_in g s) room)
       → x ≡ result_answer (export_file file room)
   export_whole x s e h = rw (whole s e) h
 
-  pub export_whole_room : (l b : List ℕ) (s : Size) → m ≡ M.Whole s → b ≡ over (export_shown (tables_of file) (graph_in g s) room).text l
+  pub export_whole_room : (l b : List ℕ) (s : Size) → m ≡ Ok s → b ≡ over (export_shown (tables_of file) (graph_in g s) room).text l
       → b ≡ over (export_file file room).text l
   export_whole_room l b s e h = rw (whole s e) h
 

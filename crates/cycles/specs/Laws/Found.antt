@@ -1,5 +1,5 @@
 -- The lowest node that the definition finds is what the paths say.
-use Rattle.std.specs.Prelude.{◌≡◌, Bool, false, ◌&&◌, List, [], ◌∷◌, ℕ, zero, suc, ◌+◌, ◌<◌, ◌≤◌, length, eqb}
+use Rattle.std.specs.Prelude.{◌≡◌, Bool, false, ◌&&◌, List, [], ◌∷◌, ℕ, zero, suc, ◌+◌, ◌<◌, ◌≤◌, length, eqb, Option as Maybe, Some, None}
 use Rattle.std.proofs.Math.Path.{refl}
 use Rattle.std.proofs.Common.{sym, ap, ◌∙◌, arith}
 use Rattle.std.proofs.Math.Bool.{true}
@@ -16,9 +16,9 @@ use Rattle.labels.specs.Labels.{targets}
 use Rattle.labels.specs.Ordered.{Leads, Acyclic}
 use Rattle.labels.specs.Laws.Paths.{path_onto, last_edge, into_edge, leads_way, way_leads}
 use Rattle.links.specs.Paths.{Path, Way, GraphWhole, path_rounds, rounds_reach}
-use Rattle.links.specs.Queue.{lowest_of, whole}
+use Rattle.links.specs.Queue.{lowest_of, lowest_node, whole}
 use Rattle.cycles.specs.Cycles.{on_cycle, cycle_of}
-use Rattle.cycles.specs.Laws.Lowest.{Lowest, lowest_unique}
+use Rattle.cycles.specs.Laws.Lowest.{Lowest, one_more, lowest_unique}
 
 -- ---- the test of one node
 
@@ -141,3 +141,17 @@ module _ (G : Graph) (W : GraphWhole G) where
 -- so the contract is an equation
 pub lowest_is : (g : List ℕ) (s : Size) (r : ℕ) → Lowest (targets (graph_in g s)) r → Stored g s → r ≡ lowest_of (cycle_of (graph_in g s))
 lowest_is g s r L S = lowest_unique (targets (graph_in g s)) r (lowest_of (cycle_of (graph_in g s))) L (cycle_lowest (graph_in g s) (whole g s S))
+
+-- and as the node that there may be
+pub lowest_found : (g : List ℕ) (s : Size) (r : Maybe ℕ) → Lowest (targets (graph_in g s)) (one_more r) → Stored g s → r ≡ lowest_node (cycle_of (graph_in g s))
+lowest_found g s r L S = by r (cycle_of (graph_in g s)) (lowest_is g s (one_more r) L S)
+  where
+    by : (r : Maybe ℕ) (o : Option ℕ) → one_more r ≡ lowest_of o → r ≡ lowest_node o
+    by None none e = refl
+    by None (some n) e = let z : ◌≡◌ {A = ℕ} 0 (n + 1) = e in absurd (omega arith)
+    by (Some m) none e = let z : ◌≡◌ {A = ℕ} (m + 1) 0 = e in absurd (omega arith)
+    by (Some m) (some n) e = let z : m + 1 ≡ n + 1 = e in ap Some (let q : m ≡ n = omega arith in q)
+
+pub found_more : (r : Maybe ℕ) (o : Option ℕ) → r ≡ lowest_node o → one_more r ≡ lowest_of o
+found_more r none e = rw e
+found_more r (some n) e = rw e

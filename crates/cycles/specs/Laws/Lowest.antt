@@ -1,8 +1,13 @@
 -- What the lowest node on a cycle means, by paths: an answer that is 0, or one more than the lowest node that leads back to itself.
-use Rattle.std.specs.Prelude.{◌≡◌, refl, ◌⊎◌, Bool, true, false, List, ℕ, zero, suc, ◌+◌, ◌<◌, ltb}
+use Rattle.std.specs.Prelude.{◌≡◌, refl, Option, Some, None, ◌⊎◌, Bool, true, false, List, ℕ, zero, suc, ◌+◌, ◌<◌, ltb}
 use Rattle.std.proofs.Common.{sym, ◌∙◌, inl, inr, arith, ltb-true, ltb-false}
 use Rattle.basis.specs.Members.{split, either}
 use Rattle.labels.specs.Ordered.{Leads, Acyclic}
+
+-- an answer that there may be, as this number
+abbrev pub one_more : Option ℕ → ℕ
+one_more None = 0
+one_more (Some n) = n + 1
 
 pub record Lowest (to : ℕ → List ℕ) (r : ℕ) : Type 0 where
   pub free : r ≡ 0 → Acyclic to

@@ -1,8 +1,8 @@
 -- What a clause's turn adds, nodes and edges, keeps that clause's number, and what was there keeps its own: so "a shared triple keeps the
 -- first one's".
-use Rattle.std.specs.Prelude.{◌≡◌, refl, Bool, true, false, List, [], ◌∷◌, ◌++◌, ℕ, zero, suc, length, get_or, set, ltb}
+use Rattle.std.specs.Prelude.{◌≡◌, refl, Bool, true, false, List, [], ◌∷◌, ◌++◌, ℕ, zero, suc, length, get_or, set, ltb, Option, Some, None}
 use Rattle.std.proofs.Common.{sym, ap, ◌∙◌, append_assoc, append-nil}
-use Rattle.std.proofs.Math.Option.{Option, none, some}
+use Rattle.std.proofs.Math.Option.{Option as Maybe, none, some}
 use Rattle.basis.specs.Lists.{any, place, snoc}
 use Rattle.basis.specs.Members.{split, clash, All, all_append}
 use Rattle.records.specs.declared.Clause.{Clause}
@@ -18,8 +18,6 @@ use Rattle.store.specs.declared.Edge.{Edge}
 use Rattle.store.specs.Graph.{Graph, handing, with_node, with_edge, same_node}
 use Rattle.store.specs.Working.{AddedSoFar, added_to, full_at, add_node_in, add_edge_in, add_link_in}
 use Rattle.expansion.specs.Triple.{Triple, same_triple}
-use Rattle.linking.specs.declared.Party.{Party}
-use Rattle.linking.specs.declared.Party.TheVariants.{Node, Neither}
 use Rattle.linking.specs.Links.{party_of, solvable_in, name_forbidden, requirers, Link, requires_of, excluded_links, lock_links, constrains_links, previous_links}
 use Rattle.linking.specs.Working.{LinkedSoFar, more_to, short_at, link_all_in, forbid_all_in}
 use Rattle.expansion.specs.declared.Side.{Side}
@@ -77,7 +75,7 @@ noted_node : (g : Graph) (x : ConflictNode) → Noted g (left (add_node_in g x))
 unfolding add_node_in
 noted_node g x = go (place (same_node x) g.nodes 0) refl
   where
-    go : (o : Option ℕ) → place (same_node x) g.nodes 0 ≡ o → Noted g (left (add_node_in g x))
+    go : (o : Maybe ℕ) → place (same_node x) g.nodes 0 ≡ o → Noted g (left (add_node_in g x))
     go (some j) q = rw (q, add_node_in) (noted_same g)
     go none q =
         split (ltb (length g.nodes) 128)
@@ -137,7 +135,7 @@ noted_links (l ∷ ls) g = go (λ k. noted_links ls k) (add_link_in g l.source l
     go f (full_at h) p = rw (p, link_all_in) (rw p at (noted_link g l.source l.target l.weight))
     go f (added_to i h) p = rw (p, link_all_in) (noted_then g h (linked_left (link_all_in ls h)) (rw p at (noted_link g l.source l.target l.weight)) (f h))
 
-noted_forbid : (g : Graph) (p : Option ℕ) (s : ℕ) → Noted g (linked_left (forbid_all_in g p s))
+noted_forbid : (g : Graph) (p : Maybe ℕ) (s : ℕ) → Noted g (linked_left (forbid_all_in g p s))
 unfolding forbid_all_in
 noted_forbid g p s = go (add_node_in g (N.Solvable s)) refl
   where
@@ -189,9 +187,9 @@ noted_pair : (T : Tables) (side : Side) (a b v : ℕ) (d : Build) → Noted d.gr
 unfolding pair_in
 noted_pair T side a b v d = go (party_of T a)
   where
-    go : (p : Party) → Noted d.graph (step_left (pair_all_in T side b v p d))
-    go Neither = noted_same d.graph
-    go (Node n) = noted_onces (triples_of side n v (others T side b)) d
+    go : (p : Option ConflictNode) → Noted d.graph (step_left (pair_all_in T side b v p d))
+    go None = noted_same d.graph
+    go (Some n) = noted_onces (triples_of side n v (others T side b)) d
 
 noted_forbids : (T : Tables) (x y : ℕ) (b : Build) → Noted b.graph (step_left (forbid_clause_in T x y b))
 unfolding forbid_clause_in

@@ -1,12 +1,12 @@
 -- "For edition 1 demand 3 reads as before": the definition and demand 3 at edition 1, in document 01's words, with no edition in them.
-use Rattle.std.specs.Prelude.{◌≡◌, refl, ◌⊎◌, Bool, true, false, List, ℕ, ◌<◌, ◌≤◌, leb}
-use Rattle.std.proofs.Math.Option.{Option, some}
-use Rattle.records.specs.Read.{Reading, good, bad, read_of}
+use Rattle.std.specs.Prelude.{◌≡◌, refl, ◌⊎◌, true, false, List, ℕ, ◌<◌, ◌≤◌, leb}
+use Rattle.std.proofs.Math.Option.{some}
+use Rattle.records.specs.Read.{good, bad, read_of}
 use Rattle.records.specs.Tables.{Tables}
 use Rattle.store.specs.Graph.{Graph}
 use Rattle.labels.specs.Runs.{Run}
 use Rattle.groups.specs.Counts.{solvables}
-use Rattle.graph.specs.Graphs.{Outcome, drawn, refused, graph_of}
+use Rattle.graph.specs.Graphs.{drawn, refused, graph_of}
 use Rattle.machine.specs.Machine.{Plan}
 use Rattle.machine.specs.Bound.{most}
 use Rattle.machine.specs.Told.{Finishes}

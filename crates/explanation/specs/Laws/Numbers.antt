@@ -1,9 +1,8 @@
 -- Which numbers reading and building give: 1 to 6, and 7 to 9. So a file that is not drawn never gets 11.
 use Rattle.std.specs.Prelude.{◌≡◌, refl, Bool, true, false, cond, ◌&&◌, List, [], ◌∷◌, ℕ, zero, suc, ◌%◌, ◌≤◌, length, leb, ltb, eqb}
-use Rattle.std.proofs.Common.{sym, ap, ◌∙◌, subst, arith}
+use Rattle.std.proofs.Common.{subst, arith}
 use Rattle.std.proofs.Math.Option.{Option, none, some}
 use Rattle.basis.specs.Members.{split}
-use Rattle.records.specs.declared.Clause.{Clause}
 use Rattle.records.specs.declared.Shape.{Shape}
 use Rattle.records.specs.Shapes.{Rec, records_of, limit, shape_of}
 use Rattle.records.specs.Tables.{Tables, no_tables, put, table_of}

@@ -1,5 +1,5 @@
 -- The walk over a plan that is read by an edition's rules gives the file's answer in that edition.
-use Rattle.std.specs.Prelude.{◌≡◌, refl, Bool, true, false, ◌||◌, List, [], ◌∷◌, ◌++◌, ℕ, ◌+◌, ◌≤◌, ◌<◌, eqb}
+use Rattle.std.specs.Prelude.{◌≡◌, Bool, true, List, ℕ, ◌≤◌, ◌<◌, eqb}
 use Rattle.std.proofs.Common.{sym, ◌∙◌, arith}
 use Rattle.std.proofs.Math.Path.{ap}
 use Rattle.std.proofs.Math.ListN.{length}
@@ -10,7 +10,7 @@ use Rattle.labels.specs.Runs.{Run}
 use Rattle.groups.specs.Counts.{solvables}
 use Rattle.shape.specs.Graphed.{Graphed}
 use Rattle.machine.specs.Machine.{Plan, Entry, entry, requirement, candidate}
-use Rattle.machine.specs.Bound.{Counted, most}
+use Rattle.machine.specs.Bound.{Counted}
 use Rattle.machine.specs.Count.{groups, unmerged}
 use Rattle.machine.specs.Units.{Result}
 use Rattle.machine.specs.Explained.{Explained}

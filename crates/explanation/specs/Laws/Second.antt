@@ -1,5 +1,5 @@
 -- Edition 2: "refusal 11 is never given, and all openings in the whole text together are at most g + u".
-use Rattle.std.specs.Prelude.{◌≡◌, Bool, true, false, cond, List, [], ◌∷◌, ◌++◌, map, ℕ, zero, suc, ◌+◌, ◌≤◌, length, take}
+use Rattle.std.specs.Prelude.{◌≡◌, Bool, false, cond, List, [], ◌∷◌, ◌++◌, map, ℕ, zero, suc, ◌+◌, ◌≤◌, length, take}
 use Rattle.std.proofs.Math.Path.{refl}
 use Rattle.std.proofs.Common.{sym, ap, ◌∙◌, zero-le, zero-add, arith, length-append}
 use Rattle.std.proofs.Math.Option.{Option, some}
@@ -14,7 +14,6 @@ use Rattle.groups.specs.Counts.{solvables}
 use Rattle.graph.specs.Graphs.{Outcome, drawn, refused, graph_of}
 use Rattle.machine.specs.Machine.{Op, requirement, candidate, Entry, entry, tell, openings}
 use Rattle.machine.specs.Told.{Finishes}
-use Rattle.machine.specs.Count.{groups, unmerged}
 use Rattle.machine.specs.Units.{Result}
 use Rattle.machine.specs.Explained.{units_of, units_for}
 use Rattle.machine.specs.Edition.{edited, opened_by, opened_in}
@@ -26,7 +25,7 @@ use Rattle.plan.specs.Laws.Leads.{shown_alone, shown_grouped, shown_told}
 use Rattle.lines.specs.Lines.{lines_of, package_lines, set_lines}
 use Rattle.explanation.specs.Openings.{is_opening, opening_lines, how_many, openings_in, openings_read, openings_of, once_in, once_read, once_of}
 use Rattle.explanation.specs.Contract.{ExplainedFile, Drawn}
-use Rattle.explanation.specs.Laws.Contract.{the_bound, by_file, file_demand, file_drawn, file_depth}
+use Rattle.explanation.specs.Laws.Contract.{the_bound, by_file, file_demand, file_drawn}
 
 -- ---- lines that open a package, and packages that are opened
 

@@ -1,5 +1,5 @@
 -- What callers take from what a file makes.
-use Rattle.std.specs.Prelude.{◌≡◌, refl, List, ℕ}
+use Rattle.std.specs.Prelude.{◌≡◌, refl, List, ℕ, Result, Ok, Err}
 use Rattle.std.proofs.Math.Path.{sym, ap}
 use Rattle.std.proofs.Common.{◌∙◌}
 use Rattle.records.specs.Tables.{Tables}
@@ -9,16 +9,14 @@ use Rattle.index.specs.Found.{loaded_good}
 use Rattle.store.specs.declared.Size.{Size}
 use Rattle.store.specs.Table.{graph_in, Stored}
 use Rattle.links.specs.Build.{Chains}
-use Rattle.graph.specs.declared.Made.{Made}
-use Rattle.graph.specs.declared.Made.TheVariants as M
 use Rattle.graph.specs.Graphs.{drawn, refused, graph_of}
-use Rattle.graph.specs.Files.{outcome_by, outcome_of, made_in, Standing, Makes}
+use Rattle.graph.specs.Files.{Made, outcome_by, outcome_of, made_in, Standing, Makes}
 
 -- ---- for callers: what the answer tells them
 
 module _ (file ix g w : List ℕ) (r : Made) (R : Makes file ix g w r) where
-  module _ (s : Size) (e : r ≡ M.Whole s) where
-    standing : Standing file ix g w (M.Whole s)
+  module _ (s : Size) (e : r ≡ Ok s) where
+    standing : Standing file ix g w (Ok s)
     standing = rw e at R.standing
 
     pub makes_loaded : Loaded file ix
@@ -42,7 +40,7 @@ module _ (file ix g w : List ℕ) (r : Made) (R : Makes file ix g w r) where
 
   -- a refusal comes from reading or from the graph; what is said of both in the same way, `of`, is said of the file
   pub makes_refused : {A : Type 0} (of : Reading → A) (denied : ℕ → ℕ → A) → ((k p : ℕ) → of (bad k p) ≡ denied k p)
-      → ((T : Tables) (k p : ℕ) → graph_of T ≡ refused k p → of (good T) ≡ denied k p) → (k p : ℕ) → r ≡ M.Refused k p → of (read_of file) ≡ denied k p
+      → ((T : Tables) (k p : ℕ) → graph_of T ≡ refused k p → of (good T) ≡ denied k p) → (k p : ℕ) → r ≡ Err (record { number = k; place = p }) → of (read_of file) ≡ denied k p
   unfolding outcome_of
   makes_refused {A} of denied f h k p e = go (read_of file) (sym R.is ∙ ap (made_in g) e)
     where

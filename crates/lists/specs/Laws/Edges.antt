@@ -46,6 +46,12 @@ pub put_is : (l : List ℕ) (a k n : ℕ) (e : Edge) → k ≡ edge_kind e.weigh
 unfolding put
 put_is l a k n e p q = rw (p, q)
 
+-- x, y: the ends as the list has them
+pub put_is_from : (l : List ℕ) (a x y k n : ℕ) (e : Edge) → x ≡ e.source → y ≡ e.target → k ≡ edge_kind e.weight → n ≡ names_of e.weight
+    → set (set (set (set (set l a x) (a + 1) y) (a + 2) k) (a + 3) n) (a + 4) e.clause ≡ put l a e
+unfolding put
+put_is_from l a x y k n e i j p q = rw (i, j, p, q)
+
 put_length : (l : List ℕ) (a : ℕ) (e : Edge) → length (put l a e) ≡ length l
 unfolding put
 put_length l a e =

@@ -1,9 +1,8 @@
 -- A plan that is read by an edition's rules is the graph's plan in that edition.
-use Rattle.std.specs.Prelude.{◌≡◌, refl, Bool, ◌||◌, List, [], ◌∷◌, ℕ, zero, suc, ◌+◌, ◌-◌, ◌<◌, ◌≤◌, length}
+use Rattle.std.specs.Prelude.{◌≡◌, refl, Bool, ◌||◌, List, ◌∷◌, ℕ, zero, suc, ◌+◌, ◌-◌, ◌<◌, ◌≤◌, length}
 use Rattle.std.proofs.Math.Path.{ap}
 use Rattle.std.proofs.Common.{◌∙◌, arith}
 use Rattle.std.proofs.Math.Dec.{ltb}
-use Rattle.basis.specs.Members.{In, All}
 use Rattle.machine.specs.Edition.{reading}
 use Rattle.plan.specs.Plan.{Shown, plan_of}
 use Rattle.plan.specs.Fields.{plan_in, runs_in, kids_in, opens_in, lead_in, mate_in, mates_by, mates_from, members_in, reason_in, sets_in, sets_first, sets_end}

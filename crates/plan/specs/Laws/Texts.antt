@@ -1,8 +1,7 @@
 -- Laws of a package's text: what is left out of a long group, and how code finds the last of its members.
-use Rattle.std.specs.Prelude.{◌≡◌, Bool, true, false, cond, ℕ, zero, suc, ◌+◌, ◌-◌, ◌<◌, ◌≤◌, length, get_or, take, ltb}
+use Rattle.std.specs.Prelude.{◌≡◌, Option, Some, None, IsSome, ℕ, zero, suc, ◌+◌, ◌-◌, ◌<◌, ◌≤◌, length, ltb}
 use Rattle.std.proofs.Math.Path.{refl, ap}
-use Rattle.std.proofs.Common.{sym, ◌∙◌, inl, inr, true≢false, not-suc-le-zero, arith, length-append, ltb-true, ltb-false, lt-ltb, le-ltb}
-use Rattle.std.proofs.lemmas.Bool.{false≢true}
+use Rattle.std.proofs.Common.{sym, ◌∙◌, inl, inr, not-suc-le-zero, arith, ltb-true, ltb-false, lt-ltb, le-ltb}
 use mathlib.Core.List.{List, [], ◌∷◌, ◌++◌, map, append_assoc, append-nil}
 use Rattle.std.proofs.lemmas.List.{length-map}
 use Rattle.basis.specs.Lists.{concat_map}
@@ -12,7 +11,7 @@ use Rattle.records.specs.Tables.{Tables}
 use Rattle.records.specs.Views.{name_text, solvable_name, version_text}
 use Rattle.plan.specs.Plan.{Shown}
 use Rattle.plan.specs.Display.{solvable_of, version_of, last_text, displayed, joined_by, members_of, package_text}
-use Rattle.plan.specs.Fields.{solvable_in, members_in, lead_in, mate_in, mate_below, mates_by, mates_from, mates_none, mates_more, mates_less}
+use Rattle.plan.specs.Fields.{solvable_in, members_in, lead_in, one_more, mate_in, mate_below, mates_by, mates_from, mates_none, mates_more, mates_less}
 use Rattle.plan.specs.Texts.{next_version, ends_text, last_more, last_of_many, version_in, versions_in, further_in, package_in}
 
 -- ---- the display
@@ -155,6 +154,21 @@ module _ (p : List ℕ) (x₁ x c l : ℕ) (z : Passing p x₁ x c l) where
 
     pub passing_few : c ≤ 5 → 0 ≡ last_of_many (mates_from p x₁)
     passing_few t = sym (few_is (mates_from p x₁) (let a = counted in omega arith))
+
+-- ---- a member as code finds it
+
+pub some_there : (o : Option ℕ) → 1 ≤ one_more o → IsSome o
+some_there None h = absurd (not-suc-le-zero h)
+some_there (Some n) h = refl
+
+pub one_more_one : (a b : Option ℕ) → one_more a ≡ one_more b → a ≡ b
+one_more_one None None e = refl
+one_more_one None (Some n) e = absurd (omega arith)
+one_more_one (Some m) None e = absurd (omega arith)
+one_more_one (Some m) (Some n) e = let h : m ≡ n = omega arith in ap Some h
+
+pub one_more_less : (o : Option ℕ) (n : ℕ) → o ≡ Some n → one_more o - 1 ≡ n
+one_more_less o n e = rw e (omega arith)
 
 -- ---- a long group's members as code finds them; l: the last by its number plus one
 

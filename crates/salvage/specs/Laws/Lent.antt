@@ -1,5 +1,5 @@
 -- From the judgement and the writing to what the call answers and leaves.
-use Rattle.std.specs.Prelude.{◌≡◌, List, [], ◌++◌, ℕ, ◌+◌, ◌*◌, ◌-◌, ◌/◌, ◌%◌, ◌≤◌, ◌<◌, drop, replicate}
+use Rattle.std.specs.Prelude.{◌≡◌, Result, Ok, Err, List, [], ◌++◌, ℕ, ◌+◌, ◌*◌, ◌-◌, ◌/◌, ◌%◌, ◌≤◌, ◌<◌, drop, replicate}
 use Rattle.std.proofs.Math.Path.{refl, ap}
 use Rattle.std.proofs.Common.{sym, ◌∙◌, zero-add, le-leb}
 use native.Mathlib.Omega.{arith}
@@ -14,8 +14,7 @@ use Rattle.records.specs.Tables.{no_tables}
 use Rattle.records.specs.Laws.Step.{step_start}
 use Rattle.salvage.specs.declared.Salvaged.{Salvaged}
 use Rattle.salvage.specs.declared.Work.{Work}
-use Rattle.salvage.specs.declared.Turn.{Turn}
-use Rattle.salvage.specs.declared.Turn.TheVariants.{On, Halt}
+use Rattle.records.specs.declared.Refused.{Refused}
 use Rattle.reader.specs.Pieces.{pieces, joined, Pasted}
 use Rattle.reader.specs.Laws.Pieces.{length_pieces, pieces_whole, cut_pieces, length_joined, joined_pieces}
 use Rattle.salvage.specs.Salvage.{Mended, mended, halted, mend_from, refused, mended_file, salvage_of}
@@ -84,19 +83,20 @@ module _ (file : List ℕ) (h : length file ≤ 65536) where
   unfolding salvage_of
   salvage_by M e = rw (le-leb (length file) 65536 h, e)
 
-  module _ (room list room' list' : List ℕ) (r : Salvaged) (t : Turn) (is : t ≡ (judged file).turn) where
-    halt_by : (n p : ℕ) → t ≡ Halt n p → r ≡ refusal_of n p → (M : Mended) → mend_from (pieces (length file / 32) file) 0 no_tables ≡ M
+  module _ (room list room' list' : List ℕ) (r : Salvaged) (t : Result Work Refused) (is : t ≡ (judged file).turn) where
+    halt_by : (b : Refused) → t ≡ Err b → r ≡ refusal_of b.number b.place → (M : Mended) → mend_from (pieces (length file / 32) file) 0 no_tables ≡ M
         → Agrees M 0 (replicate 2048 0) (judged file) → Leaves file room list r room list
-    halt_by n p e q (mended ys ks) m a = clash (cc a.1)
-    halt_by n p e q (halted k i) m a =
-        let x : k ≡ n = cc in
-        let y : i ≡ p = cc in
-        leaves_refused file room list r n p (rw (← x, ← y) (salvage_by (halted k i) m)) q
+    halt_by b e q (mended ys ks) m a = clash (cc a.1)
+    halt_by b e q (halted k i) m a =
+        let z : record { number = k; place = i } ≡ b = cc in
+        let x : k ≡ b.number = ap (λ (y : Refused). y.number) z in
+        let y : i ≡ b.place = ap (λ (y : Refused). y.place) z in
+        leaves_refused file room list r b.number b.place (rw (← x, ← y) (salvage_by (halted k i) m)) q
 
-    leaves_halt : (n p : ℕ) → t ≡ Halt n p → r ≡ refusal_of n p → Leaves file room list r room list
-    leaves_halt n p e q = halt_by n p e q (mend_from (pieces (length file / 32) file) 0 no_tables) refl agreed
+    leaves_halt : (b : Refused) → t ≡ Err b → r ≡ refusal_of b.number b.place → Leaves file room list r room list
+    leaves_halt b e q = halt_by b e q (mend_from (pieces (length file / 32) file) 0 no_tables) refl agreed
 
-    on_by : (w : Work) (found : List ℕ) → t ≡ On w → found ≡ (judged file).list → SalvageLaid file found w.replaced room list r room' list'
+    on_by : (w : Work) (found : List ℕ) → t ≡ Ok w → found ≡ (judged file).list → SalvageLaid file found w.replaced room list r room' list'
         → (M : Mended) → mend_from (pieces (length file / 32) file) 0 no_tables ≡ M → Agrees M 0 (replicate 2048 0) (judged file)
         → Leaves file room list r room' list'
     unfolding salvage_answer salvage_room salvage_list
@@ -116,10 +116,10 @@ module _ (file : List ℕ) (h : length file ≤ 65536) where
           in_list = rw (salvage_by (mended ys ks) m, o, ← list_is found ks list w.replaced q k, ← k) laid.in_list;
         }
       where
-        same_count : {c : Counts} {n : ℕ} → On (record { counts = c; replaced = n }) ≡ On w → n ≡ w.replaced
+        same_count : {c : Counts} {n : ℕ} → ◌≡◌ {A = Result Work Refused} (Ok (record { counts = c; replaced = n })) (Ok w) → n ≡ w.replaced
         same_count y = cc
 
-    leaves_on : (w : Work) (found : List ℕ) → t ≡ On w → found ≡ (judged file).list → SalvageLaid file found w.replaced room list r room' list'
+    leaves_on : (w : Work) (found : List ℕ) → t ≡ Ok w → found ≡ (judged file).list → SalvageLaid file found w.replaced room list r room' list'
         → Leaves file room list r room' list'
     leaves_on w found e f laid = on_by w found e f laid (mend_from (pieces (length file / 32) file) 0 no_tables) refl agreed
 
@@ -142,10 +142,10 @@ module _ (file room list : List ℕ) (r : Salvaged) (h : 65536 < length file) (q
   pub long_list : list ≡ salvage_list file (length room) list
   long_list = long.in_list
 
-module _ (file room list : List ℕ) (r : Salvaged) (t : Turn) (n p : ℕ) (is : t ≡ (judged file).turn) (e : t ≡ Halt n p)
-    (q : r ≡ refusal_of n p) (h : length file ≤ 65536) where
+module _ (file room list : List ℕ) (r : Salvaged) (t : Result Work Refused) (b : Refused) (is : t ≡ (judged file).turn) (e : t ≡ Err b)
+    (q : r ≡ refusal_of b.number b.place) (h : length file ≤ 65536) where
   halt : Leaves file room list r room list
-  halt = leaves_halt file h room list room list r t is n p e q
+  halt = leaves_halt file h room list room list r t is b e q
 
   pub halt_answer : r ≡ salvage_answer file (length room) (length list)
   halt_answer = halt.answer
@@ -157,7 +157,7 @@ module _ (file room list : List ℕ) (r : Salvaged) (t : Turn) (n p : ℕ) (is :
   halt_list = halt.in_list
 
 module _ (file found : List ℕ) (w : Work) (room list room' list' : List ℕ) (r : Salvaged) (laid : SalvageLaid file found w.replaced room list r room' list')
-    (t : Turn) (is : t ≡ (judged file).turn) (e : t ≡ On w) (f : found ≡ (judged file).list) (h : length file ≤ 65536) where
+    (t : Result Work Refused) (is : t ≡ (judged file).turn) (e : t ≡ Ok w) (f : found ≡ (judged file).list) (h : length file ≤ 65536) where
   goes_on : Leaves file room list r room' list'
   goes_on = leaves_on file h room list room' list' r t is w found e f laid
 

@@ -20,8 +20,7 @@ use Rattle.records.specs.Steps.{Passed, passed, read_next}
 use Rattle.index.specs.Steps.{Steps, table_no_of, is_in}
 use Rattle.salvage.specs.Salvage.{blank, core_learnt, is_clauses, on_clause, on_other, on_known, verdict_of}
 use Rattle.salvage.specs.Salvage.{Mended, mended, halted, with_kept, with_blank, mend_from}
-use Rattle.salvage.specs.declared.Verdict.{Verdict}
-use Rattle.salvage.specs.declared.Verdict.TheVariants.{Stays, Replaced, Stops}
+use Rattle.salvage.specs.Salvage.{Verdict, Stays, Replaced, Stops}
 use Rattle.reader.specs.Laws.Pieces.{PiecesWhole}
 
 -- ---- one record

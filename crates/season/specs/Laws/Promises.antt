@@ -1,5 +1,5 @@
 -- What order 8 asks of the public words: the joining rule, associativity and unit, and when 14 comes.
-use Rattle.std.specs.Prelude.{◌≡◌, refl, Bool, List, [], ◌∷◌, ◌++◌, ℕ, ◌+◌, length, eqb}
+use Rattle.std.specs.Prelude.{◌≡◌, refl, Bool, List, ℕ, length, eqb}
 use Rattle.std.proofs.Math.Path.{sym, ap}
 use Rattle.std.proofs.Common.{◌∙◌, arith, length-append, length-take-le}
 use Rattle.std.proofs.Math.Bool.{true, false, true≢false}
@@ -7,11 +7,9 @@ use Rattle.std.proofs.Math.Option.{Option, none, some}
 use borrow.Author.Tests.{eq-eqb, eqb-true}
 use Rattle.basis.specs.Guard.{guard}
 use Rattle.basis.specs.Members.{split}
-use Rattle.season.specs.declared.Own.{Own}
 use Rattle.season.specs.Report.{Report, Joining, whole, wide, join, empty, fits_widths, joined_reports, or_kept}
-use Rattle.season.specs.Season.{share, season, NoWide}
 use Rattle.season.specs.Words.{report_of, named, words_of, both, join_by, join_number, join_words}
-use Rattle.season.specs.Laws.Reports.{Full, join_full, empty_full, join_assoc, join_empty, empty_join, cut}
+use Rattle.season.specs.Laws.Reports.{Full, join_full, empty_full, join_assoc, join_empty, empty_join}
 use Rattle.season.specs.Laws.Words.{words_back}
 
 named_long : (o : Option (ℕ × ℕ)) → length (named o) ≡ 3

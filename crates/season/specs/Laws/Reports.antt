@@ -1,12 +1,12 @@
 -- What order 8 asks to be proved of reports: a cut season joined is the whole, joining is associative, done and refusals add up to the files,
 -- each total is a sum over the files.
-use Rattle.std.specs.Prelude.{◌≡◌, refl, Bool, true, false, List, [], ◌∷◌, ◌++◌, map, ℕ, zero, suc, ◌+◌, ◌^◌, ◌≤◌, ◌<◌, length, get_or, take, set, replicate, ltb}
-use Rattle.std.proofs.Common.{sym, ap, ◌∙◌, append_assoc, arith, length-append, length-set, take_at}
+use Rattle.std.specs.Prelude.{◌≡◌, refl, true, List, [], ◌∷◌, ◌++◌, map, ℕ, ◌+◌, ◌<◌, length, get_or, set, replicate, ltb}
+use Rattle.std.proofs.Common.{sym, ap, ◌∙◌, arith, length-append, length-set, take_at}
 use Rattle.std.proofs.Math.Option.{Option, none, some}
 use Rattle.std.proofs.lemmas.List.{length-replicate, get_or-replicate}
 use Rattle.basis.specs.Members.{split, All}
 use Rattle.season.specs.declared.Own.{Own}
-use Rattle.season.specs.Report.{Report, Joining, whole, wide, sum, sums, files, moved, deeper, join, empty, fits_widths, joined_reports, or_kept}
+use Rattle.season.specs.Report.{Report, Joining, whole, sum, sums, files, deeper, join, empty, fits_widths, joined_reports, or_kept}
 use Rattle.season.specs.Season.{adds, share, season_from, season, NoWide, Known}
 use Rattle.season.specs.Laws.Sums.{sums_assoc, zero_sums, sums_zero, length_sums, sum_sums, get_d_sums, sum_one, deeper_none, none_deeper, deeper_assoc}
 

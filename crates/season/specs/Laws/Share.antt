@@ -1,12 +1,12 @@
 -- One file's words: the ways through the code.
-use Rattle.std.specs.Prelude.{◌≡◌, refl, Bool, true, false, not, ℕ, zero, suc, ◌+◌, ◌≤◌, ◌<◌, length, eqb}
+use Rattle.std.specs.Prelude.{◌≡◌, refl, Bool, true, false, not, ℕ, zero, suc, ◌≤◌, ◌<◌, length, eqb}
 use Rattle.std.proofs.Common.{sym, ◌∙◌, arith, length-set}
 use Rattle.std.proofs.Math.Path.{ap}
 use mathlib.Core.List.{List, [], ◌∷◌, ◌++◌, append_assoc}
-use Rattle.std.proofs.Math.Option.{Option, none, some}
+use Rattle.std.proofs.Math.Option.{none, some}
 use Rattle.std.proofs.Math.ListN.{set, replicate}
 use Rattle.std.proofs.lemmas.List.{length-replicate}
-use borrow.Author.Tests.{eq-eqb, ne_eqb, not-true, not-false}
+use borrow.Author.Tests.{ne_eqb, not-true, not-false}
 use Rattle.basis.specs.Members.{clash}
 use Rattle.season.specs.declared.Own.{Own}
 use Rattle.season.specs.Season.{adds, share}

@@ -1,24 +1,26 @@
 -- The ways through the steps of a joining, and that a report written and read is the same.
-use Rattle.std.specs.Prelude.{◌≡◌, refl, Bool, true, false, not, length, get_or, take, replicate, leb, ltb, eqb}
+use Rattle.std.specs.Prelude.{◌≡◌, refl, Bool, true, false, not, length, get_or, take, replicate, leb}
 use Rattle.std.proofs.Math.Path.{sym, ap}
-use Rattle.std.proofs.Common.{◌∙◌, length-append, length-take, length-drop, drop-cons, length-take-le, take_at, get_or-append-add, le-leb, lt-ltb, le-ltb, leb-true, leb-false, ltb-true, eq-eqb, ne_eqb}
+use Rattle.std.proofs.Common.{◌∙◌, drop-cons, length-take-le, take_at, get_or-append-add, lt-ltb, le-ltb, leb-true, leb-false, ltb-true, eq-eqb, ne_eqb}
 use mathlib.Core.List.{List, [], ◌∷◌, ◌++◌, append_assoc}
 use Rattle.std.proofs.Math.Option.{Option, none, some}
-use Prim.Native.Nat.{ℕ, zero, suc, ◌+◌, ◌-◌, ◌^◌, ◌≤◌, ◌<◌}
+use Prim.Native.Nat.{ℕ, zero, suc, ◌+◌, ◌-◌, ◌≤◌, ◌<◌}
 use native.Mathlib.Omega.{arith}
 use Rattle.std.proofs.Math.Numerals.{add-one}
-use Rattle.std.proofs.Math.ListN.{drop, set, get_or-append}
+use Rattle.std.proofs.Math.ListN.{drop, set}
 use Rattle.std.proofs.Math.Seq.{take-suc, set_at}
 use Rattle.std.proofs.lemmas.List.{get_or_at}
-use Rattle.std.proofs.lemmas.Bool.{lt-leb, not-true, not-false}
+use Rattle.std.proofs.lemmas.Bool.{not-true, not-false}
 use Rattle.basis.specs.Members.{split}
 use Rattle.basis.specs.Below.{all_below, below_at, below_step, below_fails}
-use Rattle.season.specs.declared.Total.{Total}
+use Rattle.std.specs.Prelude.{Option as Maybe, Some, None, Result, Ok, Err}
+use Rattle.season.specs.declared.Refusal.{Refusal}
+use Rattle.season.specs.declared.Refusal.TheVariants as R
 use Rattle.season.specs.declared.Deep.{Deep}
 use Rattle.basis.specs.Lists.{all}
-use Rattle.season.specs.Report.{Report, sum, sums, narrow, numbers, moved, deeper, join, empty, files}
+use Rattle.season.specs.Report.{Report, sum, sums, deeper, join, empty, files}
 use Rattle.season.specs.Words.{deep_in, report_of, named, words_of}
-use Rattle.season.specs.Steps.{pair_fits, added, files_in, total_of, shown_deep, deep_of}
+use Rattle.season.specs.Steps.{pair_fits, added, files_in, total_of, deep_of}
 
 pub pair_is : (ws vs : List ℕ) (i a b : ℕ) → a ≤ 18446744073709551615 → a ≡ get_or ws i 0 → b ≡ get_or vs i 0 → leb b (18446744073709551615 - a) ≡ pair_fits ws vs i
 unfolding pair_fits
@@ -131,7 +133,7 @@ module _ (ws : List ℕ) (i s a : ℕ) (inv : s ≡ files_in ws i) (full : lengt
   pub files_next : s + a ≡ files_in ws (i + 1)
   files_next = rw add-one (omega (arith, files_one ws i (omega arith)))
 
-  pub files_wide : 18446744073709551615 - a < s → a ≤ 18446744073709551615 → record { ok = false; value = 0 } ≡ total_of (files_in ws 19)
+  pub files_wide : 18446744073709551615 - a < s → a ≤ 18446744073709551615 → Err R.Wide ≡ total_of (files_in ws 19)
   unfolding total_of
   files_wide g l =
       let z : suc i + (18 - i) ≡ 19 = omega arith in
@@ -140,45 +142,45 @@ module _ (ws : List ℕ) (i s a : ℕ) (inv : s ≡ files_in ws i) (full : lengt
       rw (le-ltb (files_in ws 19) 18446744073709551616 n, total_of)
 
 pub files_end : (ws : List ℕ) (i s : ℕ) → s ≡ files_in ws i → i ≤ 19 → 19 ≤ i → s ≤ 18446744073709551615
-    → record { ok = true; value = s } ≡ total_of (files_in ws 19)
+    → Ok s ≡ total_of (files_in ws 19)
 unfolding total_of
 files_end ws i s e h l g =
     let z : i ≡ 19 = omega arith in
     let y : s ≡ files_in ws 19 = e ∙ ap (files_in ws) z in
-    rw (lt-ltb (files_in ws 19) 18446744073709551616 (omega arith), total_of) (ap (λ (n : ℕ). record { ok = true; value = n }) y)
+    rw (lt-ltb (files_in ws 19) 18446744073709551616 (omega arith), total_of) (ap (λ (n : ℕ). Ok n) y)
 
 -- ---- the deepest file
 
-narrow_pair : (d f : ℕ) → d ≤ 18446744073709551615 → f ≤ 18446744073709551615 → record { ok = true; depth = d; first = f; named = 1 } ≡ deep_of (some (d, f))
+pub narrow_pair : (d f : ℕ) → d ≤ 18446744073709551615 → f ≤ 18446744073709551615 → Ok (Some (record { depth = d; first = f })) ≡ deep_of (some (d, f))
 unfolding deep_of
 narrow_pair d f h g = rw (lt-ltb d 18446744073709551616 (omega arith), all, lt-ltb f 18446744073709551616 (omega arith), all, deep_of)
 
 pub later_wide : (d f n : ℕ) → 18446744073709551615 - n < f → n ≤ 18446744073709551615 → d ≤ 18446744073709551615
-    → record { ok = false; depth = 0; first = 0; named = 0 } ≡ deep_of (some (d, n + f))
+    → Err R.Wide ≡ deep_of (some (d, n + f))
 unfolding deep_of
 later_wide d f n h l g = rw (lt-ltb d 18446744073709551616 (omega arith), all, le-ltb (n + f) 18446744073709551616 (omega arith), all, deep_of)
 
 pub later_fits : (d f n : ℕ) → f ≤ 18446744073709551615 - n → n ≤ 18446744073709551615 → d ≤ 18446744073709551615
-    → record { ok = true; depth = d; first = n + f; named = 1 } ≡ deep_of (some (d, n + f))
+    → Ok (Some (record { depth = d; first = n + f })) ≡ deep_of (some (d, n + f))
 later_fits d f n h l g = narrow_pair d (n + f) g (omega arith)
 
-in_none : (ws : List ℕ) → get_or ws 26 0 ≡ 0 → deep_in ws ≡ none
+pub in_none : (ws : List ℕ) → get_or ws 26 0 ≡ 0 → deep_in ws ≡ none
 unfolding deep_in
 in_none ws e = rw (eq-eqb (get_or ws 26 0) 0 e, deep_in)
 
-in_some : (ws : List ℕ) → (get_or ws 26 0 ≡ 0 → ⊥) → deep_in ws ≡ some (get_or ws 24 0, get_or ws 25 0)
+pub in_some : (ws : List ℕ) → (get_or ws 26 0 ≡ 0 → ⊥) → deep_in ws ≡ some (get_or ws 24 0, get_or ws 25 0)
 unfolding deep_in
 in_some ws e = rw (ne_eqb (get_or ws 26 0) 0 e, deep_in)
 
-deep_of_none : record { ok = true; depth = 0; first = 0; named = 0 } ≡ deep_of none
+deep_of_none : Ok None ≡ deep_of none
 unfolding deep_of
 deep_of_none = refl
 
 module _ (ws vs : List ℕ) (n a b : ℕ) (qa : a ≡ get_or ws 26 0) (qb : b ≡ get_or vs 26 0) where
-  by_two : (o p : Option (ℕ × ℕ)) (r : Deep) → deep_in ws ≡ o → deep_in vs ≡ p → r ≡ deep_of (deeper n o p) → r ≡ deep_of (deeper n (deep_in ws) (deep_in vs))
+  by_two : (o p : Option (ℕ × ℕ)) (r : Result (Maybe Deep) Refusal) → deep_in ws ≡ o → deep_in vs ≡ p → r ≡ deep_of (deeper n o p) → r ≡ deep_of (deeper n (deep_in ws) (deep_in vs))
   by_two o p r e f h = rw (e, f) h
 
-  pub deep_none : b ≡ 0 → a ≡ 0 → record { ok = true; depth = 0; first = 0; named = 0 } ≡ deep_of (deeper n (deep_in ws) (deep_in vs))
+  pub deep_none : b ≡ 0 → a ≡ 0 → Ok None ≡ deep_of (deeper n (deep_in ws) (deep_in vs))
   deep_none y x = by_two none none _ (in_none ws (sym qa ∙ x)) (in_none vs (sym qb ∙ y)) deep_of_none
 
   module _ (d f : ℕ) (qd : d ≡ get_or ws 24 0) (qf : f ≡ get_or ws 25 0) where
@@ -186,21 +188,21 @@ module _ (ws vs : List ℕ) (n a b : ℕ) (qa : a ≡ get_or ws 26 0) (qb : b �
     some_first x = in_some ws (λ z. x (qa ∙ z)) ∙ sym (ap (λ (k : ℕ). some (k, f)) qd ∙ ap (λ (k : ℕ). some (get_or ws 24 0, k)) qf)
 
     pub deep_first : b ≡ 0 → (a ≡ 0 → ⊥) → d ≤ 18446744073709551615 → f ≤ 18446744073709551615
-        → record { ok = true; depth = d; first = f; named = 1 } ≡ deep_of (deeper n (deep_in ws) (deep_in vs))
+        → Ok (Some (record { depth = d; first = f })) ≡ deep_of (deeper n (deep_in ws) (deep_in vs))
     deep_first y x h g = by_two (some (d, f)) none _ (some_first x) (in_none vs (sym qb ∙ y)) (narrow_pair d f h g)
 
   module _ (e g : ℕ) (qe : e ≡ get_or vs 24 0) (qg : g ≡ get_or vs 25 0) where
     some_second : (b ≡ 0 → ⊥) → deep_in vs ≡ some (e, g)
     some_second y = in_some vs (λ z. y (qb ∙ z)) ∙ sym (ap (λ (k : ℕ). some (k, g)) qe ∙ ap (λ (k : ℕ). some (get_or vs 24 0, k)) qg)
 
-    pub deep_second : (r : Deep) → a ≡ 0 → (b ≡ 0 → ⊥) → r ≡ deep_of (some (e, n + g)) → r ≡ deep_of (deeper n (deep_in ws) (deep_in vs))
+    pub deep_second : (r : Result (Maybe Deep) Refusal) → a ≡ 0 → (b ≡ 0 → ⊥) → r ≡ deep_of (some (e, n + g)) → r ≡ deep_of (deeper n (deep_in ws) (deep_in vs))
     deep_second r x y h = by_two none (some (e, g)) r (in_none ws (sym qa ∙ x)) (some_second y) h
 
     module _ (d f : ℕ) (qd : d ≡ get_or ws 24 0) (qf : f ≡ get_or ws 25 0) where
-      pub deep_more : (r : Deep) → d < e → (a ≡ 0 → ⊥) → (b ≡ 0 → ⊥) → r ≡ deep_of (some (e, n + g)) → r ≡ deep_of (deeper n (deep_in ws) (deep_in vs))
+      pub deep_more : (r : Result (Maybe Deep) Refusal) → d < e → (a ≡ 0 → ⊥) → (b ≡ 0 → ⊥) → r ≡ deep_of (some (e, n + g)) → r ≡ deep_of (deeper n (deep_in ws) (deep_in vs))
       deep_more r l x y h = by_two (some (d, f)) (some (e, g)) r (some_first d f qd qf x) (some_second y) (h ∙ ap deep_of (sym (rw (lt-ltb d e l, deeper) refl)))
 
       pub deep_less : e ≤ d → (a ≡ 0 → ⊥) → (b ≡ 0 → ⊥) → d ≤ 18446744073709551615 → f ≤ 18446744073709551615
-          → record { ok = true; depth = d; first = f; named = 1 } ≡ deep_of (deeper n (deep_in ws) (deep_in vs))
+          → Ok (Some (record { depth = d; first = f })) ≡ deep_of (deeper n (deep_in ws) (deep_in vs))
       deep_less l x y h k =
           by_two (some (d, f)) (some (e, g)) _ (some_first d f qd qf x) (some_second y) (narrow_pair d f h k ∙ ap deep_of (sym (rw (le-ltb d e l, deeper) refl)))

@@ -1,5 +1,5 @@
 -- The ways through the code of `urzulempa_season` and `urzulempa_join`.
-use Rattle.std.specs.Prelude.{◌≡◌, refl, Bool, true, false, List, ℕ, ◌≤◌, ◌<◌, length, eqb}
+use Rattle.std.specs.Prelude.{◌≡◌, refl, Bool, true, false, List, ℕ, ◌≤◌, ◌<◌, length, eqb, Err}
 use Rattle.std.proofs.Common.{sym, ◌∙◌, subst, arith, eq-eqb, ne_eqb}
 use Rattle.std.proofs.Math.Path.{ap}
 use Rattle.basis.specs.Guard.{guard}
@@ -12,10 +12,8 @@ use Rattle.store.specs.Graph.{Graph}
 use Rattle.store.specs.Table.{graph_in}
 use Rattle.links.specs.Build.{Chains}
 use Rattle.labels.specs.Marks.{label_bits}
-use Rattle.graph.specs.declared.Made.{Made}
-use Rattle.graph.specs.declared.Made.TheVariants as M
 use Rattle.graph.specs.Graphs.{drawn, graph_of}
-use Rattle.graph.specs.Files.{Makes}
+use Rattle.graph.specs.Files.{Made, Makes}
 use Rattle.graph.specs.Laws.Files.{makes_refused}
 use Rattle.shape.specs.Graphed.{Graphed}
 use Rattle.plan.specs.Plan.{shown_of}
@@ -136,11 +134,11 @@ module _ (every : Bool) (file q k : List ℕ) (c : Counts) (C : CountedFile ever
 -- ---- refusals 1 to 9
 
 module _ (file ix g w : List ℕ) (m : Made) (R : Makes file ix g w m) where
-  no_counts_lem : (k p : ℕ) → m ≡ M.Refused k p → file_counts file ≡ no_counts
+  no_counts_lem : (k p : ℕ) → m ≡ Err (record { number = k; place = p }) → file_counts file ≡ no_counts
   unfolding file_counts
   no_counts_lem k p e = makes_refused file ix g w m R counts_read (λ l i. no_counts) (λ l i. refl) (λ T l i z. ap (counts_drawn T) z) k p e
 
-  pub entered_refused : (t every : Bool) (ws vs out : List ℕ) (r : Answer) (k p : ℕ) → m ≡ M.Refused k p → Enters ws (refusal_of k p) no_counts vs r
+  pub entered_refused : (t every : Bool) (ws vs out : List ℕ) (r : Answer) (k p : ℕ) → m ≡ Err (record { number = k; place = p }) → Enters ws (refusal_of k p) no_counts vs r
       → Entered (edition_of every) file (option_of t) ws vs out out r
   entered_refused t every ws vs out r k p e E =
       record {

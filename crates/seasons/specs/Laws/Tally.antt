@@ -1,23 +1,21 @@
 -- The counts of the tables are those of the graph.
-use Rattle.std.specs.Prelude.{◌≡◌, refl, Bool, true, false, ◌&&◌, ℕ, zero, suc, ◌+◌, ◌-◌, ◌≤◌, ◌<◌}
+use Rattle.std.specs.Prelude.{◌≡◌, refl, Bool, true, false, ◌&&◌, ℕ, ◌-◌, ◌<◌}
 use Rattle.std.proofs.Math.Path.{sym, ap}
 use Rattle.std.proofs.Common.{◌∙◌, arith}
-use mathlib.Core.List.{List, [], ◌∷◌, map}
+use mathlib.Core.List.{List, [], ◌∷◌}
 use Rattle.std.proofs.Math.ListN.{length, get_or}
 use Rattle.std.proofs.lemmas.List.{length-map}
 use Rattle.std.proofs.Math.Dec.{eqb, ltb}
 use Rattle.basis.specs.Lists.{filter, upto}
-use Rattle.basis.specs.Members.{In}
 use Rattle.records.specs.Tables.{Tables}
 use Rattle.records.specs.Views.{name_text, solvable_name}
 use Rattle.store.specs.declared.Size.{Size}
 use Rattle.store.specs.Graph.{Graph}
 use Rattle.store.specs.Table.{graph_in, Stored, nodes_count, edges_count}
-use Rattle.labels.specs.Labels.{missings, missing, installable}
+use Rattle.labels.specs.Labels.{missing, installable}
 use Rattle.labels.specs.Marks.{miss_at, label_bits, bits_of, marks_at_lem}
 use Rattle.groups.specs.Groups as Groups
 use Rattle.groups.specs.Groups.{groups, mates, merged, head_or}
-use Rattle.plan.specs.Fields.{merged_in, lead_in}
 use Rattle.plan.specs.Plan.{shown_of, merged_shown, lead_shown}
 use Rattle.plan.specs.Planned.{Planned}
 use Rattle.plan.specs.Mates.{group_at, filter_agree, upto_in}

@@ -1,10 +1,10 @@
 -- The ways through the counting loops.
-use Rattle.std.specs.Prelude.{◌≡◌, refl, Bool, not, ◌&&◌, List, [], ◌∷◌, ℕ, zero, suc, ◌+◌, ◌-◌, ◌≤◌, ◌<◌, length, get_or, eqb, ltb}
+use Rattle.std.specs.Prelude.{◌≡◌, refl, Bool, not, List, ℕ, suc, ◌+◌, ◌-◌, ◌≤◌, ◌<◌, get_or, eqb, ltb}
 use Rattle.std.proofs.Math.Path.{sym}
 use Rattle.std.proofs.Common.{ap, ◌∙◌, arith, add-one}
 use Rattle.std.proofs.Math.Bool.{true, false}
 use borrow.Author.Tests.{not-true, not-false}
-use Rattle.basis.specs.Lists.{filter, upto}
+use Rattle.basis.specs.Lists.{filter}
 use Rattle.basis.specs.Members.{split}
 use Rattle.store.specs.declared.Size.{Size}
 use Rattle.labels.specs.Marks.{miss_at}

@@ -1,22 +1,19 @@
 -- What order 12 promises, over the contracts of `read` and `set`: the answer of the one is `settings_of`, of the other `change_of`, and
 -- what the other leaves in the lent room is `room_of`.
-use Rattle.std.specs.Prelude.{◌≡◌, refl, Bool, true, false, cond, List, [], ◌∷◌, ◌++◌, take, eqb, leb}
-use Rattle.std.proofs.Common.{sym, ap, ◌∙◌, append_assoc, length-drop, length-take-le, drop-drop}
-use Rattle.std.proofs.lemmas.Bool.{false≢true}
-use Prim.Native.Nat.{ℕ, zero, suc, ◌+◌, ◌*◌, ◌/◌, ◌%◌, ◌≤◌, ◌<◌}
+use Rattle.std.specs.Prelude.{◌≡◌, refl, true, false, cond, List, [], ◌∷◌, ◌++◌, take, eqb, leb}
+use Rattle.std.proofs.Common.{sym, ap, ◌∙◌, append_assoc, length-take-le}
+use Prim.Native.Nat.{ℕ, suc, ◌+◌, ◌*◌, ◌%◌, ◌≤◌}
 use native.Mathlib.Omega.{arith}
 use Rattle.std.proofs.Math.ListN.{length, drop, length-append}
 use Rattle.std.proofs.Math.Seq.{take_at, drop_at}
-use Rattle.std.proofs.lemmas.List.{take-append-le}
-use borrow.Author.Tests.{le-leb, lt-leb, leb-true, leb-false, eq-eqb, ne_eqb, eqb-true, eqb-false}
+use borrow.Author.Tests.{le-leb, leb-true, ne_eqb, eqb-true, eqb-false}
 use Rattle.basis.specs.Guard.{guard}
-use Rattle.basis.specs.Members.{split, All, all_append}
+use Rattle.basis.specs.Members.{split, All}
 use Rattle.settings.specs.declared.Settings.{Settings}
-use Rattle.settings.specs.declared.Change.{Change}
-use Rattle.settings.specs.Settings.{table, newest_in, fits_content, lowest, knows, Choice, choice_of, choices, entries_of, zeros, judged_record, refused}
+use Rattle.settings.specs.Settings.{table, newest_in, fits_content, knows, Choice, choices, entries_of, zeros, judged_record, refused}
 use Rattle.settings.specs.Settings.{setting_put, defaults, settings_from, settings_of}
 use Rattle.settings.specs.Change.{record_of, file_in, change_by, change_of, refusal, done, appended, room_of}
-use Rattle.settings.specs.Laws.Table.{guard_on, known_small, known_lowest}
+use Rattle.settings.specs.Laws.Table.{guard_on, known_small}
 use Rattle.settings.specs.Laws.Records.{Good, puts, read_all, read_bad, put_number, taken, taken_puts, opened, length_record, more}
 
 -- the content of a setting

@@ -1,14 +1,14 @@
 -- Records one behind another: what the reader makes of a good one, of the first that is bad, and of the one that a change appends.
-use Rattle.std.specs.Prelude.{◌≡◌, Bool, true, false, cond, List, [], ◌∷◌, ◌++◌, ℕ, zero, suc, ◌+◌, ◌*◌, ◌/◌, ◌%◌, ◌≤◌, ◌<◌, length, get_or, take, drop, eqb, leb}
+use Rattle.std.specs.Prelude.{◌≡◌, true, List, [], ◌∷◌, ◌++◌, ℕ, zero, suc, ◌+◌, ◌*◌, ◌/◌, ◌%◌, ◌≤◌, ◌<◌, length, take, drop, eqb, leb}
 use Rattle.std.proofs.Math.Path.{refl}
 use Rattle.std.proofs.Common.{sym, ap, ◌∙◌, arith, length-append, length-drop}
 use Rattle.std.proofs.Math.Nat.{mod-eq_of_lt}
 use Rattle.std.proofs.lemmas.List.{take-append-le, drop-append-le}
-use borrow.Author.Tests.{le-leb, lt-leb, leb-true, eq-eqb, eqb-true}
+use borrow.Author.Tests.{le-leb, leb-true, eq-eqb, eqb-true}
 use Rattle.basis.specs.Guard.{guard}
 use Rattle.basis.specs.Members.{split, All}
 use Rattle.settings.specs.declared.Settings.{Settings}
-use Rattle.settings.specs.Settings.{table, newest_in, lowest, knows, Choice, choice_of, choices, entries_of, zeros, judged_record, refused, setting_put}
+use Rattle.settings.specs.Settings.{newest_in, lowest, knows, Choice, choice_of, choices, entries_of, zeros, judged_record, refused, setting_put}
 use Rattle.settings.specs.Settings.{defaults, settings_from, settings_of}
 use Rattle.settings.specs.Change.{record_of}
 use Rattle.settings.specs.Laws.Table.{known_lowest, lowest_knows, known_small, lowest_small}

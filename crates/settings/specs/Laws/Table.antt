@@ -1,15 +1,14 @@
 -- What the table of versions says: the lowest version that knows a content is the one that the first row gives, since versions rise
 -- along the table; and its numbers fit a record's bytes.
-use Rattle.std.specs.Prelude.{◌≡◌, refl, Bool, true, false, cond, ◌&&◌, ℕ, ◌+◌, ◌≤◌, ◌<◌, eqb, leb}
-use Rattle.std.proofs.Common.{sym, ◌∙◌, true≢false}
+use Rattle.std.specs.Prelude.{◌≡◌, refl, Bool, true, false, ◌&&◌, ℕ, ◌≤◌, ◌<◌, eqb, leb}
 use Rattle.std.proofs.lemmas.Bool.{false≢true}
 use mathlib.Core.List.{List, [], ◌∷◌}
 use native.Mathlib.Omega.{arith}
-use borrow.Author.Tests.{le-leb, lt-leb, leb-true, leb-false, eq-eqb, ne_eqb, eqb-true, eqb-false}
+use borrow.Author.Tests.{le-leb, leb-true, eqb-true}
 use Rattle.basis.specs.Lists.{any}
 use Rattle.basis.specs.Guard.{guard}
-use Rattle.basis.specs.Members.{split, no_both, All, In, any_some, all_in}
-use Rattle.settings.specs.Settings.{Row, row, table, fits_content, fits_row, lowest_in, lowest, knows_row, knows, newest_in}
+use Rattle.basis.specs.Members.{split, All, any_some, all_in}
+use Rattle.settings.specs.Settings.{Row, table, fits_content, fits_row, lowest_in, lowest, knows_row, knows}
 
 -- what a passed chain of tests tells
 pub guard_on : {X : Type 0} (b : Bool) (bad on r : X) → (bad ≡ r → ⊥) → guard b bad on ≡ r → (b ≡ true) × (on ≡ r)

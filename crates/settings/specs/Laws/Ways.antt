@@ -1,5 +1,5 @@
 -- The ways through the code of the settings file: a law for each way out of a function.
-use Rattle.std.specs.Prelude.{◌≡◌, Bool, cond, not, List, [], ◌∷◌, ◌++◌, get_or, take, drop, leb}
+use Rattle.std.specs.Prelude.{◌≡◌, Bool, not, List, [], ◌∷◌, ◌++◌, get_or, take, drop, leb}
 use Rattle.std.proofs.Math.Path.{refl, sym}
 use Rattle.std.proofs.Common.{ap, ◌∙◌, append-nil, length-drop, drop_of_length-le, drop-cons, drop-drop, take_all}
 use Rattle.std.proofs.Math.Bool.{true, false}
@@ -11,13 +11,13 @@ use Rattle.std.proofs.Math.Dec.{eqb}
 use borrow.Author.Tests.{le-leb, lt-leb, leb-true, leb-false, eq-eqb, ne_eqb, not-true, not-false}
 use borrow.Rule.Slice.PartMut.{put_mid}
 use Rattle.basis.specs.Lists.{all}
-use Rattle.basis.specs.Members.{split, no_both}
+use Rattle.basis.specs.Members.{split}
 use Rattle.basis.specs.Guard.{guard}
 use Rattle.basis.specs.Laws.Guard.{guard_no, guard_yes}
 use Rattle.texts.specs.Wrote.{Wrote}
 use Rattle.settings.specs.declared.Settings.{Settings}
 use Rattle.settings.specs.declared.Change.{Change}
-use Rattle.settings.specs.Settings.{Row, row, table, fits_content, lowest_in, lowest, knows, Choice, choice_of, choices, entries_of, zeros, judged_record}
+use Rattle.settings.specs.Settings.{Row, row, fits_content, lowest_in, lowest, knows, Choice, choice_of, choices, entries_of, zeros, judged_record}
 use Rattle.settings.specs.Settings.{refused, put_by, setting_put, settings_from, settings_of}
 use Rattle.settings.specs.Change.{record_of, file_in, refusal, appended}
 use Rattle.settings.specs.Laws.Table.{known_lowest, lowest_known}

@@ -1,5 +1,5 @@
 -- Links of one node to several solvables: the laws of `fan`, and that a node which is there stays where it is.
-use Rattle.std.specs.Prelude.{◌≡◌, Bool, true, false, List, [], ◌∷◌, ℕ, zero, suc, ◌+◌, ◌*◌, ◌-◌, ◌/◌, ◌%◌, ◌<◌, ◌≤◌, length, get_or, set, ltb, leb}
+use Rattle.std.specs.Prelude.{Result, Ok, Err, ◌≡◌, Bool, true, false, List, [], ◌∷◌, ℕ, zero, suc, ◌+◌, ◌*◌, ◌-◌, ◌/◌, ◌%◌, ◌<◌, ◌≤◌, length, get_or, set, ltb, leb}
 use Rattle.std.proofs.Math.Path.{refl, sym}
 use Rattle.std.proofs.Common.{ap, ◌∙◌, arith}
 use Rattle.std.proofs.Math.Option.{Option, none, some}
@@ -12,7 +12,7 @@ use Rattle.store.specs.declared.ConflictEdge.{ConflictEdge}
 use Rattle.store.specs.declared.Edge.{Edge}
 use Rattle.store.specs.declared.Size.{Size}
 use Rattle.store.specs.declared.Put.{Put}
-use Rattle.store.specs.declared.Put.TheVariants.{At, Full}
+use Rattle.store.specs.declared.Full.{Full}
 use Rattle.store.specs.Direct.{entry_in, more, with_nodes, put_at}
 use Rattle.store.specs.Laws.Direct.{more_old}
 use Rattle.store.specs.Graph.{Graph, same_node, with_node, with_edge}
@@ -99,13 +99,13 @@ pub ruleset edges_by = (by_full, by_full_grows, by_new, by_new_grows)
 
 -- ---- what the number says
 
-linked_full : (s : Size) (n r : ℕ) → r ≡ 2 + (n - s.nodes) → s.nodes ≤ n → linked_by s r ≡ Full (with_nodes s n)
+linked_full : (s : Size) (n r : ℕ) → r ≡ 2 + (n - s.nodes) → s.nodes ≤ n → linked_by s r ≡ Err (record { size = with_nodes s n })
 unfolding linked_by
 linked_full s n r q h =
     let a : s.nodes + (r - 2) ≡ n = omega arith in
     rw (le-leb 2 r (omega arith), a)
 
-linked_at : (s : Size) (n r : ℕ) → r ≡ n - s.nodes → s.nodes ≤ n → n ≤ s.nodes + 1 → linked_by s r ≡ At s.edges (one_edge (with_nodes s n))
+linked_at : (s : Size) (n r : ℕ) → r ≡ n - s.nodes → s.nodes ≤ n → n ≤ s.nodes + 1 → linked_by s r ≡ Ok (record { place = s.edges; size = one_edge (with_nodes s n) })
 unfolding linked_by
 linked_at s n r q h l =
     let a : s.nodes + r ≡ n = omega arith in
@@ -232,11 +232,11 @@ after_on s r h = rw (lt-leb 2 r h)
 pub ruleset afters = (after_none, after_stop, after_on)
 
 -- the answer taken apart
-pub linked_stops : (s u : Size) (r : ℕ) → 2 ≤ r → u ≡ size_of (linked_by s r) → linked_by s r ≡ Full u
+pub linked_stops : (s u : Size) (r : ℕ) → 2 ≤ r → u ≡ size_of (linked_by s r) → linked_by s r ≡ Err (record { size = u })
 unfolding linked_by
 linked_stops s u r h q = rw q (rw (le-leb 2 r h))
 
-pub linked_goes : (s u : Size) (r : ℕ) → r < 2 → u ≡ size_of (linked_by s r) → linked_by s r ≡ At s.edges u
+pub linked_goes : (s u : Size) (r : ℕ) → r < 2 → u ≡ size_of (linked_by s r) → linked_by s r ≡ Ok (record { place = s.edges; size = u })
 unfolding linked_by
 linked_goes s u r h q = rw q (rw (lt-leb 2 r h))
 

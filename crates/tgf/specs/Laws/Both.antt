@@ -1,10 +1,10 @@
 -- The reader "accepts exactly what these line rules write": what it gives for a written text is what was written (`reads`), and
 -- a text for which it gives nodes and edges is the one that the line rules write for them (`accepts`).
-use Rattle.std.specs.Prelude.{◌≡◌, refl, Bool, true, false, cond, ◌&&◌, List, [], ◌∷◌, ◌++◌, map, ℕ, zero, suc, ◌+◌, ◌≤◌, ◌<◌, length, leb, ltb, eqb}
+use Rattle.std.specs.Prelude.{◌≡◌, refl, List, [], ◌∷◌, ◌++◌, map, ℕ, zero, suc, ◌+◌, ◌≤◌, ◌<◌, length, ltb, eqb}
 use Rattle.std.proofs.Common.{sym, ap, ◌∙◌, subst, append_assoc, arith, lt-ltb, ltb-true, eq-eqb, ne_eqb, eqb-true}
-use Rattle.std.proofs.Math.Option.{Option, none, some}
+use Rattle.std.proofs.Math.Option.{none, some}
 use Rattle.basis.specs.Guard.{guard}
-use Rattle.basis.specs.Members.{split, clash, All}
+use Rattle.basis.specs.Members.{clash, All}
 use Rattle.tgf.specs.Lines.{Label, WallEdge, decimal, node_line, hash_line, edge_line, node_lines, lines_of, joined, written, LabelGood, EdgeGood, TextGood}
 use Rattle.tgf.specs.Read.{number_at, label_at, node_line_at, end_at, edge_at, WallText, good, bad, and_node, and_edge, edges_from, hash_at, nodes_from, read_text}
 use Rattle.tgf.specs.Laws.Numbers.{absurd_none, some_is, guard_some, option, number_sound, number_complete, number_first}

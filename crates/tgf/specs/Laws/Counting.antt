@@ -1,15 +1,15 @@
 -- The pass that judges and counts, beside the definition: what is left of the text, with what was counted so far, says what the
 -- whole says.
-use Rattle.std.specs.Prelude.{◌≡◌, refl, Bool, true, false, not, length, get_or, drop, eqb}
+use Rattle.std.specs.Prelude.{◌≡◌, refl, Bool, true, false, length, get_or, drop}
+use Rattle.std.specs.Prelude.{Option as Maybe, Some, None, Result, Ok, Err}
 use Rattle.std.proofs.Math.Path.{sym, ap}
-use Rattle.std.proofs.Common.{◌∙◌, drop_of_length-le, drop-cons, ne_eqb, eq-eqb}
-use mathlib.Core.List.{List, [], ◌∷◌, ◌++◌}
-use Rattle.std.proofs.Math.Option.{Option, none, some}
+use Rattle.std.proofs.Common.{◌∙◌, drop_of_length-le, drop-cons, ne_eqb}
+use mathlib.Core.List.{List, [], ◌∷◌}
+use Rattle.std.proofs.Math.Option.{none, some}
 use Prim.Native.Nat.{ℕ, zero, suc, ◌+◌, ◌-◌, ◌≤◌, ◌<◌}
 use native.Mathlib.Omega.{arith}
 use Rattle.std.proofs.Math.Numerals.{add-one}
 use Rattle.std.proofs.Math.ListN.{take, length-drop}
-use Rattle.std.proofs.lemmas.Bool.{not-true, not-false}
 use Rattle.basis.specs.Guard.{guard}
 use Rattle.tgf.specs.declared.NodeLine.{NodeLine}
 use Rattle.tgf.specs.declared.EdgeLine.{EdgeLine}
@@ -29,7 +29,7 @@ and_node_lem i k x (bad n) = refl
 -- ---- edges
 
 -- k edges were read, and the rest from `at` on says what the whole says
-unfoldable pub EdgesLeft : List ℕ → ℕ → ℕ → ℕ → Seen → Type 0
+unfoldable pub EdgesLeft : List ℕ → ℕ → ℕ → ℕ → Result Seen ℕ → Type 0
 EdgesLeft text m at k w = seen_of m k (edges_from (1024 - k) m (m + 2 + k) (rest at text)) ≡ w
 
 rest_out : (text : List ℕ) (at : ℕ) → length text ≤ at → rest at text ≡ []
@@ -58,22 +58,21 @@ edges_good : (k m n c : ℕ) (s : List ℕ) (p : WallEdge × List ℕ) → edge_
 unfolding edges_from
 edges_good k m n c s p e = rw (e, edges_from)
 
-edge_some : (text : List ℕ) (r : EdgeLine) → not r.ok ≡ false → (e : WallEdge) × (edge_out text r ≡ some (e, rest r.next text))
+edge_some : (text : List ℕ) (o : Maybe EdgeLine) (r : EdgeLine) → o ≡ Some r → (e : WallEdge) × (edge_out text o ≡ some (e, rest r.next text))
 unfolding edge_out
-edge_some text r t =
-    (record { source = r.source; target = r.target; label = take r.size (rest r.begin text) }, rw (not-false r.ok t, edge_out))
+edge_some text o r t = (record { source = r.source; target = r.target; label = take r.size (rest r.begin text) }, rw t refl)
 
-edge_none : (text : List ℕ) (r : EdgeLine) → not r.ok ≡ true → edge_out text r ≡ none
+edge_none : (text : List ℕ) (o : Maybe EdgeLine) → o ≡ None → edge_out text o ≡ none
 unfolding edge_out
-edge_none text r t = rw (not-true r.ok t, edge_out)
+edge_none text o t = rw t refl
 
 module _ (text : List ℕ) (m : ℕ) where
   pub edges_start : (from : ℕ) → EdgesLeft text m from 0 (edges_seen text from m)
   unfolding EdgesLeft edges_seen
   edges_start from = let z : m + 2 + 0 ≡ suc (suc m) = omega arith in rw z
 
-  module _ (at k : ℕ) (w : Seen) (inv : EdgesLeft text m at k w) where
-    pub edges_end : length text ≤ at → record { ok = true; bad = 0; nodes = m; edges = k } ≡ w
+  module _ (at k : ℕ) (w : Result Seen ℕ) (inv : EdgesLeft text m at k w) where
+    pub edges_end : length text ≤ at → Ok (record { nodes = m; edges = k }) ≡ w
     unfolding EdgesLeft
     edges_end h =
         let a : m + 0 ≡ m = omega arith in
@@ -82,29 +81,29 @@ module _ (text : List ℕ) (m : ℕ) where
         ∙ edges_nil (1024 - k) m (m + 2 + k) in
         rw (a, b) at (sym (ap (seen_of m k) o) ∙ inv)
 
-    pub edges_many : at < length text → 1024 ≤ k → record { ok = false; bad = m + 2 + k; nodes = 0; edges = 0 } ≡ w
+    pub edges_many : at < length text → 1024 ≤ k → Err (m + 2 + k) ≡ w
     unfolding EdgesLeft
     edges_many h g =
         let z : 1024 - k ≡ 0 = omega arith in
         sym (ap (seen_of m k) (ap (λ (j : ℕ). edges_from j m (m + 2 + k) (rest at text)) z ∙ ap (edges_from 0 m (m + 2 + k)) (rest_in text at h)
         ∙ edges_full m (m + 2 + k) _ _)) ∙ inv
 
-    module _ (r : EdgeLine) where
-      pub edges_stop : not r.ok ≡ true → edge_out text r ≡ edge_at m (rest at text) → at < length text → k < 1024
-          → record { ok = false; bad = m + 2 + k; nodes = 0; edges = 0 } ≡ w
+    module _ (o : Maybe EdgeLine) where
+      pub edges_stop : o ≡ None → edge_out text o ≡ edge_at m (rest at text) → at < length text → k < 1024
+          → Err (m + 2 + k) ≡ w
       unfolding EdgesLeft
       edges_stop t q h g =
           let z : 1024 - k ≡ suc (1024 - (k + 1)) = omega arith in
-          let e : edge_at m (get_or text at 0 ∷ rest (at + 1) text) ≡ none = ap (edge_at m) (sym (rest_in text at h)) ∙ sym q ∙ edge_none text r t in
+          let e : edge_at m (get_or text at 0 ∷ rest (at + 1) text) ≡ none = ap (edge_at m) (sym (rest_in text at h)) ∙ sym q ∙ edge_none text o t in
           sym (ap (seen_of m k) (ap (λ (j : ℕ). edges_from j m (m + 2 + k) (rest at text)) z
           ∙ ap (edges_from (suc (1024 - (k + 1))) m (m + 2 + k)) (rest_in text at h) ∙ edges_bad (1024 - (k + 1)) m (m + 2 + k) _ _ e)) ∙ inv
 
-      pub edges_next : not r.ok ≡ false → edge_out text r ≡ edge_at m (rest at text) → at < length text → k < 1024 → EdgesLeft text m r.next (k + 1) w
+      pub edges_next : (r : EdgeLine) → o ≡ Some r → edge_out text o ≡ edge_at m (rest at text) → at < length text → k < 1024 → EdgesLeft text m r.next (k + 1) w
       unfolding EdgesLeft
-      edges_next t q h g =
+      edges_next r t q h g =
           let z : 1024 - k ≡ suc (1024 - (k + 1)) = omega arith in
           let y : suc (m + 2 + k) ≡ m + 2 + (k + 1) = omega arith in
-          let f = edge_some text r t in
+          let f = edge_some text o r t in
           let e : edge_at m (get_or text at 0 ∷ rest (at + 1) text) ≡ some (f.0, rest r.next text) = ap (edge_at m) (sym (rest_in text at h)) ∙ sym q ∙ f.1 in
           sym (and_edge_lem m k f.0 (edges_from (1024 - (k + 1)) m (m + 2 + (k + 1)) (rest r.next text)))
           ∙ ap (λ (j : ℕ). seen_of m k (and_edge f.0 (edges_from (1024 - (k + 1)) m j (rest r.next text)))) (sym y)
@@ -159,7 +158,7 @@ module _ (text : List ℕ) (at : ℕ) where
 -- ---- nodes
 
 -- i nodes were read, and the rest from `at` on says what the whole says
-unfoldable pub NodesLeft : List ℕ → ℕ → ℕ → Seen → Type 0
+unfoldable pub NodesLeft : List ℕ → ℕ → ℕ → Result Seen ℕ → Type 0
 NodesLeft text at i w = seen_of i 0 (nodes_from (128 - i) i (rest at text)) ≡ w
 
 from_hash : (k i : ℕ) (s t : List ℕ) → hash_at s ≡ some t → nodes_from k i s ≡ edges_from 1024 i (suc (suc i)) t
@@ -180,13 +179,13 @@ from_good : (k i : ℕ) (s : List ℕ) (p : Label × List ℕ) → hash_at s ≡
 unfolding nodes_from
 from_good k i s p h e = rw (h, nodes_from, e)
 
-node_some : (text : List ℕ) (r : NodeLine) → not r.ok ≡ false → node_out text r ≡ some (take r.size (rest r.begin text), rest r.next text)
+node_some : (text : List ℕ) (o : Maybe NodeLine) (r : NodeLine) → o ≡ Some r → node_out text o ≡ some (take r.size (rest r.begin text), rest r.next text)
 unfolding node_out
-node_some text r t = rw (not-false r.ok t, node_out)
+node_some text o r t = rw t refl
 
-node_none : (text : List ℕ) (r : NodeLine) → not r.ok ≡ true → node_out text r ≡ none
+node_none : (text : List ℕ) (o : Maybe NodeLine) → o ≡ None → node_out text o ≡ none
 unfolding node_out
-node_none text r t = rw (not-true r.ok t, node_out)
+node_none text o t = rw t refl
 
 hash_none : (text : List ℕ) (at : ℕ) (b : Bool) → hash_out text at b ≡ hash_at (rest at text) → b ≡ false → hash_at (rest at text) ≡ none
 unfolding hash_out
@@ -209,45 +208,45 @@ unfolding rest
 rest_all text = refl
 
 module _ (text : List ℕ) where
-  module _ (f : NodeLine) (q : node_out text f ≡ node_line_at 0 (rest 0 text)) where
-    node_zero : node_line_at 0 text ≡ node_out text f
+  module _ (o : Maybe NodeLine) (q : node_out text o ≡ node_line_at 0 (rest 0 text)) where
+    node_zero : node_line_at 0 text ≡ node_out text o
     node_zero = ap (node_line_at 0) (sym (rest_all text)) ∙ sym q
 
-    pub count_none : not f.ok ≡ true → record { ok = false; bad = 1; nodes = 0; edges = 0 } ≡ seen_of 0 0 (read_text text)
-    count_none t = sym (ap (seen_of 0 0) (read_none text (node_zero ∙ node_none text f t)))
+    pub count_none : o ≡ None → Err 1 ≡ seen_of 0 0 (read_text text)
+    count_none t = sym (ap (seen_of 0 0) (read_none text (node_zero ∙ node_none text o t)))
 
-    pub count_start : not f.ok ≡ false → NodesLeft text f.next 1 (seen_of 0 0 (read_text text))
+    pub count_start : (f : NodeLine) → o ≡ Some f → NodesLeft text f.next 1 (seen_of 0 0 (read_text text))
     unfolding NodesLeft
-    count_start t =
-        sym (ap (seen_of 0 0) (read_some text _ (node_zero ∙ node_some text f t))
+    count_start f t =
+        sym (ap (seen_of 0 0) (read_some text _ (node_zero ∙ node_some text o f t))
         ∙ and_node_lem 0 0 (take f.size (rest f.begin text)) (nodes_from 127 1 (rest f.next text)))
 
-  module _ (at i : ℕ) (w : Seen) (inv : NodesLeft text at i w) (b : Bool) (q : hash_out text at b ≡ hash_at (rest at text)) where
-    pub nodes_hash : (r : Seen) → b ≡ true → r ≡ edges_seen text (at + 2) i → r ≡ w
+  module _ (at i : ℕ) (w : Result Seen ℕ) (inv : NodesLeft text at i w) (b : Bool) (q : hash_out text at b ≡ hash_at (rest at text)) where
+    pub nodes_hash : (r : Result Seen ℕ) → b ≡ true → r ≡ edges_seen text (at + 2) i → r ≡ w
     unfolding NodesLeft edges_seen
     nodes_hash r t e = e ∙ sym (ap (seen_of i 0) (from_hash (128 - i) i (rest at text) (rest (at + 2) text) (hash_some text at b q t))) ∙ inv
 
-    pub nodes_many : b ≡ false → 128 ≤ i → record { ok = false; bad = i + 1; nodes = 0; edges = 0 } ≡ w
+    pub nodes_many : b ≡ false → 128 ≤ i → Err (i + 1) ≡ w
     unfolding NodesLeft
     nodes_many t g =
         let z : 128 - i ≡ 0 = omega arith in
         rw add-one (sym (ap (seen_of i 0) (ap (λ (j : ℕ). nodes_from j i (rest at text)) z ∙ from_full i (rest at text) (hash_none text at b q t))) ∙ inv)
 
-    module _ (x : NodeLine) where
-      pub nodes_stop : not x.ok ≡ true → node_out text x ≡ node_line_at i (rest at text) → b ≡ false → i < 128
-          → record { ok = false; bad = i + 1; nodes = 0; edges = 0 } ≡ w
+    module _ (o : Maybe NodeLine) where
+      pub nodes_stop : o ≡ None → node_out text o ≡ node_line_at i (rest at text) → b ≡ false → i < 128
+          → Err (i + 1) ≡ w
       unfolding NodesLeft
       nodes_stop e p t g =
           let z : 128 - i ≡ suc (128 - (i + 1)) = omega arith in
           rw add-one (sym (ap (seen_of i 0) (ap (λ (j : ℕ). nodes_from j i (rest at text)) z
-          ∙ from_bad (128 - (i + 1)) i (rest at text) (hash_none text at b q t) (sym p ∙ node_none text x e))) ∙ inv)
+          ∙ from_bad (128 - (i + 1)) i (rest at text) (hash_none text at b q t) (sym p ∙ node_none text o e))) ∙ inv)
 
-      pub nodes_next : not x.ok ≡ false → node_out text x ≡ node_line_at i (rest at text) → b ≡ false → i < 128 → NodesLeft text x.next (i + 1) w
+      pub nodes_next : (x : NodeLine) → o ≡ Some x → node_out text o ≡ node_line_at i (rest at text) → b ≡ false → i < 128 → NodesLeft text x.next (i + 1) w
       unfolding NodesLeft
-      nodes_next e p t g =
+      nodes_next x e p t g =
           let z : 128 - i ≡ suc (128 - (i + 1)) = omega arith in
           let l = take x.size (rest x.begin text) in
           sym (and_node_lem i 0 l (nodes_from (128 - (i + 1)) (i + 1) (rest x.next text)))
           ∙ ap (λ (j : ℕ). seen_of i 0 (and_node l (nodes_from (128 - (i + 1)) j (rest x.next text)))) (add-one i)
           ∙ sym (ap (seen_of i 0) (ap (λ (j : ℕ). nodes_from j i (rest at text)) z
-          ∙ from_good (128 - (i + 1)) i (rest at text) (l, rest x.next text) (hash_none text at b q t) (sym p ∙ node_some text x e))) ∙ inv
+          ∙ from_good (128 - (i + 1)) i (rest at text) (l, rest x.next text) (hash_none text at b q t) (sym p ∙ node_some text o x e))) ∙ inv

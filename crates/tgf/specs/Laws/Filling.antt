@@ -1,24 +1,24 @@
 -- The pass that fills the lent lists: "two numbers a node (where its label begins in the text, how long it is) and four an edge
 -- (source, target, label's begin and length)".
-use Rattle.std.specs.Prelude.{◌≡◌, refl, Bool, true, false, not, drop}
+use Rattle.std.specs.Prelude.{◌≡◌, refl, true, false, drop}
+use Rattle.std.specs.Prelude.{Option as Maybe, Some, None}
 use Rattle.std.proofs.Math.Path.{sym, ap}
-use Rattle.std.proofs.Common.{◌∙◌, true≢false, add-one, length-append, length-take, length-drop, length-set, length-take-le, drop-drop}
+use Rattle.std.proofs.Common.{◌∙◌, add-one, length-append, length-drop, length-take-le, drop-drop}
 use mathlib.Core.List.{List, [], ◌∷◌, ◌++◌}
-use Rattle.std.proofs.Math.Option.{Option, none, some}
+use Rattle.std.proofs.Math.Option.{some}
 use Prim.Native.Nat.{ℕ, zero, suc, ◌+◌, ◌*◌, ◌-◌, ◌≤◌, ◌<◌}
 use native.Mathlib.Omega.{arith}
 use Rattle.std.proofs.Math.ListN.{length, take, set}
 use Rattle.std.proofs.Math.Seq.{sets}
-use Rattle.basis.specs.Members.{split, clash}
+use Rattle.basis.specs.Members.{clash}
 use Rattle.tgf.specs.declared.NodeLine.{NodeLine}
 use Rattle.tgf.specs.declared.EdgeLine.{EdgeLine}
-use Rattle.tgf.specs.declared.Seen.{Seen}
-use Rattle.tgf.specs.Lines.{Label, WallEdge, decimal, node_line, edge_line, LabelGood}
+use Rattle.tgf.specs.Lines.{Label, WallEdge, decimal, node_line, edge_line}
 use Rattle.tgf.specs.Read.{node_line_at, edge_at, WallText, good, bad, and_node, and_edge, edges_from, hash_at, nodes_from, read_text}
 use Rattle.tgf.specs.Lent.{is_good, labels_in, edges_read, node_spots, nodes_end, edge_spots}
-use Rattle.tgf.specs.Steps.{rest, behind, node_out, edge_out, seen_of, two_put, HashAt, EdgesAt}
+use Rattle.tgf.specs.Steps.{rest, node_out, edge_out, two_put, HashAt, EdgesAt}
 use Rattle.tgf.specs.Laws.Numbers.{option, absurd_none, some_is}
-use Rattle.tgf.specs.Laws.Both.{node_sound, edge_sound, edges_sound, hash_node, hash_sound, nodes_hash, nodes_step}
+use Rattle.tgf.specs.Laws.Both.{node_sound, edge_sound, edges_sound, hash_sound, nodes_hash, nodes_step}
 
 pub put_two_via : (list l m : List ℕ) (at a b v w : ℕ) → l ≡ set list at v → m ≡ set l (at + 1) w → v ≡ a → w ≡ b → m ≡ two_put list at a b
 unfolding two_put
@@ -150,13 +150,14 @@ no_nodes : (ns : List Label) (i n : ℕ) → n ≤ i → i + length ns ≡ n →
 no_nodes [] i n h e = refl
 no_nodes (x ∷ ns) i n h e = let z : ⊥ = omega arith in absurd z
 
-node_ok : (text : List ℕ) (x : NodeLine) (p : Label × List ℕ) → node_out text x ≡ some p
-    → (x.ok ≡ true) × (p ≡ (take x.size (rest x.begin text), rest x.next text))
+node_ok : (text : List ℕ) (o : Maybe NodeLine) (x : NodeLine) (p : Label × List ℕ) → o ≡ Some x → node_out text o ≡ some p
+    → p ≡ (take x.size (rest x.begin text), rest x.next text)
 unfolding node_out
-node_ok text x p e =
-    split x.ok
-    (λ t. (t, sym (some_is (take x.size (rest x.begin text), rest x.next text) p (rw (t, node_out) at e))))
-    (λ t. absurd_none p (rw (t, node_out) at e))
+node_ok text o x p t e = sym (some_is (take x.size (rest x.begin text), rest x.next text) p (rw t at e))
+
+no_line : (text : List ℕ) (o : Maybe NodeLine) (p : Label × List ℕ) → o ≡ None → node_out text o ≡ some p → ⊥
+unfolding node_out
+no_line text o p t e = absurd_none p (rw t at e)
 
 module _ (text : List ℕ) (at i n : ℕ) (list whole : List ℕ) (end : ℕ) (es : List WallEdge) (F : Nodes text at i n list whole end es) where
   pub nodes_list : n ≤ i → list ≡ whole
@@ -180,18 +181,23 @@ module _ (text : List ℕ) (at i n : ℕ) (list whole : List ℕ) (end : ℕ) (e
         u.1,
       )
 
-  pub nodes_fill : (x : NodeLine) (m : List ℕ) → i < n → m ≡ two_put list (2 * i) x.begin x.size → node_out text x ≡ node_line_at i (rest at text)
-      → x.next ≡ behind x.ok x.begin x.size → x.next ≤ length text → x.next ≤ at + 54
+  -- each line of a good text is one
+  pub nodes_some : (o : Maybe NodeLine) → i < n → node_out text o ≡ node_line_at i (rest at text) → o ≡ None → ⊥
+  nodes_some o h q t =
+      let v = opened (128 - i) i (rest at text) F.fine (omega (arith, F.count)) in
+      no_line text o v.0 t (q ∙ v.1)
+
+  pub nodes_fill : (y : Maybe NodeLine) (x : NodeLine) (m : List ℕ) → i < n → y ≡ Some x → m ≡ two_put list (2 * i) x.begin x.size
+      → node_out text y ≡ node_line_at i (rest at text) → x.next ≡ x.begin + x.size + 1 → x.next ≤ length text → x.next ≤ at + 54
       → Nodes text x.next (i + 1) n m whole end es
   unfolding node_spots nodes_end
-  nodes_fill x m h em q k g d =
+  nodes_fill yo x m h t em q y g d =
       let o = opened (128 - i) i (rest at text) F.fine (omega (arith, F.count)) in
       let p = o.0 in
-      let r = node_ok text x p (q ∙ o.1) in
-      let y : x.next ≡ x.begin + x.size + 1 = k ∙ rw r.0 in
+      let r = node_ok text yo x p t (q ∙ o.1) in
       let z = node_sound i (rest at text) p.0 p.1 o.1 in
-      let u : p.0 ≡ take x.size (rest x.begin text) = ap (λ t. t.0) r.1 in
-      let v : p.1 ≡ rest x.next text = ap (λ t. t.1) r.1 in
+      let u : p.0 ≡ take x.size (rest x.begin text) = ap (λ t. t.0) r in
+      let v : p.1 ≡ rest x.next text = ap (λ t. t.1) r in
       let w : length p.0 ≡ x.size = rw u (length_cut text x.begin x.size (omega arith)) in
       let a : x.next ≡ at + length (node_line i p.0) = rest_behind text (node_line i p.0) at x.next F.within g (z.1
       ∙ ap (λ (t : List ℕ). node_line i p.0 ++ t) v) in
@@ -272,19 +278,18 @@ no_edges : (es : List WallEdge) (i n : ℕ) → n ≤ i → i + length es ≡ n 
 no_edges [] i n h e = refl
 no_edges (x ∷ es) i n h e = let z : ⊥ = omega arith in absurd z
 
-edge_ok : (text : List ℕ) (x : EdgeLine) (p : WallEdge × List ℕ) → edge_out text x ≡ some p
-    → (x.ok ≡ true) × (p ≡ (record { source = x.source; target = x.target; label = take x.size (rest x.begin text) }, rest x.next text))
+edge_ok : (text : List ℕ) (o : Maybe EdgeLine) (x : EdgeLine) (p : WallEdge × List ℕ) → o ≡ Some x → edge_out text o ≡ some p
+    → p ≡ (record { source = x.source; target = x.target; label = take x.size (rest x.begin text) }, rest x.next text)
 unfolding edge_out
-edge_ok text x p e =
-    split x.ok
-    (λ t. (
-      t,
-      sym (some_is (
-        record { source = x.source; target = x.target; label = take x.size (rest x.begin text) },
-        rest x.next text,
-      ) p (rw (t, edge_out) at e)),
-    ))
-    (λ t. absurd_none p (rw (t, edge_out) at e))
+edge_ok text o x p t e =
+    sym (some_is (
+      record { source = x.source; target = x.target; label = take x.size (rest x.begin text) },
+      rest x.next text,
+    ) p (rw t at e))
+
+no_edge_line : (text : List ℕ) (o : Maybe EdgeLine) (p : WallEdge × List ℕ) → o ≡ None → edge_out text o ≡ some p → ⊥
+unfolding edge_out
+no_edge_line text o p t e = absurd_none p (rw t at e)
 
 edge_spots_step : (list m : List ℕ) (at k b s next : ℕ) (e : WallEdge) (es : List WallEdge) (whole : List ℕ)
     → at + length (decimal e.source) + 1 + length (decimal e.target) + 1 ≡ b → length e.label ≡ s → next ≡ at + length (edge_line e)
@@ -303,18 +308,24 @@ module _ (text : List ℕ) (m at k n : ℕ) (list whole : List ℕ) (F : Edges t
   unfolding edge_spots
   edges_list h = rw (no_edges (edges_read (edges_from (1024 - k) m (m + 2 + k) (rest at text))) k n h F.count) at F.left
 
-  pub edges_fill : (x : EdgeLine) (l4 : List ℕ) → k < n → l4 ≡ two_put (two_put list (4 * k) x.source x.target) (4 * k + 2) x.begin x.size
-      → edge_out text x ≡ edge_at m (rest at text) → x.next ≡ behind x.ok x.begin x.size
+  -- each line of a good text is one
+  pub edges_some : (o : Maybe EdgeLine) → k < n → edge_out text o ≡ edge_at m (rest at text) → o ≡ None → ⊥
+  edges_some o h q t =
+      let v = opened_edge (1024 - k) m (m + 2 + k) (rest at text) F.fine (omega (arith, F.count)) in
+      no_edge_line text o v.0 t (q ∙ v.1)
+
+  pub edges_fill : (yo : Maybe EdgeLine) (x : EdgeLine) (l4 : List ℕ) → k < n → yo ≡ Some x
+      → l4 ≡ two_put (two_put list (4 * k) x.source x.target) (4 * k + 2) x.begin x.size
+      → edge_out text yo ≡ edge_at m (rest at text) → x.next ≡ x.begin + x.size + 1
       → x.next ≤ length text → x.next ≤ at + 58 → Edges text m x.next (k + 1) n l4 whole
   unfolding two_put
-  edges_fill x l4 h em q y g v =
+  edges_fill yo x l4 h t em q w g v =
       let o = opened_edge (1024 - k) m (m + 2 + k) (rest at text) F.fine (omega (arith, F.count)) in
       let p = o.0 in
-      let r = edge_ok text x p (q ∙ o.1) in
-      let w : x.next ≡ x.begin + x.size + 1 = y ∙ rw r.0 in
+      let r = edge_ok text yo x p t (q ∙ o.1) in
       let z = edge_sound m (rest at text) p.0 p.1 o.1 in
-      let pe : p.0 ≡ record { source = x.source; target = x.target; label = take x.size (rest x.begin text) } = ap (λ t. t.0) r.1 in
-      let pr : p.1 ≡ rest x.next text = ap (λ t. t.1) r.1 in
+      let pe : p.0 ≡ record { source = x.source; target = x.target; label = take x.size (rest x.begin text) } = ap (λ t. t.0) r in
+      let pr : p.1 ≡ rest x.next text = ap (λ t. t.1) r in
       let ps : p.0.source ≡ x.source = ap (λ (t : WallEdge). t.source) pe in
       let pt : p.0.target ≡ x.target = ap (λ (t : WallEdge). t.target) pe in
       let pl : p.0.label ≡ take x.size (rest x.begin text) = ap (λ (t : WallEdge). t.label) pe in

@@ -1,8 +1,7 @@
 -- Labels: `label_at` takes a label and its newline off a text, and nothing else.
-use Rattle.std.specs.Prelude.{◌≡◌, refl, Bool, true, false, cond, List, [], ◌∷◌, ◌++◌, ℕ, zero, suc, ◌+◌, ◌≤◌, ◌<◌, length, leb, eqb}
-use Rattle.std.proofs.Common.{sym, ap, ◌∙◌, append_assoc, arith, leb-true, ne_eqb, eqb-true}
-use Rattle.std.proofs.Math.Option.{Option, none, some}
-use Rattle.std.proofs.lemmas.Bool.{eqb-false}
+use Rattle.std.specs.Prelude.{◌≡◌, refl, true, false, List, [], ◌∷◌, ◌++◌, ℕ, zero, suc, ◌≤◌, length, leb, eqb}
+use Rattle.std.proofs.Common.{ap, arith, leb-true, ne_eqb, eqb-true}
+use Rattle.std.proofs.Math.Option.{some}
 use Rattle.basis.specs.Lists.{all}
 use Rattle.basis.specs.Guard.{guard}
 use Rattle.basis.specs.Members.{split, clash, and_true}

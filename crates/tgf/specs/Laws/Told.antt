@@ -2,7 +2,7 @@
 -- the ends that they say.
 use Rattle.std.specs.Prelude.{◌≡◌, refl, ℕ, suc, ◌+◌, length, take, drop}
 use Rattle.std.proofs.Common.{sym, ap, ◌∙◌, arith, length-append, drop_at}
-use mathlib.Core.List.{List, [], ◌∷◌, ◌++◌, map, append_assoc, append-nil}
+use mathlib.Core.List.{List, [], ◌∷◌, ◌++◌, map, append_assoc}
 use Rattle.std.proofs.Math.Seq.{take-append_seam}
 use Rattle.tgf.specs.Lines.{Label, WallEdge, decimal, node_line, hash_line, edge_line, node_lines, lines_of, joined, written}
 use Rattle.tgf.specs.Read.{good, read_text}

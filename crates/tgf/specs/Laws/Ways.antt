@@ -1,23 +1,23 @@
 -- The ways through the reader's code: a law for each way out of a function.
-use Rattle.std.specs.Prelude.{◌≡◌, Bool, true, false, not, ◌&&◌, List, [], ◌∷◌, ◌++◌, ℕ, zero, suc, ◌+◌, ◌*◌, ◌-◌, ◌≤◌, ◌<◌, length, get_or, drop, leb, ltb, eqb}
+use Rattle.std.specs.Prelude.{◌≡◌, Bool, true, false, List, [], ◌∷◌, ◌++◌, ℕ, zero, suc, ◌+◌, ◌*◌, ◌-◌, ◌≤◌, ◌<◌, length, get_or, drop, ltb, eqb}
+use Rattle.std.specs.Prelude.{Option as Maybe, Some, None}
 use Rattle.std.proofs.Math.Path.{refl, sym, ap}
-use Rattle.std.proofs.Common.{◌∙◌, append_assoc, append-nil, drop_of_length-le, drop-cons, drop-drop, take-suc, get_or-drop, le-leb, lt-ltb, le-ltb, eq-eqb, ne_eqb}
+use Rattle.std.proofs.Common.{◌∙◌, append_assoc, append-nil, drop_of_length-le, drop-cons, take-suc, get_or-drop, le-leb, lt-ltb, le-ltb, eq-eqb, ne_eqb}
 use Rattle.std.proofs.Math.Option.{Option, none, some}
 use native.Mathlib.Omega.{arith}
 use Rattle.std.proofs.Math.Numerals.{add-one}
 use Rattle.std.proofs.Math.ListN.{take, length-drop}
-use Rattle.std.proofs.lemmas.Bool.{lt-leb, not-true, not-false}
+use Rattle.std.proofs.lemmas.Bool.{lt-leb}
 use Rattle.basis.specs.Guard.{guard}
-use Rattle.basis.specs.Members.{split}
 use Rattle.tgf.specs.declared.Part.{Part}
 use Rattle.tgf.specs.declared.NodeLine.{NodeLine}
 use Rattle.tgf.specs.declared.EdgeLine.{EdgeLine}
-use Rattle.tgf.specs.Lines.{Label, WallEdge, in_label}
+use Rattle.tgf.specs.Lines.{Label, in_label}
 use Rattle.tgf.specs.Read.{is_digit, number_on, number_at, label_in, label_at, node_line_at, end_at, edge_at}
-use Rattle.tgf.specs.Steps.{rest, behind, number_out, label_out, node_out, edge_out}
+use Rattle.tgf.specs.Steps.{rest, number_out, label_out, node_out, edge_out}
 
-abbrev pub nothing : Part
-nothing = record { ok = false; value = 0; next = 0 }
+abbrev pub nothing : Maybe Part
+nothing = None
 
 rest_out : (text : List ℕ) (at : ℕ) → length text ≤ at → rest at text ≡ []
 unfolding rest
@@ -78,7 +78,7 @@ module _ (text : List ℕ) (at k n : ℕ) where
   on_out h = rw (rest_out text at h) (on_nil k n)
 
   module _ (c : ℕ) where
-    pub on_space : c ≡ 32 → at < length text → c ≡ get_or text at 0 → number_out text (record { ok = true; value = n; next = at + 1 })
+    pub on_space : c ≡ 32 → at < length text → c ≡ get_or text at 0 → number_out text (Some (record { value = n; next = at + 1 }))
         ≡ number_on k n (rest at text)
     unfolding number_out
     on_space e h q = rw (cell text at c q h, e) (on_end k n (rest (at + 1) text))
@@ -95,7 +95,7 @@ module _ (text : List ℕ) (at k n : ℕ) where
     unfolding number_out
     on_high l g h q e = rw (cell text at c q h) (sym (on_other_lem k n c (rest (at + 1) text) e ∙ off (is_digit c) none _ (digit_high c l g)))
 
-    pub on_digit : (w : ℕ) (r : Part) → 48 ≤ c → c ≤ 57 → w ≡ c → at < length text → c ≡ get_or text at 0 → (c ≡ 32 → ⊥)
+    pub on_digit : (w : ℕ) (r : Maybe Part) → 48 ≤ c → c ≤ 57 → w ≡ c → at < length text → c ≡ get_or text at 0 → (c ≡ 32 → ⊥)
         → number_out text r ≡ number_on k (10 * n + (w - 48)) (rest (at + 1) text)
         → number_out text r ≡ number_on (suc k) n (rest at text)
     on_digit w r l g y h q e i = rw (cell text at c q h) ((rw y at i) ∙ sym (on_other_lem k n c (rest (at + 1) text) e ∙ on (is_digit c) none _ (digit_yes c l g)))
@@ -114,11 +114,11 @@ module _ (text : List ℕ) (at : ℕ) where
     unfolding number_out
     at_high l g h q = rw (cell text at c q h) (sym (at_first c (rest (at + 1) text) ∙ off (is_digit c) none _ (digit_high c l g)))
 
-    pub at_zero : (r : Part) → c ≡ 48 → at < length text → c ≡ get_or text at 0 → number_out text r ≡ number_on 0 0 (rest (at + 1) text)
+    pub at_zero : (r : Maybe Part) → c ≡ 48 → at < length text → c ≡ get_or text at 0 → number_out text r ≡ number_on 0 0 (rest (at + 1) text)
         → number_out text r ≡ number_at (rest at text)
     at_zero r e h q i = rw (cell text at c q h, e) (i ∙ sym (at_first 48 (rest (at + 1) text) ∙ on (is_digit 48) none _ refl))
 
-    pub at_more : (w : ℕ) (r : Part) → 48 ≤ c → c ≤ 57 → w ≡ c → at < length text → c ≡ get_or text at 0 → (c ≡ 48 → ⊥)
+    pub at_more : (w : ℕ) (r : Maybe Part) → 48 ≤ c → c ≤ 57 → w ≡ c → at < length text → c ≡ get_or text at 0 → (c ≡ 48 → ⊥)
         → number_out text r ≡ number_on 2 (w - 48) (rest (at + 1) text)
         → number_out text r ≡ number_at (rest at text)
     at_more w r l g y h q e i =
@@ -133,7 +133,7 @@ module _ (text : List ℕ) (at n c : ℕ) where
   pub one_high : 48 ≤ c → 57 < c → at < length text → c ≡ get_or text at 0 → (c ≡ 32 → ⊥) → number_out text nothing ≡ number_on 1 n (rest at text)
   one_high l g h q e = on_high text at 0 n c l g h q e
 
-  pub one_digit : (w : ℕ) (r : Part) → 48 ≤ c → c ≤ 57 → w ≡ c → at < length text → c ≡ get_or text at 0 → (c ≡ 32 → ⊥)
+  pub one_digit : (w : ℕ) (r : Maybe Part) → 48 ≤ c → c ≤ 57 → w ≡ c → at < length text → c ≡ get_or text at 0 → (c ≡ 32 → ⊥)
       → number_out text r ≡ number_on 0 (10 * n + (w - 48)) (rest (at + 1) text) → number_out text r ≡ number_on 1 n (rest at text)
   one_digit w r l g y h q e i = on_digit text at 0 n c w r l g y h q e i
 
@@ -143,7 +143,7 @@ module _ (text : List ℕ) (at n c : ℕ) where
   pub two_high : 48 ≤ c → 57 < c → at < length text → c ≡ get_or text at 0 → (c ≡ 32 → ⊥) → number_out text nothing ≡ number_on 2 n (rest at text)
   two_high l g h q e = on_high text at 1 n c l g h q e
 
-  pub two_digit : (w : ℕ) (r : Part) → 48 ≤ c → c ≤ 57 → w ≡ c → at < length text → c ≡ get_or text at 0 → (c ≡ 32 → ⊥)
+  pub two_digit : (w : ℕ) (r : Maybe Part) → 48 ≤ c → c ≤ 57 → w ≡ c → at < length text → c ≡ get_or text at 0 → (c ≡ 32 → ⊥)
       → number_out text r ≡ number_on 1 (10 * n + (w - 48)) (rest (at + 1) text) → number_out text r ≡ number_on 2 n (rest at text)
   two_digit w r l g y h q e i = on_digit text at 1 n c w r l g y h q e i
 
@@ -213,7 +213,7 @@ module _ (text : List ℕ) (at : ℕ) where
       here h q o e = ap (begun (take n (rest at text))) (sym e ∙ ap (label_in (49 - n)) (sym (cell text (at + n) c q h))) ∙ inv
 
       pub left_end : c ≡ 10 → at + n < length text → c ≡ get_or text (at + n) 0
-          → label_out text at (record { ok = true; value = n; next = at + n + 1 }) ≡ label_in 49 (rest at text)
+          → label_out text at (Some (record { value = n; next = at + n + 1 })) ≡ label_in 49 (rest at text)
       unfolding label_out
       left_end e h q =
           ap (λ (l : Label). some (l, rest (at + n + 1) text)) (sym (append-nil (take n (rest at text))))
@@ -264,7 +264,7 @@ module _ (text : List ℕ) (at : ℕ) where
     unfolding label_out
     label_first_high l u h q = rw (cell text at c q h) (sym (first_is c (rest (at + 1) text) ∙ off (in_label c) none _ (label_high c l u)))
 
-    pub label_more : (r : Part) → 32 ≤ c → c ≤ 126 → at < length text → c ≡ get_or text at 0 → label_out text at r ≡ label_in 49 (rest at text)
+    pub label_more : (r : Maybe Part) → 32 ≤ c → c ≤ 126 → at < length text → c ≡ get_or text at 0 → label_out text at r ≡ label_in 49 (rest at text)
         → label_out text at r ≡ label_at (rest at text)
     label_more r l u h q i =
         i ∙ ap (label_in 49) (cell text at c q h) ∙ sym (ap label_at (cell text at c q h) ∙ first_is c (rest (at + 1) text)
@@ -274,13 +274,13 @@ pub ruleset lefts = (left_out, left_end, left_full, left_low, left_high)
 
 -- ---- lines, from the answers of the functions above
 
-number_some : (text : List ℕ) (p : Part) → not p.ok ≡ false → number_out text p ≡ some (p.value, rest p.next text)
+number_some : (text : List ℕ) (r : Maybe Part) (p : Part) → r ≡ Some p → number_out text r ≡ some (p.value, rest p.next text)
 unfolding number_out
-number_some text p t = rw (not-false p.ok t, number_out)
+number_some text r p t = rw t refl
 
-number_none : (text : List ℕ) (p : Part) → not p.ok ≡ true → number_out text p ≡ none
+number_none : (text : List ℕ) (r : Maybe Part) → r ≡ None → number_out text r ≡ none
 unfolding number_out
-number_none text p t = rw (not-true p.ok t, number_out)
+number_none text r t = rw t refl
 
 node_by : (i : ℕ) (s : List ℕ) (v : ℕ × List ℕ) → number_at s ≡ some v → node_line_at i s ≡ guard (eqb v.0 i) none (label_at v.1)
 unfolding node_line_at
@@ -299,45 +299,55 @@ unfolding end_at
 end_out m s q = rw (q, end_at)
 
 label_by : (a b : ℕ) (text : List ℕ) (at : ℕ) (l : Part)
-    → edge_out text (record { ok = l.ok; source = a; target = b; begin = at; size = l.value; next = l.next })
-    ≡ elim (label_out text at l) [ none ↦ none | some x ↦ some (record { source = a; target = b; label = x.0 }, x.1) ]
+    → edge_out text (Some (record { source = a; target = b; begin = at; size = l.value; next = l.next }))
+    ≡ elim (label_out text at (Some l)) [ none ↦ none | some x ↦ some (record { source = a; target = b; label = x.0 }, x.1) ]
 unfolding edge_out label_out
-label_by a b text at l = split l.ok (λ t. rw (t, edge_out, label_out)) (λ t. rw (t, edge_out, label_out))
+label_by a b text at l = refl
 
-abbrev pub no_node : NodeLine
-no_node = record { ok = false; begin = 0; size = 0; next = 0 }
+abbrev pub no_node : Maybe NodeLine
+no_node = None
 
-abbrev pub no_edge : EdgeLine
-no_edge = record { ok = false; source = 0; target = 0; begin = 0; size = 0; next = 0 }
+abbrev pub no_edge : Maybe EdgeLine
+no_edge = None
 
-module _ (text : List ℕ) (at : ℕ) (p : Part) where
-  module _ (q : number_out text p ≡ number_at (rest at text)) where
-    pub node_none : (i : ℕ) → not p.ok ≡ true → node_out text no_node ≡ node_line_at i (rest at text)
+module _ (text : List ℕ) (at : ℕ) (r : Maybe Part) where
+  module _ (q : number_out text r ≡ number_at (rest at text)) where
+    pub node_none : (i : ℕ) → r ≡ None → node_out text no_node ≡ node_line_at i (rest at text)
     unfolding node_out
-    node_none i t = sym (node_out_lem i (rest at text) (sym q ∙ number_none text p t))
+    node_none i t = sym (node_out_lem i (rest at text) (sym q ∙ number_none text r t))
 
-    pub node_other : (i : ℕ) → not p.ok ≡ false → (p.value ≡ i → ⊥) → node_out text no_node ≡ node_line_at i (rest at text)
-    unfolding node_out
-    node_other i t e = sym (node_by i (rest at text) _ (sym q ∙ number_some text p t) ∙ off (eqb p.value i) none _ (ne_eqb p.value i e))
-
-    pub node_here : (i : ℕ) (l : Part) → not p.ok ≡ false → p.value ≡ i → label_out text p.next l ≡ label_at (rest p.next text)
-        → node_out text (record { ok = l.ok; begin = p.next; size = l.value; next = l.next }) ≡ node_line_at i (rest at text)
-    unfolding node_out label_out
-    node_here i l t e k = k ∙ sym (node_by i (rest at text) _ (sym q ∙ number_some text p t) ∙ on (eqb p.value i) none _ (eq-eqb p.value i e))
-
-    pub end_none : (m : ℕ) → not p.ok ≡ true → number_out text nothing ≡ end_at m (rest at text)
+    pub end_none : (m : ℕ) → r ≡ None → number_out text nothing ≡ end_at m (rest at text)
     unfolding number_out
-    end_none m t = sym (end_out m (rest at text) (sym q ∙ number_none text p t))
+    end_none m t = sym (end_out m (rest at text) (sym q ∙ number_none text r t))
 
-    pub end_past : (m : ℕ) → not p.ok ≡ false → m ≤ p.value → number_out text nothing ≡ end_at m (rest at text)
-    unfolding number_out
-    end_past m t e = sym (end_by m (rest at text) _ (sym q ∙ number_some text p t) ∙ off (ltb p.value m) none _ (le-ltb p.value m e))
+    module _ (p : Part) (t : r ≡ Some p) where
+      pub node_other : (i : ℕ) → (p.value ≡ i → ⊥) → node_out text no_node ≡ node_line_at i (rest at text)
+      unfolding node_out
+      node_other i e = sym (node_by i (rest at text) _ (sym q ∙ number_some text r p t) ∙ off (eqb p.value i) none _ (ne_eqb p.value i e))
 
-    pub end_here : (m : ℕ) → not p.ok ≡ false → p.value < m → number_out text p ≡ end_at m (rest at text)
-    end_here m t e =
-        number_some text p t ∙ sym (end_by m (rest at text) _ (sym q ∙ number_some text p t) ∙ on (ltb p.value m) none _ (lt-ltb p.value m e))
+      node_label : (i : ℕ) → p.value ≡ i → node_line_at i (rest at text) ≡ label_at (rest p.next text)
+      node_label i e = node_by i (rest at text) _ (sym q ∙ number_some text r p t) ∙ on (eqb p.value i) none _ (eq-eqb p.value i e)
 
-  module _ (m : ℕ) (q : number_out text p ≡ end_at m (rest at text)) where
+      pub node_bare : (i : ℕ) (s : Maybe Part) → p.value ≡ i → label_out text p.next s ≡ label_at (rest p.next text) → s ≡ None
+          → node_out text no_node ≡ node_line_at i (rest at text)
+      unfolding node_out label_out
+      node_bare i s e k u = (rw u at k) ∙ sym (node_label i e)
+
+      pub node_here : (i : ℕ) (s : Maybe Part) (l : Part) → p.value ≡ i → label_out text p.next s ≡ label_at (rest p.next text) → s ≡ Some l
+          → node_out text (Some (record { begin = p.next; size = l.value; next = l.next })) ≡ node_line_at i (rest at text)
+      unfolding node_out label_out
+      node_here i s l e k u = (rw u at k) ∙ sym (node_label i e)
+
+      pub end_past : (m : ℕ) → m ≤ p.value → number_out text nothing ≡ end_at m (rest at text)
+      unfolding number_out
+      end_past m e = sym (end_by m (rest at text) _ (sym q ∙ number_some text r p t) ∙ off (ltb p.value m) none _ (le-ltb p.value m e))
+
+      pub end_here : (m : ℕ) → p.value < m → number_out text (Some p) ≡ end_at m (rest at text)
+      end_here m e =
+          number_some text (Some p) p refl
+          ∙ sym (end_by m (rest at text) _ (sym q ∙ number_some text r p t) ∙ on (ltb p.value m) none _ (lt-ltb p.value m e))
+
+  module _ (m : ℕ) (q : number_out text r ≡ end_at m (rest at text)) where
     edge_none' : (s : List ℕ) → end_at m s ≡ none → edge_at m s ≡ none
     unfolding edge_at
     edge_none' s e = rw (e, edge_at)
@@ -351,19 +361,27 @@ module _ (text : List ℕ) (at : ℕ) (p : Part) where
     unfolding edge_at
     edge_two' s v w e f = rw (e, edge_at, f)
 
-    pub edge_none : not p.ok ≡ true → edge_out text no_edge ≡ edge_at m (rest at text)
+    pub edge_none : r ≡ None → edge_out text no_edge ≡ edge_at m (rest at text)
     unfolding edge_out
-    edge_none t = sym (edge_none' (rest at text) (sym q ∙ number_none text p t))
+    edge_none t = sym (edge_none' (rest at text) (sym q ∙ number_none text r t))
 
-    pub edge_half : (r : Part) → not p.ok ≡ false → number_out text r ≡ end_at m (rest p.next text) → not r.ok ≡ true
-        → edge_out text no_edge ≡ edge_at m (rest at text)
-    unfolding edge_out
-    edge_half r t k u = sym (edge_one' (rest at text) _ (sym q ∙ number_some text p t) (sym k ∙ number_none text r u))
+    module _ (p : Part) (t : r ≡ Some p) (r2 : Maybe Part) (k : number_out text r2 ≡ end_at m (rest p.next text)) where
+      pub edge_half : r2 ≡ None → edge_out text no_edge ≡ edge_at m (rest at text)
+      unfolding edge_out
+      edge_half u = sym (edge_one' (rest at text) _ (sym q ∙ number_some text r p t) (sym k ∙ number_none text r2 u))
 
-    pub edge_here : (r l : Part) → not p.ok ≡ false → number_out text r ≡ end_at m (rest p.next text) → not r.ok ≡ false
-        → label_out text r.next l ≡ label_at (rest r.next text)
-        → edge_out text (record { ok = l.ok; source = p.value; target = r.value; begin = r.next; size = l.value; next = l.next }) ≡ edge_at m (rest at text)
-    edge_here r l t k u j =
-        label_by p.value r.value text r.next l
-        ∙ ap (λ (o : Option (Label × List ℕ)). elim o [ none ↦ none | some x ↦ some (record { source = p.value; target = r.value; label = x.0 }, x.1) ]) j
-        ∙ sym (edge_two' (rest at text) _ _ (sym q ∙ number_some text p t) (sym k ∙ number_some text r u))
+      module _ (p2 : Part) (u : r2 ≡ Some p2) (s : Maybe Part) (j : label_out text p2.next s ≡ label_at (rest p2.next text)) where
+        edge_label : edge_at m (rest at text)
+            ≡ elim (label_out text p2.next s) [ none ↦ none | some x ↦ some (record { source = p.value; target = p2.value; label = x.0 }, x.1) ]
+        edge_label =
+            edge_two' (rest at text) _ _ (sym q ∙ number_some text r p t) (sym k ∙ number_some text r2 p2 u)
+            ∙ ap (λ (o : Option (Label × List ℕ)). elim o [ none ↦ none | some x ↦ some (record { source = p.value; target = p2.value; label = x.0 }, x.1) ]) (sym j)
+
+        pub edge_bare : s ≡ None → edge_out text no_edge ≡ edge_at m (rest at text)
+        unfolding edge_out label_out
+        edge_bare v = sym (rw v at edge_label)
+
+        pub edge_here : (l : Part) → s ≡ Some l
+            → edge_out text (Some (record { source = p.value; target = p2.value; begin = p2.next; size = l.value; next = l.next }))
+            ≡ edge_at m (rest at text)
+        edge_here l v = label_by p.value p2.value text p2.next l ∙ sym (rw v at edge_label)

@@ -1,13 +1,13 @@
 -- "a reader that takes such a text back to nodes, edges and label texts": what was exported whole is read as the graph's own.
-use Rattle.std.specs.Prelude.{◌≡◌, refl, Bool, true, false, cond, List, [], ◌∷◌, ◌++◌, map, ℕ, ◌≤◌, length, leb}
-use Rattle.std.proofs.Common.{sym, ap, ◌∙◌, arith}
+use Rattle.std.specs.Prelude.{◌≡◌, refl, List, [], ◌∷◌, ◌++◌, map, ℕ, length, leb}
+use Rattle.std.proofs.Common.{ap, ◌∙◌, arith}
 use Rattle.basis.specs.Members.{split}
 use Rattle.records.specs.Tables.{Tables}
 use Rattle.index.specs.Promise.{Valid}
 use Rattle.store.specs.Graph.{Graph}
 use Rattle.graph.specs.Graphs.{drawn, graph_of}
-use Rattle.shape.specs.Graphed.{Graphed, graphed}
-use Rattle.machine.specs.Units.{TextUnit, Result, text_of, written, fitting, fit}
+use Rattle.shape.specs.Graphed.{graphed}
+use Rattle.machine.specs.Units.{text_of}
 use Rattle.drawing.specs.Graphviz.{unit_of, fit_units}
 use Rattle.tgf.specs.Lines as L
 use Rattle.tgf.specs.Read.{good, read_text}

@@ -1,10 +1,10 @@
 -- The labels of a drawn graph: "labels of 1 to 49 bytes from 32 to 126".
-use Rattle.std.specs.Prelude.{◌≡◌, Bool, true, false, List, [], ◌∷◌, ◌++◌, map, ltb}
+use Rattle.std.specs.Prelude.{◌≡◌, true, List, [], ◌∷◌, ◌++◌, map, ltb}
 use Rattle.std.proofs.Math.Path.{refl, ap}
-use Rattle.std.proofs.Common.{sym, ◌∙◌, arith, ltb-true, ltb-false}
+use Rattle.std.proofs.Common.{arith, ltb-true, ltb-false}
 use Rattle.std.proofs.lemmas.Bool.{false≢true}
-use Rattle.std.proofs.Math.Option.{Option, none, some}
-use Prim.Native.Nat.{ℕ, zero, suc, ◌+◌, ◌≤◌, ◌<◌}
+use Rattle.std.proofs.Math.Option.{some}
+use Prim.Native.Nat.{ℕ, suc, ◌+◌, ◌≤◌, ◌<◌}
 use Rattle.std.proofs.Math.ListN.{length, length-append, length-map, get_or-eq_default}
 use Rattle.basis.specs.Lists.{all}
 use Rattle.basis.specs.Members.{split, clash, All}
@@ -26,10 +26,10 @@ use Rattle.store.specs.declared.ConflictEdge.{ConflictEdge}
 use Rattle.store.specs.declared.ConflictEdge.TheVariants as W
 use Rattle.store.specs.declared.Edge as Stored
 use Rattle.store.specs.Graph.{Graph}
-use Rattle.shape.specs.Shaped.{Known, Runs}
+use Rattle.shape.specs.Shaped.{Runs}
 use Rattle.shape.specs.Graphed.{Graphed}
 use Rattle.wall.specs.Captions.{solvable_caption, excluded_caption, node_caption, edge_caption}
-use Rattle.tgf.specs.Lines.{Label, WallEdge, in_label, LabelGood, EdgeGood, TextGood}
+use Rattle.tgf.specs.Lines.{in_label, LabelGood, EdgeGood, TextGood}
 use Rattle.wall.specs.Export.{wall_edge, labels_of, edges_of}
 use Rattle.wall.specs.Laws.Weights.{Said, Says}
 

@@ -7,10 +7,9 @@ use native.Mathlib.Omega.{arith}
 use Rattle.std.proofs.Math.ListN.{length-map, get_or-map}
 use Rattle.records.specs.Tables.{Tables}
 use Rattle.store.specs.declared.Size.{Size}
-use Rattle.store.specs.declared.ConflictNode.{ConflictNode}
 use Rattle.store.specs.declared.ConflictNode.TheVariants as N
 use Rattle.store.specs.declared.Edge as Stored
-use Rattle.store.specs.Graph.{Graph, node_at}
+use Rattle.store.specs.Graph.{Graph}
 use Rattle.store.specs.Table.{graph_in, node_in, edge_in, Stored, nodes_count, edges_count, node_in_lem, edge_in_lem, no_edge}
 use Rattle.drawing.specs.declared.PenAnswer.{PenAnswer}
 use Rattle.drawing.specs.Pen.{Fine, Adds, PenLeft, left_start, left_next, left_end, left_stop}

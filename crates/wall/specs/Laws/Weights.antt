@@ -1,13 +1,13 @@
 -- The requirement or version set that an edge of a drawn graph names is in its table.
-use Rattle.std.specs.Prelude.{◌≡◌, Bool, true, false, length, get_or, ltb}
+use Rattle.std.specs.Prelude.{◌≡◌, Bool, true, false, length, get_or, ltb, Option, Some, None}
 use Rattle.std.proofs.Math.Path.{refl}
 use Rattle.std.proofs.Common.{sym, ap, ◌∙◌, ltb-true, ltb-false, eqb-true}
 use mathlib.Core.List.{List, [], ◌∷◌, ◌++◌, map}
-use Rattle.std.proofs.Math.Option.{Option, none, some}
+use Rattle.std.proofs.Math.Option.{Option as Maybe, none, some}
 use Prim.Native.Nat.{ℕ, zero, suc, ◌<◌, ◌-◌}
 use Rattle.std.proofs.Math.Dec.{eqb}
 use Rattle.std.proofs.Math.ListN.{get_or-eq_default}
-use Rattle.basis.specs.Lists.{any, place, snoc, concat_map}
+use Rattle.basis.specs.Lists.{any, place, concat_map}
 use Rattle.basis.specs.Members.{split, clash, All, all_append}
 use Rattle.records.specs.declared.Clause.{Clause}
 use Rattle.records.specs.declared.Clause.TheVariants as C
@@ -26,15 +26,13 @@ use Rattle.store.specs.declared.ConflictEdge.TheVariants as W
 use Rattle.store.specs.declared.Edge.{Edge}
 use Rattle.store.specs.Graph.{Graph, handing, Added, added, full, same_node, with_node, with_edge, add_node, add_edge, add_link, renumber_edge, settle, unreached}
 use Rattle.expansion.specs.Triple.{Triple, triple, same_triple}
-use Rattle.linking.specs.declared.Party.{Party}
-use Rattle.linking.specs.declared.Party.TheVariants.{Node, Neither}
 use Rattle.linking.specs.Links.{party_of, nodes_named, solvable_in, name_forbidden, requirers, Link, link, Linked, more, short, link_all, require_link, require_links}
 use Rattle.linking.specs.Links.{requires_of, excluded_links, lock_links, constrains_links, previous_links, forbid_all}
 use Rattle.expansion.specs.declared.Side.{Side}
 use Rattle.expansion.specs.declared.Side.TheVariants.{Parent, Candidate}
 use Rattle.expansion.specs.Expand.{Build, ClauseStep, on, stop, start_build, kept_beside, noted, once, once_all, triple_by, triples_of, others, pair, pair_all}
 use Rattle.expansion.specs.Expand.{lastly, forbid, forbid_in, expand}
-use Rattle.graph.specs.Graphs.{is_learnt, Turned, go, halt, expanded, core_turn, handed, turn_at, Built, built, stopped, build_from, build_of, Outcome, drawn}
+use Rattle.graph.specs.Graphs.{is_learnt, Turned, go, halt, expanded, core_turn, handed, turn_at, Built, built, stopped, build_from, build_of, drawn}
 use Rattle.graph.specs.Graphs.{refused, reached_all, graph_of}
 
 abbrev pub Said : Tables → ConflictEdge → Type 0
@@ -53,7 +51,7 @@ node_said : (T : Tables) (g h : Graph) (x : ConflictNode) (i : ℕ) → Says T g
 unfolding add_node
 node_said T g h x i P e = by (place (same_node x) g.nodes 0) refl
   where
-    by : (o : Option ℕ) → place (same_node x) g.nodes 0 ≡ o → Says T h.edges
+    by : (o : Maybe ℕ) → place (same_node x) g.nodes 0 ≡ o → Says T h.edges
     by (some j) q = let z : added j g ≡ added i h = rw (q, add_node) at e in let y : g ≡ h = cc in rw (← y) P
     by none q =
         split (ltb (length g.nodes) 128)
@@ -183,11 +181,11 @@ module _ (T : Tables) where
   triple_said Parent n v m h = h
   triple_said Candidate n v m h = h
 
-  pair_by : (side : Side) (b v : ℕ) (r : Party) → v < length T.version_sets → (c d : Build) → Says T c.graph.edges → pair_all T side b v r c ≡ on d
+  pair_by : (side : Side) (b v : ℕ) (r : Option ConflictNode) → v < length T.version_sets → (c d : Build) → Says T c.graph.edges → pair_all T side b v r c ≡ on d
       → Says T d.graph.edges
   unfolding triples_of
-  pair_by side b v Neither h c d P e = let z : c ≡ d = cc in rw (← z) P
-  pair_by side b v (Node n) h c d P e =
+  pair_by side b v None h c d P e = let z : c ≡ d = cc in rw (← z) P
+  pair_by side b v (Some n) h c d P e =
       onces_said T (triples_of side n v (others T side b)) c d (all_of (SaidTriple T) (triple_by side n v) (others T side b) (λ m. triple_said side n v m h)) P e
 
   pair_said : (side : Side) (a b v : ℕ) → v < length T.version_sets → (c d : Build) → Says T c.graph.edges → pair T side a b v c ≡ on d
@@ -195,11 +193,11 @@ module _ (T : Tables) where
   unfolding pair
   pair_said side a b v h c d P e = pair_by side b v (party_of T a) h c d P e
 
-  previous_said : (l : Option ℕ) (s : ℕ) → All (SaidLink T) (previous_links l s)
+  previous_said : (l : Maybe ℕ) (s : ℕ) → All (SaidLink T) (previous_links l s)
   previous_said none s = tt
   previous_said (some p) s = (tt, tt)
 
-  forbid_graph : (g h : Graph) (l : Option ℕ) (s : ℕ) → Says T g.edges → forbid_all g l s ≡ more h → Says T h.edges
+  forbid_graph : (g h : Graph) (l : Maybe ℕ) (s : ℕ) → Says T g.edges → forbid_all g l s ≡ more h → Says T h.edges
   unfolding forbid_all
   forbid_graph g h l s P e = by (add_node g (N.Solvable s)) refl
     where
@@ -346,7 +344,7 @@ module _ (T : Tables) (valid : Valid T) where
   unfolding graph_of reached_all
   drawn_said G e = by (build_of T) refl
     where
-      end : (b : Build) → build_of T ≡ built b → (o : Option ℕ) → unreached (settle b.graph) ≡ o → Says T G.edges
+      end : (b : Build) → build_of T ≡ built b → (o : Maybe ℕ) → unreached (settle b.graph) ≡ o → Says T G.edges
       end b q none u =
           let z : drawn (settle b.graph) ≡ drawn G = rw (q, graph_of, u, reached_all) at e in
           let y : settle b.graph ≡ G = cc in

@@ -1,5 +1,5 @@
 -- A line's bytes and its length, by the ways through the code that writes it.
-use Rattle.std.specs.Prelude.{◌≡◌, refl, List, [], ◌∷◌, ◌++◌, ℕ, ◌+◌, ◌*◌, ◌-◌, ◌/◌, ◌%◌, ◌≤◌, ◌<◌, length, take, drop, ltb}
+use Rattle.std.specs.Prelude.{◌≡◌, refl, List, [], ◌∷◌, ◌++◌, ℕ, ◌+◌, ◌-◌, ◌/◌, ◌%◌, ◌≤◌, ◌<◌, length, take, drop}
 use Rattle.std.proofs.Common.{sym, ap, ◌∙◌, append_assoc, arith, length-append}
 use borrow.Author.Tests.{lt-ltb, le-ltb}
 use borrow.Rule.Slice.PartMut.{put_mid}
@@ -14,7 +14,7 @@ use Rattle.drawing.specs.declared.PenAnswer.{PenAnswer}
 use Rattle.drawing.specs.Pen.{Fine, Adds, adds_one, adds_full}
 use Rattle.wall.specs.Captions.{node_caption, edge_caption}
 use Rattle.tgf.specs.Lines.{decimal, digit, node_line, edge_line, hash_line}
-use Rattle.wall.specs.Export.{node_text, edge_text, wall_edge}
+use Rattle.wall.specs.Export.{node_text, edge_text}
 use Rattle.wall.specs.ExportSteps.{node_size, edge_size}
 
 -- ---- numbers

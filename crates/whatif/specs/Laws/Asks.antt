@@ -1,5 +1,5 @@
 -- The ways through the code of `ask`.
-use Rattle.std.specs.Prelude.{◌≡◌, refl, Bool, true, false, List, ℕ, ◌+◌, ◌%◌, ◌≤◌, ◌<◌, length, ltb, leb}
+use Rattle.std.specs.Prelude.{◌≡◌, refl, Bool, true, false, List, ℕ, ◌+◌, ◌%◌, ◌≤◌, ◌<◌, length, ltb, leb, Ok, Err}
 use Rattle.std.proofs.Common.{sym, ◌∙◌, subst, arith, leb-true, ltb-true}
 use Rattle.std.proofs.Math.Path.{ap}
 use Rattle.std.proofs.Math.Option.{none}
@@ -21,18 +21,15 @@ use Rattle.labels.specs.Marks.{label_bits}
 use Rattle.labels.specs.Ordered.{Acyclic}
 use Rattle.cycles.specs.Cycles.{cycle_of}
 use Rattle.cycles.specs.Laws.Found.{none_free}
-use Rattle.graph.specs.declared.Made.{Made}
-use Rattle.graph.specs.declared.Made.TheVariants as M
+use Rattle.graph.specs.Files.{Made}
 use Rattle.graph.specs.Graphs.{Outcome, drawn, refused, graph_of}
-use Rattle.whatif.specs.declared.tests.Test.{Test}
-use Rattle.whatif.specs.declared.tests.Test.TheVariants as Q
 use Rattle.whatif.specs.Asked.{nodes_with, asked, gone_count, fits_graph, question_of}
 use Rattle.whatif.specs.Relabel.{relabel}
 use Rattle.whatif.specs.Asks.{Leaves, Asks}
 use Rattle.whatif.specs.Laws.Alike.{number_in}
 use Rattle.whatif.specs.Laws.Laid.{GraphLaid, drawn_laid, laid_sound}
 use Rattle.whatif.specs.Laws.Relabelled.{relabelled_anew}
-use Rattle.whatif.specs.Laws.Tests.{test_of, Passed, passes, denies, is_in_lem}
+use Rattle.whatif.specs.Laws.Tests.{Test, refusal_at, pass_at, test_of, Passed, passes, denies, is_in_lem}
 use Rattle.whatif.specs.Laws.Exclusion.{asked_from, asked_from_lem}
 
 -- there is room for the exclusion of node a
@@ -88,11 +85,11 @@ module _ (file ix g : List ℕ) (z : Size) (ls : List ℕ) (s r : ℕ) (x : Test
   v : Valid (tables_of file)
   v = loaded_valid file ix L
 
-  pub asks_refused : (m₀ : List ℕ) (y : Made) (k p : ℕ) → x ≡ Q.Refused k p → y ≡ M.Refused k p
+  pub asks_refused : (m₀ : List ℕ) (y : Made) (k p : ℕ) → x ≡ refusal_at k p → y ≡ Err (record { number = k; place = p })
       → Asks (question_of (tables_of file) (graph_in g z) s r) g ls m₀ g ls m₀ y
   asks_refused m₀ y k p e f = rw f (record { leaves = (denies T G s r k p (sym q ∙ e), refl, refl, refl) })
 
-  module _ (a n : ℕ) (e : x ≡ Q.Passed a n) where
+  module _ (a n : ℕ) (e : x ≡ pass_at a n) where
     P : Passed T G s r a n
     P = passes T G s r a n (sym q ∙ e)
 
@@ -122,7 +119,7 @@ module _ (file ix g : List ℕ) (z : Size) (ls : List ℕ) (s r : ℕ) (x : Test
         })
 
     -- t is the size that adding the exclusion gave
-    pub asks_whole : (m₀ h w ms : List ℕ) (t : Size) (y : Made) → After (graph_in g z) n a (r % 65536) ls h w ms t → y ≡ M.Whole t
+    pub asks_whole : (m₀ h w ms : List ℕ) (t : Size) (y : Made) → After (graph_in g z) n a (r % 65536) ls h w ms t → y ≡ Ok t
         → Asks (question_of (tables_of file) (graph_in g z) s r) g ls m₀ h w ms y
     unfolding asked
     asks_whole m₀ h w ms t y A f =

@@ -1,18 +1,17 @@
 -- What the answer of `ask` tells its callers.
-use Rattle.std.specs.Prelude.{◌≡◌, refl, List, ℕ}
+use Rattle.std.specs.Prelude.{◌≡◌, refl, List, ℕ, Ok, Err}
 use Rattle.std.proofs.Common.{sym, ap, ◌∙◌}
 use Rattle.store.specs.declared.Size.{Size}
 use Rattle.store.specs.Table.{graph_in}
 use Rattle.links.specs.Build.{Chains}
 use Rattle.labels.specs.Marks.{label_bits}
-use Rattle.graph.specs.declared.Made.{Made}
-use Rattle.graph.specs.declared.Made.TheVariants as M
+use Rattle.graph.specs.Files.{Made}
 use Rattle.graph.specs.Graphs.{Outcome, drawn, refused}
 use Rattle.whatif.specs.Asks.{Leaves, Asks}
 
 module _ (X : Outcome) (g₀ w₀ m₀ g w ms : List ℕ) (m : Made) (A : Asks X g₀ w₀ m₀ g w ms m) where
-  module _ (s : Size) (e : m ≡ M.Whole s) where
-    whole : Leaves X g₀ w₀ m₀ g w ms (M.Whole s)
+  module _ (s : Size) (e : m ≡ Ok s) where
+    whole : Leaves X g₀ w₀ m₀ g w ms (Ok s)
     whole = rw e at A.leaves
 
     pub asks_drawn : X ≡ drawn (graph_in g s)
@@ -24,5 +23,5 @@ module _ (X : Outcome) (g₀ w₀ m₀ g w ms : List ℕ) (m : Made) (A : Asks X
     pub asks_marks : ms ≡ label_bits (graph_in g s)
     asks_marks = whole.3
 
-  pub asks_denied : (k p : ℕ) → m ≡ M.Refused k p → X ≡ refused k p
+  pub asks_denied : (k p : ℕ) → m ≡ Err (record { number = k; place = p }) → X ≡ refused k p
   asks_denied k p e = (rw e at A.leaves).0

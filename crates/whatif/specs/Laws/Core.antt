@@ -1,10 +1,10 @@
 -- The core with one more Excluded clause at its end, as tables: the graph that the rules build for it is the file's, with one link more.
-use Rattle.std.specs.Prelude.{◌≡◌, ◌⊎◌, Bool, cond, ◌&&◌, get_or, ltb}
+use Rattle.std.specs.Prelude.{◌≡◌, ◌⊎◌, Bool, cond, ◌&&◌, get_or, ltb, Option, Some, None}
 use Rattle.std.proofs.Math.Path.{refl, ap}
 use Rattle.std.proofs.Common.{sym, ◌∙◌, subst, inl, inr, length-append}
 use Rattle.std.proofs.Math.Bool.{true, false}
 use mathlib.Core.List.{List, [], ◌∷◌, ◌++◌, map}
-use Rattle.std.proofs.Math.Option.{Option, none, some}
+use Rattle.std.proofs.Math.Option.{Option as Maybe, none, some}
 use Prim.Native.Nat.{ℕ, zero, suc, ◌+◌, ◌<◌, ◌≤◌}
 use native.Mathlib.Omega.{arith}
 use Rattle.std.proofs.Math.ListN.{length, get_or-append, get_or-eq_default}
@@ -31,8 +31,6 @@ use Rattle.store.specs.declared.ConflictNode.TheVariants as N
 use Rattle.store.specs.declared.ConflictCause.TheVariants as K
 use Rattle.store.specs.declared.ConflictEdge.TheVariants as W
 use Rattle.store.specs.Graph.{Graph, handing, Added, added, full, add_link}
-use Rattle.linking.specs.declared.Party.{Party}
-use Rattle.linking.specs.declared.Party.TheVariants.{Node, Neither}
 use Rattle.linking.specs.Links.{party_by, party_of, as_list, nodes_named, solvable_in, name_forbidden, any_of_in, parent_in, excluded_in, gate_reason, parent_reason}
 use Rattle.linking.specs.Links.{excluded_reason, partners_or, requirers, requirers_by, Link, link, Linked, more, short, link_all, require_links, requires_of}
 use Rattle.linking.specs.Links.{excluded_links, lock_links, constrains_links, forbid_all}
@@ -228,7 +226,7 @@ module _ (T U : Tables) (valid : Valid T) (s r : ℕ) (E : Extended T U s r) whe
   nodes_same [] h = refl
   nodes_same (v ∷ vs) h = rw (party_same v h.0, nodes_same vs h.1)
 
-  partners_same : (us vs : List ℕ) (p q : Party) → us ≡ vs → All (Named T valid) vs → p ≡ q → partners_or U us p ≡ partners_or T vs q
+  partners_same : (us vs : List ℕ) (p q : Option ConflictNode) → us ≡ vs → All (Named T valid) vs → p ≡ q → partners_or U us p ≡ partners_or T vs q
   unfolding partners_or
   partners_same us vs p q e h z = rw (e, z, nodes_same vs h)
 
@@ -270,8 +268,8 @@ module _ (T U : Tables) (valid : Valid T) (s r : ℕ) (E : Extended T U s r) whe
   excluded_of (C.ConstrainsExcluded a b c) h = party_same a h.0
   excluded_of (C.AnyOf a b) h = refl
 
-  module _ (f : Tables → Clause → Party) (same : (c : Clause) → All (Named T valid) (vars_of c) → f U c ≡ f T c) (learnt : (Z : Tables)
-      → f Z C.Learnt ≡ Neither) (excluded : (Z : Tables) (a b : ℕ) → f Z (C.Excluded a b) ≡ Neither) where
+  module _ (f : Tables → Clause → Option ConflictNode) (same : (c : Clause) → All (Named T valid) (vars_of c) → f U c ≡ f T c) (learnt : (Z : Tables)
+      → f Z C.Learnt ≡ None) (excluded : (Z : Tables) (a b : ℕ) → f Z (C.Excluded a b) ≡ None) where
     clause_party : (i : ℕ) → f U (clause_of U i) ≡ f T (clause_of T i)
     clause_party i =
         split (ltb i (length T.clauses))
@@ -291,7 +289,7 @@ module _ (T U : Tables) (valid : Valid T) (s r : ℕ) (E : Extended T U s r) whe
   unfolding gate_reason
   gate_reason_lem v = by (assigned_by T v) refl
     where
-      by : (o : Option ℕ) → assigned_by T v ≡ o → gate_reason U v ≡ gate_reason T v
+      by : (o : Maybe ℕ) → assigned_by T v ≡ o → gate_reason U v ≡ gate_reason T v
       by none q = let p : assigned_by U v ≡ none = assigned_same v ∙ q in rw (p, q, gate_reason)
       by (some i) q = let p : assigned_by U v ≡ some i = assigned_same v ∙ q in rw (p, q, gate_reason) (clause_party any_of_in any_of (λ Z. refl) (λ Z a b. refl) i)
 
@@ -299,7 +297,7 @@ module _ (T U : Tables) (valid : Valid T) (s r : ℕ) (E : Extended T U s r) whe
   unfolding parent_reason
   parent_reason_lem v = by (assigned_by T v) refl
     where
-      by : (o : Option ℕ) → assigned_by T v ≡ o → parent_reason U v ≡ parent_reason T v
+      by : (o : Maybe ℕ) → assigned_by T v ≡ o → parent_reason U v ≡ parent_reason T v
       by none q = let p : assigned_by U v ≡ none = assigned_same v ∙ q in rw (p, q, parent_reason)
       by (some i) q =
           let p : assigned_by U v ≡ some i = assigned_same v ∙ q in rw (p, q, parent_reason) (clause_party parent_in parent_of (λ Z. refl) (λ Z a b. refl) i)
@@ -308,7 +306,7 @@ module _ (T U : Tables) (valid : Valid T) (s r : ℕ) (E : Extended T U s r) whe
   unfolding excluded_reason
   excluded_reason_lem v = by (assigned_by T v) refl
     where
-      by : (o : Option ℕ) → assigned_by T v ≡ o → excluded_reason U v ≡ excluded_reason T v
+      by : (o : Maybe ℕ) → assigned_by T v ≡ o → excluded_reason U v ≡ excluded_reason T v
       by none q = let p : assigned_by U v ≡ none = assigned_same v ∙ q in rw (p, q, excluded_reason)
       by (some i) q =
           let p : assigned_by U v ≡ some i = assigned_same v ∙ q in rw (p, q, excluded_reason) (clause_party excluded_in excluded_of (λ Z. refl) (λ Z a b. refl) i)
@@ -357,9 +355,9 @@ module _ (T U : Tables) (valid : Valid T) (s r : ℕ) (E : Extended T U s r) whe
       partners_same (aux_partners U 23 v) (aux_partners T 23 v) (parent_reason U v) (parent_reason T v) (aux_same 23 v refl)
       (aux_named 23 A.SolvableOrRoot A.Auxiliary slots_23 v) (parent_reason_lem v)
 
-  pair_by : (side : Side) (b v : ℕ) (p : Party) (d : Build) → pair_all U side b v p d ≡ pair_all T side b v p d
-  pair_by side b v Neither d = refl
-  pair_by side b v (Node n) d = rw (others_same side b)
+  pair_by : (side : Side) (b v : ℕ) (p : Option ConflictNode) (d : Build) → pair_all U side b v p d ≡ pair_all T side b v p d
+  pair_by side b v None d = refl
+  pair_by side b v (Some n) d = rw (others_same side b)
 
   pair_same : (side : Side) (x b v : ℕ) (d : Build) → x < length T.variables → pair U side x b v d ≡ pair T side x b v d
   unfolding pair

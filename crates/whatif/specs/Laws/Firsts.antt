@@ -1,9 +1,9 @@
 -- Every node has the clause that first added it, while the graph grows and after; and by what a node stands for, that clause is the same in
 -- the graph asked for and in the rebuilt one.
-use Rattle.std.specs.Prelude.{◌≡◌, ◌⊎◌, true, false, List, [], ◌∷◌, ◌++◌, length, get_or, drop, ltb}
+use Rattle.std.specs.Prelude.{◌≡◌, ◌⊎◌, true, false, List, [], ◌∷◌, ◌++◌, length, get_or, drop, ltb, Option, Some, None}
 use Rattle.std.proofs.Math.Path.{refl}
 use Rattle.std.proofs.Common.{sym, ap, ◌∙◌, subst, inl, inr, arith, length-append}
-use Rattle.std.proofs.Math.Option.{Option, none, some}
+use Rattle.std.proofs.Math.Option.{Option as Maybe, none, some}
 use Prim.Native.Nat.{ℕ, zero, suc, ◌+◌, ◌<◌, ◌≤◌}
 use Rattle.basis.specs.Lists.{any, place, snoc}
 use Rattle.basis.specs.Members.{In, Distinct, split, either, clash, no_both, any_in, any_some}
@@ -20,8 +20,6 @@ use Rattle.store.specs.declared.Edge.{Edge}
 use Rattle.store.specs.Graph.{Graph, Added, added, full, same_node, add_node, add_edge, add_link, node_at, first_at, last_one, front, settle}
 use Rattle.store.specs.Words.{same_true, same_refl}
 use Rattle.expansion.specs.Triple.{Triple, same_triple}
-use Rattle.linking.specs.declared.Party.{Party}
-use Rattle.linking.specs.declared.Party.TheVariants.{Node, Neither}
 use Rattle.linking.specs.Links.{party_of, solvable_in, name_forbidden, requirers, Link, Linked, more, short, link_all, requires_of, excluded_links, lock_links}
 use Rattle.linking.specs.Links.{constrains_links, previous_links, forbid_all}
 use Rattle.expansion.specs.declared.Side.{Side}
@@ -67,7 +65,7 @@ node_matched : (g : Graph) (x : ConflictNode) → Matched g → AddedMatched (ad
 unfolding add_node
 node_matched g x m = by (place (same_node x) g.nodes 0) refl
   where
-    by : (o : Option ℕ) → place (same_node x) g.nodes 0 ≡ o → AddedMatched (add_node g x)
+    by : (o : Maybe ℕ) → place (same_node x) g.nodes 0 ≡ o → AddedMatched (add_node g x)
     by (some i) q = rw (q, add_node) m
     by none q =
         split (ltb (length g.nodes) 128)
@@ -135,7 +133,7 @@ unfolding once_all
 onces_matched [] b m = m
 onces_matched (t ∷ ts) b m = once_step t ts b (λ c u. onces_matched ts c u) m (once b t) refl
 
-forbid_matched : (g : Graph) (p : Option ℕ) (s : ℕ) → Matched g → LinkedMatched (forbid_all g p s)
+forbid_matched : (g : Graph) (p : Maybe ℕ) (s : ℕ) → Matched g → LinkedMatched (forbid_all g p s)
 unfolding forbid_all
 forbid_matched g p s m = by (add_node g (N.Solvable s)) refl
   where
@@ -150,9 +148,9 @@ forbids_matched b (s ∷ ss) (n ∷ ns) m =
     lastly_matched b n s (forbid_all b.graph (get_or b.last n none) s) (forbid_matched b.graph (get_or b.last n none) s m)
 
 module _ (T : Tables) where
-  pairs_matched : (side : Side) (b v : ℕ) (p : Party) (d : Build) → Matched d.graph → StepMatched (pair_all T side b v p d)
-  pairs_matched side b v Neither d m = m
-  pairs_matched side b v (Node n) d m = onces_matched (triples_of side n v (others T side b)) d m
+  pairs_matched : (side : Side) (b v : ℕ) (p : Option ConflictNode) (d : Build) → Matched d.graph → StepMatched (pair_all T side b v p d)
+  pairs_matched side b v None d m = m
+  pairs_matched side b v (Some n) d m = onces_matched (triples_of side n v (others T side b)) d m
 
   expand_matched : (c : Clause) (d : Build) → Matched d.graph → StepMatched (expand T c d)
   unfolding expand forbid pair

@@ -1,5 +1,5 @@
 -- The ways through the code that tests a question.
-use Rattle.std.specs.Prelude.{◌≡◌, Bool, ◌&&◌, List, [], ◌∷◌, ℕ, zero, suc, ◌+◌, ◌-◌, ◌≤◌, ◌<◌, get_or, ltb, leb}
+use Rattle.std.specs.Prelude.{◌≡◌, Bool, ◌&&◌, List, [], ◌∷◌, ℕ, zero, suc, ◌+◌, ◌-◌, ◌≤◌, ◌<◌, get_or, ltb, leb, Result, Ok, Err}
 use Rattle.std.proofs.Math.Path.{refl, sym, ap}
 use Rattle.std.proofs.Common.{◌∙◌, inl, inr, length-append}
 use Rattle.std.proofs.Math.Bool.{true, false, cond, not}
@@ -29,12 +29,23 @@ use Rattle.graph.specs.Graphs.{Outcome, drawn, refused, graph_of}
 use Rattle.shape.specs.Shaped.{Known}
 use Rattle.shape.specs.Graphed.{graphed}
 use Rattle.cycles.specs.Cycles.{cycle_of}
-use Rattle.whatif.specs.declared.tests.Test.{Test}
-use Rattle.whatif.specs.declared.tests.Test.TheVariants as Q
+use Rattle.whatif.specs.declared.tests.Question.{Question}
+use Rattle.records.specs.declared.Refused.{Refused}
 use Rattle.whatif.specs.Asked.{has_node, nodes_with, asked, known, gone_count, fits_graph, unless_cycle, question_of}
 use Rattle.whatif.specs.Laws.Alike.{number_in, number_out_lem}
+use Rattle.std.specs.Int.{from_bool}
 
 -- ---- what the code answers
+
+-- a refusal with its place; or the chosen package's node and the number of clauses
+abbrev pub Test : Type 0
+Test = Result Question Refused
+
+abbrev pub refusal_at : ℕ → ℕ → Test
+refusal_at k p = Err (record { number = k; place = p })
+
+abbrev pub pass_at : ℕ → ℕ → Test
+pass_at a n = Ok (record { node = a; clause = n })
 
 -- the chosen package's node, or the count of nodes where 4 is given
 unfoldable pub chosen_of : Tables → Graph → ℕ → ℕ → ℕ
@@ -42,15 +53,25 @@ chosen_of T G s r = cond (known T G s r) (number_of G.nodes (N.Solvable s)) (len
 
 abbrev cycle_test : Option ℕ → Test → Test
 cycle_test none x = x
-cycle_test (some n) x = Q.Refused 17 n
+cycle_test (some n) x = refusal_at 17 n
 
 -- 8, then 17, else a and the number of clauses
 unfoldable pub graph_test : Tables → Graph → ℕ → ℕ → Test
-graph_test T G a r = cond (fits_graph G r) (cycle_test (cycle_of G) (Q.Passed a (length T.clauses))) (Q.Refused 8 (length T.clauses))
+graph_test T G a r = cond (fits_graph G r) (cycle_test (cycle_of G) (pass_at a (length T.clauses))) (refusal_at 8 (length T.clauses))
 
 unfoldable pub test_of : Tables → Graph → ℕ → ℕ → Test
 unfolding graph_test
-test_of T G s r = cond (known T G s r) (graph_test T G (number_of G.nodes (N.Solvable s)) r) (Q.Refused 4 0)
+test_of T G s r = cond (known T G s r) (graph_test T G (number_of G.nodes (N.Solvable s)) r) (refusal_at 4 0)
+
+pass_same : (a n b m : ℕ) → pass_at a n ≡ pass_at b m → (a ≡ b) × (n ≡ m)
+pass_same a n b m e =
+    let q : ◌≡◌ {A = Question} (record { node = a; clause = n }) (record { node = b; clause = m }) = cc in
+    (ap (λ (x : Question). x.node) q, ap (λ (x : Question). x.clause) q)
+
+refusal_same : (k p l i : ℕ) → refusal_at k p ≡ refusal_at l i → (k ≡ l) × (p ≡ i)
+refusal_same k p l i e =
+    let q : ◌≡◌ {A = Refused} (record { number = k; place = p }) (record { number = l; place = i }) = cc in
+    (ap (λ (x : Refused). x.number) q, ap (λ (x : Refused). x.place) q)
 
 -- ---- it is what the question gives
 
@@ -72,17 +93,16 @@ pub record Passed (T : Tables) (G : Graph) (s r a n : ℕ) : Type 0 where
 
 module _ (T : Tables) (G : Graph) (s r : ℕ) where
   abbrev cyclic : Option ℕ → Test
-  cyclic o = cycle_test o (Q.Passed (number_of G.nodes (N.Solvable s)) (length T.clauses))
+  cyclic o = cycle_test o (pass_at (number_of G.nodes (N.Solvable s)) (length T.clauses))
 
-  passes_by : (o : Option ℕ) → cycle_of G ≡ o → (a n : ℕ) → cyclic o ≡ Q.Passed a n → known T G s r ≡ true → fits_graph G r ≡ true → Passed T G s r a n
+  passes_by : (o : Option ℕ) → cycle_of G ≡ o → (a n : ℕ) → cyclic o ≡ pass_at a n → known T G s r ≡ true → fits_graph G r ≡ true → Passed T G s r a n
   unfolding question_of
   passes_by none e a n q k f =
       let z = and_both (ltb s (length T.solvables)) (ltb r (length T.reasons)) (has_node G.nodes (N.Solvable s)) k in
-      let x : number_of G.nodes (N.Solvable s) ≡ a = cc in
-      let y : length T.clauses ≡ n = cc in
+      let w = pass_same (number_of G.nodes (N.Solvable s)) (length T.clauses) a n q in
       record {
-        source = sym x;
-        clause = sym y;
+        source = sym w.0;
+        clause = sym w.1;
         solvable = ltb-true s (length T.solvables) z.0;
         reason = ltb-true r (length T.reasons) z.1;
         node = z.2;
@@ -92,30 +112,30 @@ module _ (T : Tables) (G : Graph) (s r : ℕ) where
       }
   passes_by (some c) e a n q k f = clash (cc)
 
-  pub passes : (a n : ℕ) → test_of T G s r ≡ Q.Passed a n → Passed T G s r a n
+  pub passes : (a n : ℕ) → test_of T G s r ≡ pass_at a n → Passed T G s r a n
   unfolding test_of graph_test
   passes a n q =
       split (known T G s r)
       (λ k. split (fits_graph G r)
       (λ f. passes_by (cycle_of G) refl a n (rw (k, f) at q) k f)
-      (λ f. let z : Q.Refused 8 (length T.clauses) ≡ Q.Passed a n = rw (k, f) at q in clash (cc)))
-      (λ k. let z : Q.Refused 4 0 ≡ Q.Passed a n = rw k at q in clash (cc))
+      (λ f. let z : refusal_at 8 (length T.clauses) ≡ pass_at a n = rw (k, f) at q in clash (cc)))
+      (λ k. let z : refusal_at 4 0 ≡ pass_at a n = rw k at q in clash (cc))
 
-  denies_by : (o : Option ℕ) → cycle_of G ≡ o → (k p : ℕ) → cyclic o ≡ Q.Refused k p → known T G s r ≡ true → fits_graph G r ≡ true
+  denies_by : (o : Option ℕ) → cycle_of G ≡ o → (k p : ℕ) → cyclic o ≡ refusal_at k p → known T G s r ≡ true → fits_graph G r ≡ true
       → question_of T G s r ≡ refused k p
   unfolding question_of
   denies_by none e k p q y f = clash (cc)
-  denies_by (some c) e k p q y f = let a : 17 ≡ k = cc in let b : c ≡ p = cc in rw (y, f, e, ← a, ← b)
+  denies_by (some c) e k p q y f = let z = refusal_same 17 c k p q in rw (y, f, e, ← z.0, ← z.1)
 
-  pub denies : (k p : ℕ) → test_of T G s r ≡ Q.Refused k p → question_of T G s r ≡ refused k p
+  pub denies : (k p : ℕ) → test_of T G s r ≡ refusal_at k p → question_of T G s r ≡ refused k p
   unfolding test_of graph_test question_of
   denies k p q =
       split (known T G s r)
       (λ y. split (fits_graph G r)
       (λ f. denies_by (cycle_of G) refl k p (rw (y, f) at q) y f)
-      (λ f. let z : Q.Refused 8 (length T.clauses) ≡ Q.Refused k p = rw (y, f) at q in
-      let a : 8 ≡ k = cc in let b : length T.clauses ≡ p = cc in rw (y, f, ← a, ← b)))
-      (λ y. let z : Q.Refused 4 0 ≡ Q.Refused k p = rw y at q in let a : 4 ≡ k = cc in let b : 0 ≡ p = cc in rw (y, ← a, ← b))
+      (λ f. let z : refusal_at 8 (length T.clauses) ≡ refusal_at k p = rw (y, f) at q in
+      let w = refusal_same 8 (length T.clauses) k p z in rw (y, f, ← w.0, ← w.1)))
+      (λ y. let z : refusal_at 4 0 ≡ refusal_at k p = rw y at q in let w = refusal_same 4 0 k p z in rw (y, ← w.0, ← w.1))
 
 -- ---- unresolved
 
@@ -135,6 +155,11 @@ module _ (g : List ℕ) (s : Size) (S : Stored g s) where
 
   pub gone_not : (u : Bool) → u ≡ true → u ≡ is_unresolved (node_in g 1) → 0 ≡ gone_count (graph_in g s)
   gone_not u t q = rw (← one_is, ← q, t)
+
+  -- both, counted
+  pub gone_counted : (u : Bool) (r : ℕ) → r ≡ from_bool (not u) → u ≡ is_unresolved (node_in g 1) → (r ≡ gone_count (graph_in g s)) × (r ≤ 1)
+  gone_counted true r e q = (e ∙ gone_not true refl q, omega (arith, e))
+  gone_counted false r e q = (e ∙ gone_is false refl q, omega (arith, e))
 
 -- ---- 8
 
@@ -253,16 +278,16 @@ module _ (file ix g : List ℕ) (z : Size) (s r : ℕ) (L : Loaded file ix) (S :
   pub chosen_none : (w : ℕ) (k : Bool) → k ≡ false → k ≡ ltb w (length (tables_of file).reasons) → w ≡ r → z.nodes ≡ chosen_of (tables_of file) (graph_in g z) s r
   chosen_none w k t q e = sym (nodes_count g z S) ∙ chosen_not T v G d s r (ap (λ (n : ℕ). ltb n (length (tables_of file).reasons)) (sym e) ∙ sym q ∙ t)
 
-  pub test_solvable : 65535 < s → Q.Refused 4 0 ≡ test_of (tables_of file) (graph_in g z) s r
+  pub test_solvable : 65535 < s → refusal_at 4 0 ≡ test_of (tables_of file) (graph_in g z) s r
   unfolding test_of
   test_solvable h = rw (wide_solvable T v G d s r h)
 
-  pub test_reason : 65535 < r → Q.Refused 4 0 ≡ test_of (tables_of file) (graph_in g z) s r
+  pub test_reason : 65535 < r → refusal_at 4 0 ≡ test_of (tables_of file) (graph_in g z) s r
   unfolding test_of
   test_reason h = rw (wide_reason T v G d s r h)
 
   module _ (a : ℕ) (q : a ≡ chosen_of (tables_of file) (graph_in g z) s r) where
-    pub test_unknown : z.nodes ≤ a → Q.Refused 4 0 ≡ test_of (tables_of file) (graph_in g z) s r
+    pub test_unknown : z.nodes ≤ a → refusal_at 4 0 ≡ test_of (tables_of file) (graph_in g z) s r
     unfolding test_of
     test_unknown h =
         let l : length (graph_in g z).nodes ≤ chosen_of (tables_of file) (graph_in g z) s r = rw (← q, nodes_count g z S) h in
@@ -278,7 +303,7 @@ module _ (file ix g : List ℕ) (z : Size) (s r : ℕ) (L : Loaded file ix) (S :
 -- ---- 8, 17, or none
 
 module _ (T : Tables) (G : Graph) (a r n : ℕ) (f : Bool) (qf : f ≡ fits_graph G r) (qn : n ≡ length T.clauses) where
-  pub test_full : (p : ℕ) → not f ≡ true → p ≡ n → Q.Refused 8 p ≡ graph_test T G a r
+  pub test_full : (p : ℕ) → not f ≡ true → p ≡ n → refusal_at 8 p ≡ graph_test T G a r
   unfolding graph_test
   test_full p t q = rw (← qf, off f t, q, qn)
     where
@@ -291,18 +316,18 @@ module _ (T : Tables) (G : Graph) (a r n : ℕ) (f : Bool) (qf : f ≡ fits_grap
     on true e = refl
     on false e = clash (cc)
 
-    pub test_cycle : (p : ℕ) → 0 < c → p ≡ c - 1 → Q.Refused 17 p ≡ graph_test T G a r
+    pub test_cycle : (p : ℕ) → 0 < c → p ≡ c - 1 → refusal_at 17 p ≡ graph_test T G a r
     unfolding graph_test
     test_cycle p h q = rw (← qf, on f o) (by (cycle_of G) qc)
       where
-        by : (o : Option ℕ) → c ≡ lowest_of o → Q.Refused 17 p ≡ cycle_test o (Q.Passed a (length T.clauses))
+        by : (o : Option ℕ) → c ≡ lowest_of o → refusal_at 17 p ≡ cycle_test o (pass_at a (length T.clauses))
         by none e = let x : ⊥ = omega arith in absurd x
         by (some m) e = let x : p ≡ m = omega arith in rw x
 
-    pub test_passed : (m : ℕ) → c ≤ 0 → m ≡ n → Q.Passed a m ≡ graph_test T G a r
+    pub test_passed : (m : ℕ) → c ≤ 0 → m ≡ n → pass_at a m ≡ graph_test T G a r
     unfolding graph_test
     test_passed m h q = rw (← qf, on f o) (by (cycle_of G) qc)
       where
-        by : (o : Option ℕ) → c ≡ lowest_of o → Q.Passed a m ≡ cycle_test o (Q.Passed a (length T.clauses))
+        by : (o : Option ℕ) → c ≡ lowest_of o → pass_at a m ≡ cycle_test o (pass_at a (length T.clauses))
         by none e = rw (q, qn)
         by (some m) e = let x : ⊥ = omega arith in absurd x

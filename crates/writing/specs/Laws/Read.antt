@@ -1,5 +1,5 @@
 -- One record more of a reading, by the two ways that it goes, and what it keeps of the tables' sizes.
-use Rattle.std.specs.Prelude.{◌≡◌, refl, List, [], ◌∷◌, ℕ, zero, suc, ◌≤◌, ◌<◌, length}
+use Rattle.std.specs.Prelude.{◌≡◌, Err, Ok, refl, List, [], ◌∷◌, ℕ, zero, suc, ◌≤◌, ◌<◌, length}
 use Rattle.std.proofs.Common.{sym, ap, ◌∙◌, subst, arith, ltb-true}
 use Rattle.std.proofs.Math.Option.{Option, none, some}
 use Rattle.basis.specs.Lists.{snoc}
@@ -7,12 +7,14 @@ use Rattle.basis.specs.Members.{split, clash}
 use Rattle.records.specs.declared.Table.{Table}
 use Rattle.records.specs.declared.Table.TheVariants.{Names, Solvables, VersionSets, Requirements, Candidates, Reasons, Variables, Assigned, Clauses}
 use Rattle.records.specs.declared.Shape.{Shape}
-use Rattle.records.specs.declared.CountStep.TheVariants.{Next, No}
+use Rattle.records.specs.declared.Refusal.{Refusal}
+use Rattle.records.specs.declared.Refusal.TheVariants.{UnknownKind}
+use Rattle.records.specs.Pass.{number_of}
 use Rattle.records.specs.Shapes.{Rec, shape_of, limit}
 use Rattle.records.specs.Tables.{Tables, no_tables, table_of, put}
 use Rattle.records.specs.Read.{good, bad, read_from, refusal_in}
 use Rattle.records.specs.Steps.{Passed, passed, read_unknown, read_next, read_stop}
-use Rattle.records.specs.Agree.{step_of}
+use Rattle.records.specs.Agree.{step_of, refusal_by, refusal_number}
 use Rattle.records.specs.Laws.Step.{step_in}
 use Rattle.index.specs.Steps.{is_in, table_put, its_table, each_table}
 use Rattle.writing.specs.Laws.Ordered.{grown}
@@ -23,24 +25,26 @@ module _ (T : Tables) (r : Rec) where
   unfolding step_in
   step_some s e = rw e
 
-  step_none : shape_of r.kind ≡ none → step_in T r ≡ No 2
+  step_none : shape_of r.kind ≡ none → step_in T r ≡ Err UnknownKind
   unfolding step_in
   step_none e = rw e
 
   -- the record is refused, or goes into its table
   pub by_step : {X : Type 0}
-      → ((n : ℕ) → step_in T r ≡ No n → ((rs : List Rec) (i : ℕ) → read_from (r ∷ rs) i T ≡ bad n i) → X)
-      → ((s : Shape) → shape_of r.kind ≡ some s → Passed T r s → step_in T r ≡ Next s.table
+      → ((k : Refusal) → step_in T r ≡ Err k → ((rs : List Rec) (i : ℕ) → read_from (r ∷ rs) i T ≡ bad (number_of k) i) → X)
+      → ((s : Shape) → shape_of r.kind ≡ some s → Passed T r s → step_in T r ≡ Ok s.table
       → ((rs : List Rec) (i : ℕ) → read_from (r ∷ rs) i T ≡ read_from rs (suc i) (put s.table r T)) → X)
       → X
   by_step {X} f g = go (shape_of r.kind) refl
     where
       known : (s : Shape) → shape_of r.kind ≡ some s → (n : ℕ) → refusal_in T s r ≡ n → X
       known s e zero q = g s e (passed T r s e q) (step_some s e ∙ ap (λ (n : ℕ). step_of n s.table) q) (λ rs i. read_next r rs i T s e q)
-      known s e (suc n) q = f (suc n) (step_some s e ∙ ap (λ (n : ℕ). step_of n s.table) q) (λ rs i. read_stop r rs i T s e n q)
+      known s e (suc n) q =
+          f (refusal_by (suc n)) (step_some s e ∙ ap (λ (n : ℕ). step_of n s.table) q)
+          (λ rs i. read_stop r rs i T s e n q ∙ ap (λ (k : ℕ). bad k i) (refusal_number T s r n q))
 
       go : (o : Option Shape) → shape_of r.kind ≡ o → X
-      go none e = f 2 (step_none e) (λ rs i. read_unknown r rs i T e)
+      go none e = f UnknownKind (step_none e) (λ rs i. read_unknown r rs i T e)
       go (some s) e = known s e (refusal_in T s r) refl
 
 -- a refusal has a number

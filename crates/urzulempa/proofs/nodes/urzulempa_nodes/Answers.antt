@@ -5,4 +5,4 @@ pub fill-requires : goal.fill-requires
 fill-requires c = count_fits _ _ _ _ c.node_words-c.ensures
 
 pub returns : goal.returns
-returns c = exported _ _ _ _ _ c.node_words-c.ensures c.fill.ensures
+returns c = rw c.from.ensures (exported _ _ _ _ _ c.node_words-c.ensures c.fill.ensures)

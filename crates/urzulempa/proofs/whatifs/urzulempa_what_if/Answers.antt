@@ -5,4 +5,4 @@ pub fill-requires : goal.fill-requires
 fill-requires c = asked_fits _ _ _ _ _ _ c.ask_words-c.ensures
 
 pub returns : goal.returns
-returns c = what_if_said _ _ _ _ _ _ _ c.ask_words-c.ensures c.fill.ensures
+returns c = rw c.from.ensures (what_if_said _ _ _ _ _ _ _ c.ask_words-c.ensures c.fill.ensures)

@@ -1,9 +1,0 @@
-use borrow.Author.Rules.{rules}
-use Rattle.basis.specs.Store.{put_out}
-use Rattle.basis.proofs.put16.Statement.{statement}
-use Rattle.basis.proofs.put16.Tie as tie
-
-pub put16_spec : {M : Type 1} → statement M
-put16_spec =
-    tie.close
-    (tie.spec (search rules) (search rules) (search rules) (λ c. search rules) (λ c. search put_out))

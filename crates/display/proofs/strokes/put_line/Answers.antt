@@ -1,0 +1,6 @@
+use Rattle.std.proofs.Common.{rules}
+use Rattle.texts.specs.Laws.Wrote.{behind}
+use Rattle.display.proofs.strokes.put_line.Goals as goal
+
+pub returns-clause-wrote : goal.returns-clause-wrote
+returns-clause-wrote c = search (rules, behind)

@@ -1,0 +1,10 @@
+use Rattle.std.proofs.Common.{arith}
+use Rattle.std.proofs.lemmas.Result.{err_from_is_err_and}
+use Rattle.drawing.specs.Walk.{whole_stop, whole_rest}
+use Rattle.drawing.proofs.draw_from.Goals as goal
+
+pub returns-in_err-q : goal.returns-in_err-q
+returns-in_err-q c = let p = err_from_is_err_and c.from_residual.result c.from_residual.ensures.1 in rw (p.1, p.2) (whole_stop _ _ _ _ _ c.in_err-q.ensures c.requires.fine (λ z. omega arith))
+
+pub returns : goal.returns
+returns c = whole_rest _ _ _ _ _ c.in_ok-q.ensures c.requires.fine _ _ c.draw_rest.ensures

@@ -1,0 +1,6 @@
+use Rattle.std.proofs.Common.{rules}
+use Rattle.texts.specs.Laws.Wrote.{behind}
+use Rattle.lines.proofs.sets.put_set.Goals as goal
+
+pub returns : goal.returns
+returns c = search (rules, behind)

@@ -1,0 +1,7 @@
+-- The laws of each way out.
+use Rattle.std.proofs.Common.{rules}
+use Rattle.store.specs.Table.{reads}
+use Rattle.store.proofs.edge_at.Goals as goal
+
+pub returns : goal.returns
+returns c = search (rules, reads)

@@ -1,7 +1,0 @@
-use borrow.Author.Rules.{rules}
-use Rattle.store.specs.Table.{reads}
-use Rattle.store.proofs.source_there.Statement.{statement}
-use Rattle.store.proofs.source_there.Tie as tie
-
-pub source_there_spec : {M : Type 1} → statement M
-source_there_spec = tie.close (tie.spec (λ c. search rules) (λ c. search rules) (λ c. (search (rules, reads), search rules)))

@@ -1,0 +1,15 @@
+use Rattle.std.proofs.Common.{rules}
+use Rattle.wall.specs.Laws.CaptionSizes.{root_size, its_size, unresolved_size, reason_size}
+use Rattle.wall.proofs.caption_sizes.node_size.Goals as goal
+
+pub returns-in-Root : goal.returns-in-Root
+returns-in-Root c = search (rules, root_size, its_size, unresolved_size, reason_size)
+
+pub returns-in-Solvable : goal.returns-in-Solvable
+returns-in-Solvable c = search (rules, root_size, its_size, unresolved_size, reason_size)
+
+pub returns-in-UnresolvedDependency : goal.returns-in-UnresolvedDependency
+returns-in-UnresolvedDependency c = search (rules, root_size, its_size, unresolved_size, reason_size)
+
+pub returns-in-Excluded : goal.returns-in-Excluded
+returns-in-Excluded c = search (rules, root_size, its_size, unresolved_size, reason_size)
