@@ -14,7 +14,6 @@ use records::Clause;
 use store::{ChainWords, GraphWords, Size};
 
 // Passed, or one of 15 to 17 with its place.
-// Kept: what may not change: `air_of` and the theorems over it (calls/specs) hold every refusal of a file, 1 to 17, in this type.
 #[derive(Clone, Copy)]
 pub enum Profile {
     Passed,

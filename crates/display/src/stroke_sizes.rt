@@ -31,6 +31,7 @@ fn excluded_size(file: &[u8], ix: &Slots, n: u16) -> usize
     8 + a
 }
 
+// Kept: the project's rule: plain captions and quoted texts stand apart (docs/DECISIONS.md, order 14).
 fn node_size(file: &[u8], ix: &Slots, x: ConflictNode) -> usize
     requires { Loaded file.now ix.now }
     ensures { (result ≡ length (quoted (node_text (tables_of file.now) x))) × (result ≤ 97) }

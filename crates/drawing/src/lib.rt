@@ -48,7 +48,7 @@ impl Pen {
 }
 
 // "An answer holds number, place, bytes, units, depth".
-// Kept: the C interface: an answer's five numbers, which the calls hand on to C.
+// Kept: what may not change: `answer_in` and the laws of specs/Pen.antt say what was drawn by these five numbers.
 #[derive(Clone, Copy)]
 pub struct PenAnswer {
     pub number: usize,

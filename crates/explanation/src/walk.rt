@@ -13,7 +13,7 @@ use index::Slots;
 use store::Scratch;
 
 // "An answer holds number, place, bytes, units, depth".
-// Kept: the C interface: the number of an answer, which the calls hand on to C as it is (`result_by`, `told_as`).
+// Kept: what may not change: `result_by`, `told_of` and `Answered` say a walk's answer by these five numbers.
 #[derive(Clone, Copy)]
 pub struct WalkAnswer {
     pub number: u64,

@@ -1,5 +1,4 @@
 // What a clause of the core links in the graph (conflict.rs: `Conflict::graph`), where the graph is all that it touches.
-// Kept: what may not change. `Loaded` ties file and index in each contract, and callers' theorems speak of the two as they are lent.
 #![tactic(auto)]
 
 ghost use Rattle.std.specs.Prelude.{◌≡◌, ◌∷◌, [], ◌<◌, ◌≤◌};

@@ -35,6 +35,7 @@ fn look(g: &GraphWords, s: store::Size, w: &mut [u16; 256], t: usize, e: usize) 
 }
 
 // The targets of the node at place h of the queue that began with node a.
+#[tactic(auto, using(crate::specs::Queue::spread_edge))]
 fn visit(
     g: &GraphWords,
     s: store::Size,

@@ -13,7 +13,7 @@ use index::Slots;
 use store::{ChainWords, GraphWords, PerNode, Size};
 
 // An answer about the node list, and how many entries it fills: none on every refusal.
-// Kept: the C interface: number, place and units are those of the answer that C gets, on a refusal too (`answer_of` of calls/specs).
+// Kept: what may not change: `Listed` and `answer_of` (calls/specs) say a list's answer by these numbers, on a refusal too.
 #[derive(Clone, Copy)]
 pub struct Counted {
     pub number: u64,

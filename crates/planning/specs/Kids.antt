@@ -1,5 +1,5 @@
 -- What a pass along a run finds, and the kids that it writes, in terms of the tables that the code reads.
-use Rattle.std.specs.Prelude.{◌≡◌, refl, Bool, true, false, cond, ◌&&◌, ◌||◌, not, List, [], ◌∷◌, ◌++◌, ℕ, suc, ◌+◌, ◌/◌, ◌%◌, ◌<◌, ◌≤◌, length, get_or, eqb, ltb}
+use Rattle.std.specs.Prelude.{◌≡◌, refl, Option, Some, None, Bool, true, false, cond, ◌&&◌, ◌||◌, not, List, [], ◌∷◌, ◌++◌, ℕ, suc, ◌+◌, ◌/◌, ◌%◌, ◌<◌, ◌≤◌, length, get_or, eqb, ltb}
 use Rattle.std.proofs.Common.{sym, ap, ◌∙◌, arith}
 use borrow.Author.Tests.{lt-ltb, eq-eqb, ne_eqb, not-true, not-false}
 use Rattle.basis.specs.Lists.{any, all}
@@ -64,17 +64,38 @@ unfolding found
 found_more ms o [] m = m
 found_more ms o (t ∷ ts) m = found_more ms (record { many = true; installable = o.installable || marked_in ms t }) ts refl
 
-pub found_any : (ms : List ℕ) (t : ℕ) (ts : List ℕ) (c : Found) → c ≡ found ms (first_found ms t) ts → c.installable ≡ any (marked_in ms) (t ∷ ts)
-found_any ms t ts c e =
+pub any_found : (ms : List ℕ) (t : ℕ) (ts : List ℕ) (c : Found) → c ≡ found ms (first_found ms t) ts → c.installable ≡ any (marked_in ms) (t ∷ ts)
+any_found ms t ts c e =
     ap (λ (f : Found). f.installable) e ∙ found_installable ms (first_found ms t) ts ∙ split (marked_in ms t) (λ m. rw (m, any)) (λ m. rw (m, any))
 
-pub found_many : (ms : List ℕ) (t : ℕ) (ts : List ℕ) (c : Found) → c ≡ found ms (first_found ms t) ts → c.many ≡ ltb 1 (length (t ∷ ts))
+pub many_found : (ms : List ℕ) (t : ℕ) (ts : List ℕ) (c : Found) → c ≡ found ms (first_found ms t) ts → c.many ≡ ltb 1 (length (t ∷ ts))
 unfolding found
-found_many ms t [] c e = ap (λ (f : Found). f.many) e
-found_many ms t (u ∷ ts) c e =
+many_found ms t [] c e = ap (λ (f : Found). f.many) e
+many_found ms t (u ∷ ts) c e =
     ap (λ (f : Found). f.many) e
     ∙ found_more ms (record { many = true; installable = marked_in ms t || marked_in ms u }) ts refl
     ∙ sym (lt-ltb 1 (suc (suc (length ts))) (omega arith))
+
+-- the same from no target on: nothing is found in an empty run, and the first target begins what is found in another
+abbrev pub found_from : List ℕ → List ℕ → Option Found
+found_from ms [] = None
+found_from ms (t ∷ ts) = Some (found ms (first_found ms t) ts)
+
+abbrev pub many_in : Option Found → Bool
+many_in None = false
+many_in (Some c) = c.many
+
+abbrev pub installable_in : Option Found → Bool
+installable_in None = false
+installable_in (Some c) = c.installable
+
+pub found_any : (ms ts : List ℕ) (o : Option Found) → o ≡ found_from ms ts → installable_in o ≡ any (marked_in ms) ts
+found_any ms [] o e = rw e refl
+found_any ms (t ∷ ts) o e = rw e (any_found ms t ts (found ms (first_found ms t) ts) refl)
+
+pub found_many : (ms ts : List ℕ) (o : Option Found) → o ≡ found_from ms ts → many_in o ≡ ltb 1 (length ts)
+found_many ms [] o e = rw e refl
+found_many ms (t ∷ ts) o e = rw e (many_found ms t ts (found ms (first_found ms t) ts) refl)
 
 -- ---- the kids, in the order in which they are popped: those written are `acc`
 

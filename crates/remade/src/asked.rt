@@ -2,9 +2,9 @@
 ghost use Rattle.std.specs.Prelude.{◌≡◌, ◌≤◌};
 ghost use Rattle.remade.specs.Asked.{asked_in, asks_in};
 
-use crate::early::counted;
 use again::sums::sum_entries;
 use again::{Seen, joined, no_call};
+use calls::Answer;
 use lists::asked::ask_words;
 
 // Kept: no plainer: this differs from `early::list` in one call, and a closure that is lent the words needs clauses longer than it saves.
@@ -16,7 +16,7 @@ fn ask(file: &[u8], solvable: u64, reason: u64, n: usize) -> Seen
     let mut words = [11936128518282651045u64; 128];
     let c = ask_words(file, solvable, reason, &mut words, n);
     let s = sum_entries(&words, n);
-    joined(counted(c), s)
+    joined(Answer::from(c), s)
 }
 
 pub fn asked(file: &[u8], solvable: u64, reason: u64, n: usize) -> Seen

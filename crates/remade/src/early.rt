@@ -19,19 +19,6 @@ fn check(file: &[u8]) -> Seen
     joined(urzulempa_check(file), 0)
 }
 
-// Kept: no plainer: both types are of other crates, so that no `From` can stand here.
-pub fn counted(c: Counted) -> Answer
-    ensures { result ≡ answer_of c }
-{
-    Answer {
-        number: c.number,
-        place: c.place,
-        bytes: 0,
-        units: c.units,
-        depth: 0,
-    }
-}
-
 // `urzulempa_nodes` takes a slice of entries, which only a host lends. Below it stands `node_words`, which packs an entry into a word.
 fn list(file: &[u8], n: usize) -> Seen
     requires { n ≤ 128 }
@@ -40,7 +27,7 @@ fn list(file: &[u8], n: usize) -> Seen
     let mut words = [11936128518282651045u64; 128];
     let c = node_words(file, &mut words, n);
     let s = sum_entries(&words, n);
-    joined(counted(c), s)
+    joined(Answer::from(c), s)
 }
 
 // Kept: the new form is no plainer: a test of the limit of this call alone, before its own arrays are made.

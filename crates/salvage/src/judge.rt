@@ -16,6 +16,7 @@ use records::pass::note;
 use records::{Counts, Refusal, Refused, Table};
 
 // "each Learnt in the core"
+#[tactic(auto, using(crate::specs::Laws::Pass::learnt_no, crate::specs::Laws::Pass::learnt_by))]
 fn core_learnt(file: &[u8], i: usize) -> bool
     ensures { result ≡ learnt_pass (at (records_of file.now) i) }
 {

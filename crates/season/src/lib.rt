@@ -173,7 +173,7 @@ pub fn join(report: &mut [u64], second: &[u64]) -> Result<(), Refusal>
     Ok(())
 }
 
-// Kept: what may not change: `share` and the clause of `urzulempa_season_add` speak of its numbers.
+// Kept: what may not change: `share`, by which a season is said, speaks of these numbers.
 // A file's own answer, with the counts of its graph where it has one.
 #[derive(Clone, Copy)]
 pub struct Own {

@@ -22,7 +22,7 @@ pub struct Settings {
     pub edition: u64,
 }
 
-// Kept: the C interface: the number, place and counts that `urzulempa_settings_set` hands out.
+// Kept: what may not change: `change_answer` (calls/specs) and the laws of specs/ say a change by these four numbers.
 // What became of a change: 0 with the bytes and units that were appended, or a refusal with its place and two zeros.
 #[derive(Clone, Copy)]
 pub struct Change {

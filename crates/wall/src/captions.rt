@@ -42,6 +42,7 @@ fn put_excluded(file: &[u8], ix: &Slots, out: &mut [u8], r: u16) -> usize
 }
 
 // A node's text.
+// Kept: the project's rule: plain captions and quoted texts stand apart (docs/DECISIONS.md, order 14).
 pub fn put_node(file: &[u8], ix: &Slots, out: &mut [u8], x: ConflictNode) -> usize
     requires loaded { Loaded file.now ix.now }
     requires x_in_bounds { length (node_caption (tables_of file.now) x) ≤ length out.old }
@@ -55,6 +56,7 @@ pub fn put_node(file: &[u8], ix: &Slots, out: &mut [u8], x: ConflictNode) -> usi
     }
 }
 
+// Kept: the project's rule: plain captions and quoted texts stand apart (docs/DECISIONS.md, order 14).
 fn put_cause(file: &[u8], ix: &Slots, out: &mut [u8], c: ConflictCause) -> usize
     requires loaded { Loaded file.now ix.now }
     requires c_in_bounds { length (edge_caption (tables_of file.now) (ConflictEdge.Conflict c)) ≤ length out.old }
@@ -69,6 +71,7 @@ fn put_cause(file: &[u8], ix: &Slots, out: &mut [u8], c: ConflictCause) -> usize
 }
 
 // What an edge says.
+// Kept: the project's rule: plain captions and quoted texts stand apart (docs/DECISIONS.md, order 14).
 pub fn put_label(file: &[u8], ix: &Slots, out: &mut [u8], w: ConflictEdge) -> usize
     requires loaded { Loaded file.now ix.now }
     requires w_in_bounds { length (edge_caption (tables_of file.now) w) ≤ length out.old }

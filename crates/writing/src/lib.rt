@@ -23,7 +23,7 @@ pub struct Work {
 }
 
 // 0 means done: the file's length, and how many records it has. On a refusal these are 0.
-// Kept: the C interface: its numbers are those of the answer that C gets.
+// Kept: what may not change: `written_answer` (calls/specs) and the laws of specs/ say what was written by these four numbers.
 #[derive(Clone, Copy)]
 pub struct Written {
     pub number: u64,

@@ -159,6 +159,11 @@ no_line : (text : List ℕ) (o : Maybe NodeLine) (p : Label × List ℕ) → o �
 unfolding node_out
 no_line text o p t e = absurd_none p (rw t at e)
 
+node_is : (text : List ℕ) (o : Maybe NodeLine) (p : Label × List ℕ) → node_out text o ≡ some p
+    → (x : NodeLine) × ((o ≡ Some x) × (p ≡ (take x.size (rest x.begin text), rest x.next text)))
+node_is text (Some x) p e = (x, (refl, node_ok text (Some x) x p refl e))
+node_is text None p e = absurd (no_line text None p refl e)
+
 module _ (text : List ℕ) (at i n : ℕ) (list whole : List ℕ) (end : ℕ) (es : List WallEdge) (F : Nodes text at i n list whole end es) where
   pub nodes_list : n ≤ i → list ≡ whole
   unfolding node_spots
@@ -290,6 +295,11 @@ edge_ok text o x p t e =
 no_edge_line : (text : List ℕ) (o : Maybe EdgeLine) (p : WallEdge × List ℕ) → o ≡ None → edge_out text o ≡ some p → ⊥
 unfolding edge_out
 no_edge_line text o p t e = absurd_none p (rw t at e)
+
+edge_is : (text : List ℕ) (o : Maybe EdgeLine) (p : WallEdge × List ℕ) → edge_out text o ≡ some p
+    → (x : EdgeLine) × ((o ≡ Some x) × (p ≡ (record { source = x.source; target = x.target; label = take x.size (rest x.begin text) }, rest x.next text)))
+edge_is text (Some x) p e = (x, (refl, edge_ok text (Some x) x p refl e))
+edge_is text None p e = absurd (no_edge_line text None p refl e)
 
 edge_spots_step : (list m : List ℕ) (at k b s next : ℕ) (e : WallEdge) (es : List WallEdge) (whole : List ℕ)
     → at + length (decimal e.source) + 1 + length (decimal e.target) + 1 ≡ b → length e.label ≡ s → next ≡ at + length (edge_line e)
