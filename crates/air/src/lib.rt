@@ -27,6 +27,7 @@ fn is_lock(c: Clause) -> bool
 }
 
 // Clause i is a Lock and in the core.
+#[tactic(auto, unfolding(crate::specs::Profile::lock_at))]
 fn lock_at(file: &[u8], ix: &Slots, i: usize) -> bool
     requires { Loaded file.now ix.now }
     ensures { result ≡ lock_at (tables_of file.now) i }
@@ -51,6 +52,7 @@ fn first_lock(file: &[u8], ix: &Slots) -> Option<usize>
 }
 
 // 16, then 17.
+#[tactic(auto, using(store::specs::Table::nodes_count))]
 fn graph_profile(g: &GraphWords, s: Size, ls: &ChainWords) -> Profile
     requires { Chains g.now s ls.now }
     ensures { result ≡ graph_profile (graph_in g.now s) }

@@ -36,6 +36,7 @@ pub fn check(file: &[u8]) -> Answer
 
 // The explanation by the reading rules of an edition (order 11): 1 is the Rust's, in 2 every package is reported when first shown.
 // Option 1 indents the top level.
+#[tactic(auto, using(crate::specs::Laws::Says::says_later))]
 pub fn explain(file: &[u8], edition: u64, option: u64, room: &mut [u8]) -> Answer
     ensures { Says edition file.now option room.old room.new result }
 {

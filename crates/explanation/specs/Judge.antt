@@ -27,7 +27,7 @@ flags_fresh = record { is = λ n. ap (λ (x : ℕ). eqb x 1) (sym (at n (dec_lt 
     at n (yes l) = get_or-replicate {A = ℕ} 128 n 0 0 l
     at n (no l) = sym (get_out (replicate {A = ℕ} 128 0) n (let e = length-replicate {A = ℕ} 128 0 in omega arith))
 
-flags_report : (seen rep : List ℕ) (l : ℕ) → l < length seen → Flags seen rep → Flags (set seen l 1) (l ∷ rep)
+pub flags_report : (seen rep : List ℕ) (l : ℕ) → l < length seen → Flags seen rep → Flags (set seen l 1) (l ∷ rep)
 flags_report seen rep l h f =
     record {
       is = λ n. split (eqb n l)

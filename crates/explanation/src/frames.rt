@@ -65,6 +65,7 @@ fn below(p: &Scratch, fr: &Frames, d: usize, n: usize) -> bool
 }
 
 // A later package of a reported group is skipped, and one that would be opened below itself ends the walk (lines 1066 to 1077).
+#[tactic(auto, using(crate::specs::Judge::flags_report), unfolding(plan::specs::Fields::plan_in, crate::specs::Frames::below_in))]
 pub fn judge(p: &Scratch, fr: &Frames, seen: &mut [u8; 128], d: usize, n: usize) -> Verdict
     requires d_bound { d ≤ 2080 }
     requires seen_len { length seen.old ≡ 128 }

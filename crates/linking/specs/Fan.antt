@@ -124,4 +124,24 @@ pub fan_end : (T : Tables) (W : LinkedSoFar) (q i x : ℕ) (g : List ℕ) (s : S
 unfolding fan_all
 fan_end T W q i x g s F h = record { is = rw (candidates_end T x h, fan_all) at F.left; growing = F.growing }
 
+-- `fan_stop`'s equation, as `grind` takes it
+pub fan_cut : (T : Tables) (q i x n : ℕ) (g h : List ℕ) (s : Size) → 0 < x → 2 ≤ n
+    → added_in h (linked_by s n) ≡ add_target (graph_in g s) i (N.Solvable (candidate_at T (x - 1))) (E.Requires q)
+    → fan_all q i (candidates_from T x) (graph_in g s) ≡ short_at (graph_in h (size_of (linked_by s n)))
+unfolding fan_all
+fan_cut T q i x n g h s l b o =
+    let k : add_target (graph_in g s) i (N.Solvable (candidate_at T (x - 1))) (E.Requires q) ≡ full_at (graph_in h (size_of (linked_by s n))) =
+    sym o ∙ ap (added_in h) (linked_stops s (size_of (linked_by s n)) n b refl) in
+    rw (candidates_step T x (candidate_at T (x - 1)) (next_candidate T (x - 1)) l refl refl, fan_all, k)
+
+-- and `fan_next`'s
+pub fan_more : (T : Tables) (q i x n : ℕ) (g h : List ℕ) (s : Size) → 0 < x → n < 2
+    → added_in h (linked_by s n) ≡ add_target (graph_in g s) i (N.Solvable (candidate_at T (x - 1))) (E.Requires q)
+    → fan_all q i (candidates_from T x) (graph_in g s) ≡ fan_all q i (candidates_from T (next_candidate T (x - 1))) (graph_in h (size_of (linked_by s n)))
+unfolding fan_all
+fan_more T q i x n g h s l b o =
+    let k : add_target (graph_in g s) i (N.Solvable (candidate_at T (x - 1))) (E.Requires q) ≡ added_to s.edges (graph_in h (size_of (linked_by s n))) =
+    sym o ∙ ap (added_in h) (linked_goes s (size_of (linked_by s n)) n b refl) in
+    rw (candidates_step T x (candidate_at T (x - 1)) (next_candidate T (x - 1)) l refl refl, fan_all, k)
+
 pub ruleset fannings = (fan_start, fan_next, fan_stop, fan_end)

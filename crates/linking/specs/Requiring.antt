@@ -105,6 +105,13 @@ module _ (T : Tables) (x v : ℕ) (b : Bool) (W : Bool) (i : any_node T (gates_f
   pub gate_miss : (y : ℕ) → b ≡ false → y ≡ next_partner T (x - 1) → any_node T (gates_from T y) ≡ W
   gate_miss y e z = sym (any_miss T (gates_from T x) (gates_from T y) v (gates_step T x v y h p z) b q e) ∙ i
 
+-- `gate_miss`, as `grind` takes it
+pub gate_past : (T : Tables) (x : ℕ) → 0 < x → is_node (party_of T (gate_at T (x - 1))) ≡ false
+    → any_node T (gates_from T x) ≡ any_node T (gates_from T (next_partner T (x - 1)))
+gate_past T x h e =
+    any_miss T (gates_from T x) (gates_from T (next_partner T (x - 1))) (gate_at T (x - 1))
+    (gates_step T x (gate_at T (x - 1)) (next_partner T (x - 1)) h refl refl) (is_node (party_of T (gate_at T (x - 1)))) refl e
+
 pub gate_out : (T : Tables) (x : ℕ) (W : Bool) → any_node T (gates_from T x) ≡ W → x ≤ 0 → false ≡ W
 gate_out T x W i h = any_none T (gates_from T x) (gates_end T x h) ∙ i
 

@@ -69,6 +69,7 @@ pub fn is_party(file: &[u8], ix: &Slots, v: u16) -> bool
 }
 
 // An edge per candidate from the stored value x on, from node `source`.
+#[tactic(auto, using(crate::specs::Fan::fan_cut, crate::specs::Fan::fan_more))]
 fn link_each(
     file: &[u8],
     ix: &Slots,
@@ -184,6 +185,7 @@ fn require_party(
 }
 
 // Some partner of a gate, from the stored value x on, is the root or a solvable.
+#[tactic(auto, using(crate::specs::Requiring::gates_kept, crate::specs::Requiring::gate_past, views::specs::Walks::gates_less))]
 fn gate_kept(file: &[u8], ix: &Slots, x: usize) -> bool
     requires { Loaded file.now ix.now }
     ensures { result ≡ any_node (tables_of file.now) (gates_from (tables_of file.now) x) }

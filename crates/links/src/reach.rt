@@ -92,6 +92,7 @@ fn lowest(w: &[u16; 256], k: usize) -> Option<usize>
 }
 
 // The target of edge i gets a mark if its source has one.
+#[tactic(auto, using(crate::specs::Sweep::passes))]
 fn pass_on(g: &GraphWords, w: &mut [u16; 256], i: usize)
     requires { i < 1024 }
     ensures { w.new ≡ passed_on g.now w.old i }

@@ -66,7 +66,7 @@ pub(crate) fn list_marked(
     }
 }
 
-// The nodes of a graph that is drawn.
+// The nodes of a graph that is drawn; it is labelled only where the list has room.
 fn list_drawn(
     file: &[u8],
     ix: &Slots,
@@ -82,6 +82,9 @@ fn list_drawn(
     ensures { Listed (entered (node_entries (tables_of file.now) (graph_in g.now s))) room words.old result
         words.new }
 {
+    if room < s.nodes {
+        return refusal(10, 0);
+    }
     let mut marks = [0u16; 128];
     labels::label(g, s, ls, &mut marks);
     list_marked(file, ix, g, s, ls, &marks, words, room)

@@ -2,7 +2,7 @@
 // bytes, the whole lines that fit, each cut to the panel's width, and below them whether there is more.
 #![tactic(auto)]
 
-ghost use Rattle.std.specs.Prelude.{◌≡◌, ◌≤◌, min, length, IfSome};
+ghost use Rattle.std.specs.Prelude.{◌≡◌, ◌≢◌, ℕ, ◌<◌, ◌≤◌, min, length, slice_index, IfSome};
 ghost use Rattle.panel_feed.specs.Cut.{starts, over, after, cut_at};
 
 use calls::Answer;
@@ -65,10 +65,28 @@ fn say_line<W: Write>(out: &mut W, line: &[u8]) -> io::Result<()> {
     writeln!(out, ">")
 }
 
+// Where the line at `at` ends, without its line end.
+fn line_end(text: &[u8], at: usize) -> usize
+    requires { at ≤ length text.now }
+    ensures within { (at ≤ result) × (result ≤ length text.now) }
+    ensures before { (k : ℕ) → at ≤ k → k < result → slice_index text.now k ≢ 10 }
+    ensures found { result < length text.now → slice_index text.now result ≡ 10 }
+{
+    for e in at..text.len() {
+        if text[e] == b'\n' {
+            return e;
+        }
+    }
+    text.len()
+}
+
 // Each line without its line end.
 fn say_lines<W: Write>(out: &mut W, text: &[u8]) -> io::Result<()> {
-    for line in text.split_inclusive(|b| *b == b'\n') {
-        say_line(out, line.strip_suffix(b"\n").unwrap_or(line))?;
+    let mut at: usize = 0;
+    while at < text.len() {
+        let e = line_end(text, at);
+        say_line(out, &text[at..e])?;
+        at = e + 1;
     }
     Ok(())
 }

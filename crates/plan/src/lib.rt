@@ -101,6 +101,7 @@ pub fn next_mate(p: &Scratch, n: usize) -> Option<usize>
 }
 
 // The last of a group's members behind its first, where the group has more than six. x1: the second, where there is one.
+#[tactic(auto, using(crate::specs::Laws::Texts::many_is, crate::specs::Laws::Texts::few_is, crate::specs::Fields::mates_none))]
 pub fn last_of_many(p: &Scratch, x1: Option<usize>) -> Option<usize>
     requires { one_more x1 < 256 }
     ensures { (one_more result ≡ last_of_many (mates_from p.now (one_more x1))) × (one_more result < 256) }

@@ -7,5 +7,7 @@ pub fn paste<T: Copy>(d: &mut [T], at: usize, s: &[T], n: usize)
     requires { (at + n ≤ length d.old) × (n ≤ length s.now) }
     ensures { Pasted d.old at s.now n d.new }
 {
-    d[at..at + n].copy_from_slice(&s[..n]);
+    for i in 0..n {
+        d[at + i] = s[i];
+    }
 }

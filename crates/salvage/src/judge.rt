@@ -27,6 +27,7 @@ fn core_learnt(file: &[u8], i: usize) -> bool
 }
 
 // The kind of a clause.
+#[tactic(auto, using(crate::specs::Laws::Pass::kind_by_lem, crate::specs::Laws::Pass::clauses_eq))]
 fn is_clause(kind: u8) -> bool
     ensures { result ≡ clause_kind kind }
 {

@@ -52,6 +52,7 @@ pub fn refusal(n: u64, p: u64) -> Salvaged
 }
 
 // Repairs a file into `room` and lists the replaced records; on a refusal both are as before.
+#[tactic(auto, using(crate::specs::Laws::Lent::long_answer, crate::specs::Laws::Lent::long_room, crate::specs::Laws::Lent::long_list))]
 pub fn salvage(file: &[u8], room: &mut [u8], list: &mut [u16]) -> Salvaged
     ensures value { result ≡ salvage_answer file.now (length room.old) (length list.old) }
     ensures room_after { room.new ≡ salvage_room file.now room.old (length list.old) }

@@ -119,6 +119,7 @@ impl Refusal {
 }
 
 // Whether a record is good.
+#[tactic(auto, unfolding(crate::specs::Settings::judged_record, basis::specs::Guard::guard))]
 fn judge(s: &[u8], reader: u64) -> Result<(), Refusal>
     requires { 4 ≤ length s.now }
     ensures { number_said result ≡ judged_record reader (choice_of s.now) }

@@ -69,6 +69,12 @@ pub below_none : (g : List ℕ) (s : Size) → Growing g s → place_of (put_at 
 unfolding put_at
 below_none g s P = P.stored.some
 
+-- the same, as `grind` takes it
+pub node_none : (g : List ℕ) (s : Size) (x : ConflictNode) (w : ℕ) → Growing g s → NodeWord x w → s.nodes ≤ find_of g s.nodes w → 128 ≤ s.nodes
+    → add_node_in (graph_in g s) x ≡ full_at (graph_in g s)
+unfolding add_node_in
+node_none g s x w P e h l = rw (missed g s x w P.stored e (find_of g s.nodes w) refl h, add_node_in, nodes_count g s P.stored, le-ltb s.nodes 128 l)
+
 pub ruleset adds_node = (add_old, held_old, below_old, add_full, held_none, below_none, add_new, held_new, below_new)
 
 -- ---- an edge behind the others: w is its word, n the entry of the direct table that stands at its place

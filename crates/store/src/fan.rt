@@ -11,6 +11,7 @@ use crate::{
 };
 
 // One more than the number of the node of solvable c, by the direct table; 0 where that has none, or no entry for c.
+#[tactic(auto, using(crate::specs::Laws::Fan::knows))]
 fn known(g: &GraphWords, c: u16) -> u64
     ensures { (result ≡ known_at g.now c) × (result < 256) }
 {

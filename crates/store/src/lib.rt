@@ -320,6 +320,7 @@ fn enter(g: &mut GraphWords, w: u64, n: u64)
 
 // The node's number, a new one where it is not there yet; 128 where there is no room.
 // Kept: tried, and it misses a bar of speed. It is a part of each link, see `fan::link_from`.
+#[tactic(auto, using(crate::specs::Adding::node_none), unfolding(crate::specs::Direct::put_at))]
 fn put_node(g: &mut GraphWords, s: Size, x: ConflictNode) -> usize
     requires { Growing g.old s }
     ensures result_after { added_in g.new (put_at s result) ≡ add_node_in (graph_in g.old s) x }
@@ -365,6 +366,7 @@ pub fn add_node(g: &mut GraphWords, s: Size, x: ConflictNode) -> Result<Put, Ful
     })
 }
 
+#[tactic(auto, using(crate::specs::Adding::adds_edge))]
 fn add_edge(g: &mut GraphWords, s: Size, e: Edge) -> Result<Put, Full>
     requires growing { Growing g.old s }
     requires source_bound { (e.source < 128) × (e.target < s.nodes) }

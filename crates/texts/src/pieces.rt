@@ -164,6 +164,7 @@ fn code_at(levels: &[u64; 65], i: usize, k: usize) -> usize
 
 // The same of eight levels, with 256 for none.
 // Kept: the new form is no plainer: 256 is behind all codes of eight levels, as `byte_in` says, and with one size for both the shifts would be products.
+#[tactic(auto, using(crate::specs::Fours::byte_few, crate::specs::Fours::byte_edge, crate::specs::Fours::byte_eight))]
 fn byte_at(levels: &[u64; 65], i: usize, k: usize) -> usize
     requires { i < 4160 }
     ensures { result ≡ byte_in levels.now i k }

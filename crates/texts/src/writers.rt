@@ -8,7 +8,8 @@ pub fn put(out: &mut [u8], src: &[u8]) -> usize
     ensures value { result ≡ length src.now }
     ensures wrote { Wrote src.now out.old out.new result }
 {
-    let n = src.len();
-    out[..n].copy_from_slice(src);
-    n
+    for i in 0..src.len() {
+        out[i] = src[i];
+    }
+    src.len()
 }

@@ -5,7 +5,6 @@ ghost use Rattle.tgf.specs.Steps.{rest, number_out, node_out, edge_out, hash_out
 
 use crate::parts::{label_at, number_at};
 use crate::{EdgeLine, NodeLine, Part};
-use basis::get;
 
 // The line of node i.
 pub fn node_at(text: &[u8], at: usize, i: usize) -> Option<NodeLine>
@@ -63,11 +62,11 @@ pub fn hash_at(text: &[u8], at: usize) -> bool
     if text.len() < at + 2 {
         return false;
     }
-    let a = get(text, at);
+    let a = text[at];
     if a != 35 {
         return false;
     }
-    let b = get(text, at + 1);
+    let b = text[at + 1];
     if b != 10 {
         return false;
     }

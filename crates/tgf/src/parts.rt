@@ -4,7 +4,6 @@ ghost use Rattle.tgf.specs.Read.{number_on, number_at, label_in, label_at};
 ghost use Rattle.tgf.specs.Steps.{rest, number_out, label_out};
 
 use crate::Part;
-use basis::get;
 
 // The byte at a place, if the text is that long.
 fn byte_at(text: &[u8], at: usize) -> Option<u8>
@@ -15,32 +14,42 @@ fn byte_at(text: &[u8], at: usize) -> Option<u8>
 
 // The space behind the number n, or up to k more digits before it.
 fn number_on(text: &[u8], at: usize, n: usize, k: usize) -> Option<Part>
+    requires at_bound { at ≤ length text.now }
     requires k_bound { k ≤ 2 }
     requires n_bound { n * 10 ^ k < 1000 }
     ensures result_value { number_out text.now result ≡ number_on k n (rest at text.now) }
     ensures in_bounds { IfSome result (λ p. (p.next ≤ length text.now) × (p.next ≤ at + k + 1) × (p.value < 1000)) }
 {
-    let c = byte_at(text, at)?;
-    if c == 32 {
-        return Some(Part {
-            value: n,
-            next: at + 1,
-        });
+    let mut v = n;
+    for i in 0..k {
+        let c = byte_at(text, at + i)?;
+        if c == 32 {
+            return Some(Part {
+                value: v,
+                next: at + i + 1,
+            });
+        }
+        if c < 48 {
+            return None;
+        }
+        if 57 < c {
+            return None;
+        }
+        let w = usize::from(c);
+        v = 10 * v + (w - 48);
     }
-    if k == 0 {
+    let z = byte_at(text, at + k)?;
+    if z != 32 {
         return None;
     }
-    if c < 48 {
-        return None;
-    }
-    if 57 < c {
-        return None;
-    }
-    let w = usize::from(c);
-    number_on(text, at + 1, 10 * n + (w - 48), k - 1)
+    Some(Part {
+        value: v,
+        next: at + k + 1,
+    })
 }
 
 // A number and the space behind it.
+#[tactic(auto, using(crate::proofs::Bytes::number_none, crate::proofs::Bytes::first_low, crate::proofs::Bytes::first_zero))]
 pub fn number_at(text: &[u8], at: usize) -> Option<Part>
     ensures result_value { number_out text.now result ≡ number_at (rest at text.now) }
     ensures in_bounds { IfSome result (λ p. (p.next ≤ length text.now) × (p.next ≤ at + 4) × (p.value < 1000)) }
@@ -60,21 +69,20 @@ pub fn number_at(text: &[u8], at: usize) -> Option<Part>
 }
 
 // A label of 49 bytes at most and the newline behind it.
+#[tactic(auto, using(crate::specs::Laws::Ways::left_start, crate::specs::Laws::Ways::left_next, crate::specs::Laws::Ways::left_out, crate::specs::Laws::Ways::left_end, crate::proofs::Bytes::byte_low, crate::proofs::Bytes::byte_high))]
 fn label_in(text: &[u8], at: usize) -> Option<Part>
     requires { at ≤ length text.now }
     ensures result_value { label_out text.now at result ≡ label_in 49 (rest at text.now) }
     ensures in_bounds { IfSome result (λ p. (p.next ≤ length text.now) × (p.next ≡ at + p.value + 1) × (p.value ≤ 49)) }
 {
-    for n in 0..text.len() - at {
-        let c = get(text, at + n);
+    let end = (text.len() - at).min(49);
+    for n in 0..end {
+        let c = text[at + n];
         if c == 10 {
             return Some(Part {
                 value: n,
                 next: at + n + 1,
             });
-        }
-        if 49 <= n {
-            return None;
         }
         if c < 32 {
             return None;
@@ -83,7 +91,14 @@ fn label_in(text: &[u8], at: usize) -> Option<Part>
             return None;
         }
     }
-    None
+    let z = byte_at(text, at + 49)?;
+    if z != 10 {
+        return None;
+    }
+    Some(Part {
+        value: 49,
+        next: at + 50,
+    })
 }
 
 // A label of a byte or more.

@@ -8,6 +8,7 @@ ghost use Rattle.whatif.specs.Laws.Exclusion.{with_reason, asked_from};
 use store::{ConflictCause, ConflictEdge, ConflictNode, Edge, GraphWords, Size};
 
 // "A reason that already has a node uses it"; a new one stands at the end.
+#[tactic(auto, using(crate::specs::Laws::Exclusion::reason_there, crate::specs::Laws::Exclusion::reason_added, crate::specs::Laws::Exclusion::reason_few, crate::specs::Laws::Exclusion::reason_not_there))]
 fn with_reason(g: &mut GraphWords, s: Size, reason: u16) -> Size
     requires stored { Stored g.old s }
     requires reason_len_bound { length (nodes_with (graph_in g.old s).nodes (Excluded reason)) ≤ 128 }

@@ -12,6 +12,7 @@ ghost use Rattle.whatif.specs.Laws.Again.{leads_up, MarkTurned};
 use store::{ChainWords, GraphWords, PerNode, Size};
 
 // An edge leads from n to a node with a 1.
+#[tactic(auto, using(labels::specs::Passes::going_next, crate::specs::Laws::Again::up_on, crate::specs::Laws::Again::up_here, crate::specs::Laws::Again::up_is))]
 fn leads_up(g: &GraphWords, s: Size, ls: &ChainWords, up: &PerNode, n: usize) -> bool
     requires chains { Chains g.now s ls.now }
     requires n_lt_nodes { n < s.nodes }
@@ -29,6 +30,7 @@ fn leads_up(g: &GraphWords, s: Size, ls: &ChainWords, up: &PerNode, n: usize) ->
     false
 }
 
+#[tactic(auto, using(crate::specs::Laws::Again::touched_own, crate::specs::Laws::Again::touched_on))]
 fn is_touched(g: &GraphWords, s: Size, ls: &ChainWords, up: &PerNode, a: usize, n: usize) -> bool
     requires chains { Chains g.now s ls.now }
     requires n_lt_nodes { n < s.nodes }

@@ -25,9 +25,3 @@ loop-x-preserved c = next _ _ c.in-Some.m _ _ _ (rw c.in-Some.is at c.loop-x.inv
 
 pub loop-x-smaller : goal.loop-x-smaller
 loop-x-smaller c = rw c.in-Some.is (less _ _ c.in-Some.m _ _ _ (rw c.in-Some.is at c.loop-x.invariant) c.next_mate-x.ensures.0)
-
-pub returns-then-c-gt5 : goal.returns-then-c-gt5
-returns-then-c-gt5 c = (passing_many _ _ 0 _ _ (rw c.in_default.is at c.loop-x.invariant) (omega arith) c.if-c-gt5.true, c.loop-x.invariant.low)
-
-pub returns-else-c-gt5 : goal.returns-else-c-gt5
-returns-else-c-gt5 c = (passing_few _ _ 0 _ (one_more c.loop-x.l) (rw c.in_default.is at c.loop-x.invariant) (omega arith) c.if-c-gt5.false, omega arith)

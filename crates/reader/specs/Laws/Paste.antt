@@ -4,14 +4,14 @@ use Rattle.std.proofs.Common.{sym, ◌∙◌, arith, add-one}
 use Rattle.std.proofs.Math.Seq.{paste-zero, paste-suc}
 use Rattle.reader.specs.Pieces.{Pasted}
 
-pub pasted_none : (d : List ℕ) (at : ℕ) (s : List ℕ) → Pasted d at s 0 d
+pub pasted_none : {A : Type 0} (d : List A) (at : ℕ) (s : List A) → Pasted d at s 0 d
 pasted_none d at s = record { is = paste-zero d at s }
 
-pub pasted_more : (d : List ℕ) (at : ℕ) (s : List ℕ) (i n : ℕ) (o : List ℕ)
-    → Pasted d at s i o → i < n → at + n ≤ length d → n ≤ length s → Pasted d at s (i + 1) (set o (at + i) (get_or s i 0))
-pasted_more d at s i n o p h k l = record { is = rw (p.is, add-one) (paste-suc d at s i 0 (omega arith) (omega arith)) }
+pub pasted_more : {A : Type 0} (d : List A) (at : ℕ) (s : List A) (i n : ℕ) (o : List A) (x : A)
+    → Pasted d at s i o → i < n → at + n ≤ length d → n ≤ length s → Pasted d at s (i + 1) (set o (at + i) (get_or s i x))
+pasted_more d at s i n o x p h k l = record { is = rw (p.is, add-one) (paste-suc d at s i x (omega arith) (omega arith)) }
 
-pub pasted_all : (d : List ℕ) (at : ℕ) (s : List ℕ) (i n : ℕ) (o : List ℕ) → Pasted d at s i o → i ≤ n → n ≤ i → Pasted d at s n o
+pub pasted_all : {A : Type 0} (d : List A) (at : ℕ) (s : List A) (i n : ℕ) (o : List A) → Pasted d at s i o → i ≤ n → n ≤ i → Pasted d at s n o
 pasted_all d at s i n o p h k = let e : i ≡ n = omega arith in rw e at p
 
 -- what is left is determined

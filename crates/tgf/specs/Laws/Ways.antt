@@ -95,6 +95,10 @@ module _ (text : List ℕ) (at k n : ℕ) where
     unfolding number_out
     on_high l g h q e = rw (cell text at c q h) (sym (on_other_lem k n c (rest (at + 1) text) e ∙ off (is_digit c) none _ (digit_high c l g)))
 
+    pub on_next : (w : ℕ) → 48 ≤ c → c ≤ 57 → w ≡ c → at < length text → c ≡ get_or text at 0 → (c ≡ 32 → ⊥)
+        → number_on k (10 * n + (w - 48)) (rest (at + 1) text) ≡ number_on (suc k) n (rest at text)
+    on_next w l g y h q e = rw (y, cell text at c q h) (sym (on_other_lem k n c (rest (at + 1) text) e ∙ on (is_digit c) none _ (digit_yes c l g)))
+
     pub on_digit : (w : ℕ) (r : Maybe Part) → 48 ≤ c → c ≤ 57 → w ≡ c → at < length text → c ≡ get_or text at 0 → (c ≡ 32 → ⊥)
         → number_out text r ≡ number_on k (10 * n + (w - 48)) (rest (at + 1) text)
         → number_out text r ≡ number_on (suc k) n (rest at text)

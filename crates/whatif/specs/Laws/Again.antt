@@ -1,8 +1,8 @@
 -- The ways through the code of `relabel`.
-use Rattle.std.specs.Prelude.{◌≡◌, Bool, true, false, ◌||◌, ℕ, zero, suc, ◌+◌, ◌-◌, ◌<◌, ◌≤◌, take, drop, set, replicate, eqb}
+use Rattle.std.specs.Prelude.{◌≡◌, Bool, true, false, ℕ, ◌+◌, ◌-◌, ◌<◌, ◌≤◌, take, drop, set, replicate, eqb}
 use Rattle.std.proofs.Math.Path.{refl, sym, ap}
-use Rattle.std.proofs.Common.{◌∙◌, arith, drop_of_length-le, drop-cons, length-take-le}
-use mathlib.Core.List.{List, [], ◌∷◌, ◌++◌, map, reverse, reverse-cons}
+use Rattle.std.proofs.Common.{◌∙◌, arith, drop_of_length-le, drop-cons}
+use mathlib.Core.List.{List, [], ◌∷◌, ◌++◌, reverse, reverse-cons}
 use Rattle.std.proofs.Math.Numerals.{add-one}
 use Rattle.std.proofs.Math.ListN.{length, get_or}
 use Rattle.std.proofs.Math.Seq.{get_or-take}
@@ -55,13 +55,23 @@ up_next g ls up n e Z t u r i w p d qu qt qr =
     let z : get_or up (edge_in g (e - 1)).target 0 ≡ u = ap (λ (k : ℕ). get_or up k 0) (sym qt) ∙ sym qu in
     sym (sym i ∙ rw (out_cons g w.size ls n e r w.on p qr, z, ne_eqb u 1 d, any))
 
+pub up_on : (g ls up : List ℕ) (n e : ℕ) → Going g ls n e → 0 < e → (get_or up (edge_in g (e - 1)).target 0 ≡ 1 → ⊥)
+    → up_left g up n (next_out ls (e - 1)) ≡ up_left g up n e
+up_on g ls up n e w p d = up_next g ls up n e (up_left g up n e) (edge_in g (e - 1)).target _ (next_out ls (e - 1)) refl w p d refl refl refl
+
+-- f is where the chain begins
+pub up_here : (g ls up : List ℕ) (n e f : ℕ) → f ≡ first_out ls n → Going g ls n e → 0 < e → get_or up (edge_in g (e - 1)).target 0 ≡ 1
+    → up_left g up n e ≡ true
+unfolding up_left
+up_here g ls up n e f q w p d = rw (out_cons g w.size ls n e (next_out ls (e - 1)) w.on p refl, d, any)
+
 module _ (g : List ℕ) (s : Size) (ls up : List ℕ) (n f e : ℕ) (i : up_left g up n e ≡ up_left g up n f) (c : Chains g s ls) (h : n < s.nodes) (qf : f
     ≡ first_out ls n) where
+  pub up_is : up_left g up n e ≡ true → true ≡ leads_up (graph_in g s) up n
+  up_is w = sym w ∙ (i ∙ up_whole g s ls up n f c h qf)
+
   pub up_hit : (t u : ℕ) → u ≡ 1 → u ≡ get_or up t 0 → t ≡ (edge_in g (e - 1)).target → Going g ls n e → 0 < e → true ≡ leads_up (graph_in g s) up n
-  unfolding up_left
-  up_hit t u d qu qt w p =
-      let z : get_or up (edge_in g (e - 1)).target 0 ≡ u = ap (λ (k : ℕ). get_or up k 0) (sym qt) ∙ sym qu in
-      (rw (out_cons g w.size ls n e (next_out ls (e - 1)) w.on p refl, z, eq-eqb u 1 d, any) at i) ∙ up_whole g s ls up n f c h qf
+  up_hit t u d qu qt w p = up_is (up_here g ls up n e f qf w p (ap (λ (k : ℕ). get_or up k 0) (sym qt) ∙ (sym qu ∙ d)))
 
   pub up_end : e ≤ 0 → false ≡ leads_up (graph_in g s) up n
   unfolding up_left

@@ -1,24 +1,22 @@
 -- The ways through the code that adds the exclusion.
-use Rattle.std.specs.Prelude.{◌≡◌, refl, Bool, true, false, cond, List, [], ◌∷◌, ℕ, ◌+◌, ◌≤◌, ◌<◌}
+use Rattle.std.specs.Prelude.{◌≡◌, refl, true, false, List, [], ◌∷◌, ℕ, ◌+◌, ◌≤◌, ◌<◌}
 use Rattle.std.proofs.Common.{sym, ◌∙◌, length-append}
 use Rattle.std.proofs.Math.Path.{ap}
 use native.Mathlib.Omega.{arith}
 use Rattle.std.proofs.Math.ListN.{length}
-use Rattle.basis.specs.Lists.{any, snoc}
-use Rattle.basis.specs.Members.{In, split, no_both}
-use Rattle.store.specs.declared.ConflictNode.{ConflictNode}
+use Rattle.basis.specs.Lists.{snoc}
+use Rattle.basis.specs.Members.{split}
 use Rattle.store.specs.declared.ConflictNode.TheVariants as N
 use Rattle.store.specs.declared.ConflictCause.TheVariants as C
 use Rattle.store.specs.declared.ConflictEdge.TheVariants as W
-use Rattle.store.specs.declared.Edge.{Edge}
 use Rattle.store.specs.declared.Size.{Size}
 use Rattle.store.specs.Graph.{Graph, handing, with_edge}
 use Rattle.store.specs.Graph as G
 use Rattle.store.specs.Numbers.{number_of}
 use Rattle.store.specs.Table.{graph_in, Stored, taken, taken_graph, nodes_count, edges_count}
-use Rattle.whatif.specs.Asked.{has_node, nodes_with, with_first, new_edge, asked}
+use Rattle.whatif.specs.Asked.{has_node, nodes_with, with_first, asked}
 use Rattle.whatif.specs.Laws.Alike.{number_in, number_out_lem}
-use Rattle.whatif.specs.Laws.Asked.{Kept, kept}
+use Rattle.whatif.specs.Laws.Asked.{kept}
 use Rattle.whatif.specs.Laws.Tests.{is_in_lem, not_in}
 
 -- the graph with the excluded node of reason r, which the clause at hand adds first where there is none
@@ -83,6 +81,11 @@ module _ (g : List ℕ) (s : Size) (r b : ℕ) (S : Stored g s) (q : b ≡ numbe
 
   pub reason_small : length (nodes_with (graph_in g s).nodes (N.Excluded r)) ≤ 128 → b < 128
   reason_small m = omega (arith, inside, q)
+
+-- the reason's node is there already, by its number
+pub reason_there : (g : List ℕ) (s : Size) (r : ℕ) → Stored g s → number_of (graph_in g s).nodes (N.Excluded r) < s.nodes
+    → with_reason (graph_in g s) r ≡ graph_in g s
+reason_there g s r S h = sym (reason_old g s r (number_of (graph_in g s).nodes (N.Excluded r)) S refl h)
 
 -- ---- the clause at hand
 
